@@ -1,0 +1,17 @@
+pub mod Lists
+pub mod Numbers
+pub mod Answers
+pub mod OpCode
+pub mod PushKind
+pub mod Tree
+pub mod Read
+pub mod Strings
+pub mod Payload
+pub mod Write
+pub mod Judge
+pub mod Cut
+pub mod Pack
+pub mod Step
+pub mod Sums
+pub mod Lengths
+pub mod Order

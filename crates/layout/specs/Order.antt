@@ -1,0 +1,134 @@
+-- The order of the answers, one allowed outcome for each input, and the value of an answer read back from its eight bytes.
+-- Assumes nothing.
+use mathlib.Core.Path.{_≡_, refl, sym, ap, ap₂, _∙_}
+use Prim.Native.Nat.{ℕ, _+_, _-_, _*_, _/_, _%_, _≤_, _<_}
+use native.Mathlib.Omega.{arith}
+use mathlib.Core.Bool.{Bool, true, false}
+use mathlib.Core.Option.{Option, none, some}
+use mathlib.Core.List.{List, [], _∷_, _++_}
+use lib.ListN.{length, getD}
+use lib.IntN.{ℤ, pos, negsuc}
+use lib.Dec.{leb, ltb}
+use borrow.Author.Tests.{le-leb, lt-leb, lt-ltb, le-ltb}
+use Rattle.layout.specs.Lists.{pick}
+use Rattle.layout.specs.Numbers.{le16, le32, le64, bits64, i64Bytes, u64At}
+use Rattle.layout.specs.Answers.{Refusal, ReadingFault, NoRoom, Answer, Done, Refused, Told, number, value, lengthOf, valueBytes, Fault}
+use Rattle.layout.specs.Tree.{Actions, ActionsOf}
+use Rattle.layout.specs.Read.{Text, edition1, deepest, Place, Read, got, bad, readMain}
+use Rattle.layout.specs.Strings.{mapBody}
+use Rattle.layout.specs.Write.{events, blockBytes, blockSize}
+use Rattle.layout.specs.Judge.{tooLong, tooFar, orElse, judge}
+use Rattle.layout.specs.Cut.{Cut, main, uncut, cut}
+use Rattle.layout.specs.Pack.{unless, ifRoom, packTree, spelling, packRead, packCut, pack, output, Outcome}
+
+-- ---- 1, 2; then 3 to 7; then 8 and 9; then 10; then 11
+
+-- 1 and 2 come first, whatever the room
+pub uncut-first : (s : List ℕ) (room : ℕ) (r : Refusal) → cut s ≡ uncut r → pack s room ≡ Refused r
+unfolding pack packCut
+uncut-first s room r e = ap (λ c. packCut c room) e
+
+-- the tree that a main body reads as, its strings resolved
+pub record ReadsAs (s : List ℕ) (t : Actions) : Type 0 where
+  pub start : ℕ
+  pub bytes : List ℕ
+  pub read : ActionsOf Text ℕ
+  pub next : Place
+  pub is-cut : cut s ≡ main start bytes
+  pub is-read : readMain edition1 bytes deepest ≡ got read next
+  pub is-tree : mapBody spelling read ≡ t
+
+-- then what reading meets, whatever the room
+pub fault-next : (s : List ℕ) (room start : ℕ) (b : List ℕ) (f : Fault) (p : Place) → cut s ≡ main start b → readMain edition1 b deepest ≡ bad f p
+    → pack s room ≡ Refused (ReadingFault f (start + p .at))
+unfolding pack packCut packRead
+fault-next s room start b f p c e = ap (λ x. packCut x room) c ∙ ap (λ x. packRead start x room) e
+
+-- and a sheet that reads whole is answered by its tree alone
+pub tree-next : (s : List ℕ) (room : ℕ) (t : Actions) → ReadsAs s t → pack s room ≡ packTree t room
+unfolding pack packCut packRead
+tree-next s room t h = ap (λ x. packCut x room) (h .is-cut) ∙ ap (λ x. packRead (h .start) x room) (h .is-read) ∙ ap (λ x. packTree x room) (h .is-tree)
+
+module _ (t : Actions) (room : ℕ) where
+  -- 8 and 9 come before 10 and 11
+  pub long-first : (r : Refusal) → tooLong (events t) ≡ some r → packTree t room ≡ Refused r
+  unfolding packTree unless judge orElse
+  long-first r e = rw e
+
+  -- 10 comes before 11
+  pub far-next : (r : Refusal) → tooLong (events t) ≡ none → tooFar (events t) (events t) ≡ some r → packTree t room ≡ Refused r
+  unfolding packTree unless judge orElse
+  far-next r e f = rw (e, f)
+
+  -- 11 with the length needed, only where nothing else is wrong
+  pub room-last : judge t ≡ none → room < blockSize t → packTree t room ≡ Refused (NoRoom (blockSize t))
+  unfolding packTree unless ifRoom
+  room-last e h = rw (e, lt-leb (blockSize t) room h)
+
+  pub then-done : judge t ≡ none → blockSize t ≤ room → packTree t room ≡ Done (blockBytes t)
+  unfolding packTree unless ifRoom
+  then-done e h = rw (e, le-leb (blockSize t) room h)
+
+-- ---- any two outcomes allowed for one input are equal
+
+pub same-told : {A : Type 0} {done : A → ℤ} {a : Answer A} {n n′ : ℕ} {v v′ : ℤ} → Told done a n v → Told done a n′ v′ → (n ≡ n′) × (v ≡ v′)
+same-told h h′ = (h .is-number ∙ sym (h′ .is-number), h .is-value ∙ sym (h′ .is-value))
+
+pub same-outcome : {s o : List ℕ} {n n′ : ℕ} {v v′ : ℤ} {after after′ : List ℕ} → Outcome s o n v after → Outcome s o n′ v′ after′
+    → (n ≡ n′) × (v ≡ v′) × (after ≡ after′)
+same-outcome h h′ =
+    let t = same-told (h .told) (h′ .told) in
+    (t .0, t .1, h .holds ∙ sym (h′ .holds))
+
+-- ---- eight bytes say the value
+
+-- an i64 holds it
+pub data IsI64 : ℤ → Type 0 where
+  zeroUp : {n : ℕ} → n < 9223372036854775808 → IsI64 (pos n)
+  below : {n : ℕ} → n < 9223372036854775808 → IsI64 (negsuc n)
+
+-- the signed number that 64 bits stand for
+unfoldable pub signed64 : ℕ → ℤ
+signed64 w = pick (ltb w 9223372036854775808) (pos w) (negsuc (18446744073709551615 - w))
+
+two-back : (n : ℕ) → n < 65536 → n % 256 + 256 * (n / 256 % 256) ≡ n
+two-back n h = omega arith
+
+four-back : (n : ℕ) → n < 4294967296 → n % 65536 + 65536 * (n / 65536 % 65536) ≡ n
+four-back n h = omega arith
+
+eight-back : (n : ℕ) → n < 18446744073709551616 → n % 4294967296 + 4294967296 * (n / 4294967296 % 4294967296) ≡ n
+eight-back n h = omega arith
+
+le32-back : (n : ℕ) → n < 4294967296
+    → n % 65536 % 256 + 256 * (n % 65536 / 256 % 256) + 65536 * (n / 65536 % 65536 % 256 + 256 * (n / 65536 % 65536 / 256 % 256)) ≡ n
+le32-back n h = rw (two-back (n % 65536) (omega arith), two-back (n / 65536 % 65536) (omega arith)) (four-back n h)
+
+-- the eight bytes hold the 64 bits
+le64-back : (n : ℕ) → n < 18446744073709551616 → u64At (le64 n) 0 ≡ n
+unfolding le64 le32 le16
+le64-back n h =
+    let lo : n % 4294967296 < 4294967296 = omega arith in
+    let hi : n / 4294967296 % 4294967296 < 4294967296 = omega arith in
+    rw (le32-back (n % 4294967296) lo, le32-back (n / 4294967296 % 4294967296) hi) (eight-back n h)
+
+bits-small : (z : ℤ) → bits64 z < 18446744073709551616
+unfolding bits64
+bits-small (pos n) = omega arith
+bits-small (negsuc n) = omega arith
+
+bits-back : (z : ℤ) → IsI64 z → signed64 (bits64 z) ≡ z
+unfolding bits64 signed64 pick
+bits-back (pos n) (zeroUp h) =
+    let e : n % 18446744073709551616 ≡ n = omega arith in
+    rw (e, lt-ltb n 9223372036854775808 h)
+bits-back (negsuc n) (below h) =
+    let e : n % 18446744073709551616 ≡ n = omega arith in
+    let l : 9223372036854775808 ≤ 18446744073709551615 - n = omega arith in
+    let f : 18446744073709551615 - (18446744073709551615 - n) ≡ n = omega arith in
+    rw (e, le-ltb (18446744073709551615 - n) 9223372036854775808 l, f)
+
+-- little-endian, in two's complement: what an i64 can hold is read back from the bytes
+pub value-back : (z : ℤ) → IsI64 z → signed64 (u64At (i64Bytes z) 0) ≡ z
+unfolding i64Bytes
+value-back z h = ap signed64 (le64-back (bits64 z) (bits-small z)) ∙ bits-back z h

@@ -1,0 +1,62 @@
+-- The packer: from a sheet and the room in the output to an answer and what the output then holds. "The order is 1, 2;
+-- then 3 to 7 ..; then 8 and 9 ..; then 10 ..; then 11". Assumes nothing.
+use mathlib.Core.Path.{_≡_}
+use Prim.Native.Nat.{ℕ, _+_}
+use mathlib.Core.Bool.{Bool, true, false}
+use mathlib.Core.Option.{Option, none, some}
+use mathlib.Core.List.{List, _++_}
+use lib.ListN.{length, drop}
+use lib.IntN.{ℤ}
+use lib.Dec.{leb}
+use Rattle.layout.specs.Answers.{Fault, Refusal, ReadingFault, NoRoom, Answer, Done, Refused, Told, lengthOf}
+use Rattle.layout.specs.Tree.{Actions, ActionsOf}
+use Rattle.layout.specs.Read.{Text, plain, edition1, deepest, Place, Read, got, bad, readMain}
+use Rattle.layout.specs.Strings.{mapBody}
+use Rattle.layout.specs.Write.{blockBytes, blockSize}
+use Rattle.layout.specs.Judge.{judge}
+use Rattle.layout.specs.Cut.{Cut, main, uncut, cut}
+
+-- ---- a tree that was read
+
+unfoldable pub unless : {A : Type 0} → Option Refusal → Answer A → Answer A
+unless (some r) a = Refused r
+unless none a = a
+
+-- NoRoom: "length needed, when more than the output has"
+unfoldable pub ifRoom : Bool → List ℕ → ℕ → Answer (List ℕ)
+ifRoom true block needed = Done block
+ifRoom false block needed = Refused (NoRoom needed)
+
+unfoldable pub packTree : Actions → ℕ → Answer (List ℕ)
+packTree t room = unless (judge t) (ifRoom (leb (blockSize t) room) (blockBytes t) (blockSize t))
+
+-- ---- a sheet
+
+-- the bytes of a string
+unfoldable pub spelling : Text → List ℕ
+spelling (plain s) = s
+
+-- "A place counts from the input's byte 0": the main body starts at `start`
+unfoldable pub packRead : ℕ → Read (ActionsOf Text ℕ) → ℕ → Answer (List ℕ)
+packRead start (got t p) room = packTree (mapBody spelling t) room
+packRead start (bad f p) room = Refused (ReadingFault f (start + p .at))
+
+unfoldable pub packCut : Cut → ℕ → Answer (List ℕ)
+packCut (main start b) room = packRead start (readMain edition1 b deepest) room
+packCut (uncut r) room = Refused r
+
+-- the whole: the block, or the refusal
+unfoldable pub pack : List ℕ → ℕ → Answer (List ℕ)
+pack s room = packCut (cut s) room
+
+-- ---- the output
+
+-- "Bytes of the output past a Done length keep their values; on any other answer all do"
+unfoldable pub output : Answer (List ℕ) → List ℕ → List ℕ
+output (Done q) o = q ++ drop (length q) o
+output (Refused r) o = o
+
+-- what a call may leave, given a sheet s and an output that held o: number, value, and what the output holds afterwards
+pub record Outcome (s o : List ℕ) (n : ℕ) (v : ℤ) (after : List ℕ) : Type 0 where
+  pub told : Told lengthOf (pack s (length o)) n v
+  pub holds : after ≡ output (pack s (length o)) o

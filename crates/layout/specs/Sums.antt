@@ -1,0 +1,77 @@
+-- The sums worked by hand, P1 to P12: each sheet, without note, and the block that it packs to. Assumes nothing.
+use mathlib.Core.Path.{_≡_, refl}
+use Prim.Native.Nat.{ℕ}
+use mathlib.Core.List.{List, [], _∷_, _++_}
+use lib.ListN.{length}
+use Rattle.layout.specs.Lists.{each, pick, firstWith}
+use Rattle.layout.specs.Numbers.{le16, le32, bit}
+use Rattle.layout.specs.Answers.{Answer, Done}
+use Rattle.layout.specs.OpCode.{smallByte, byte, smallOpCodes, opcodes, opcodeOf}
+use Rattle.layout.specs.PushKind.{kindByte, pushKinds, kindOf}
+use Rattle.layout.specs.Read.{edition1, ifWhole, ifWithin, tested, repeat, firstZero, ifNoZero, ifNothingLeft, readU8, readU16, readU32, readU64, readBytes, readFlag, readSpelling, readCounted, hasCatch, hasFinally, hasRegister, isShape, readString, readValueOf, readValueIf, readValue, readParam, readLabel, readEntries, readCatchTarget, readCatch, readFinally, readTry, readFields, readFieldsIf, readAction, readActions, readBodyWith, readBody, readMain}
+use Rattle.layout.specs.Strings.{mapValue, mapParam, mapFlat, mapOwner, mapTarget, mapAction}
+use Rattle.layout.specs.Payload.{zeroEnded, stringsBytes, constantBytes, doubleBytes, pushBytes, pushesBytes, opcode, gotoFrame2Bytes, getUrl2Bits, payload, ownerOpCode, paramsBytes, ownerFields, ownerPayload, branchOpCode, catchShape, finallyShape, catchName, tryPayload, headed, framed}
+use Rattle.layout.specs.Write.{moved, eventIf, payloadTest, bodyTest, labelsAt, events, later, recordIf, lookup, distanceBits, branchBits, blockBytes, blockSize, size, trace, bytes}
+use Rattle.layout.specs.Judge.{tooLong, distance, isNear, farUnless, judged, orElse, tooFar, judge}
+use Rattle.layout.specs.Cut.{trailerDistance, isMarked, cutIf, cutAt, cutIfTrailer, cutIfShort, cut}
+use Rattle.layout.specs.Pack.{unless, ifRoom, packTree, spelling, packRead, packCut, pack, output}
+
+-- a main body, and the block
+pub data Sum : Type 0 where
+  sum : (main block : List ℕ) → Sum
+
+-- the sheet without note that has this main body
+unfoldable pub sheetOf : List ℕ → List ℕ
+sheetOf main = main ++ (le32 (length main) ++ (0x01 ∷ 0x00 ∷ 0x41 ∷ 0x31 ∷ []))
+
+unfoldable pub byHand : List Sum
+byHand =
+    -- P1: the empty list
+    sum (0x00 ∷ 0x00 ∷ 0x00 ∷ 0x00 ∷ [])
+    (0x00 ∷ [])
+    -- P2: Call
+    ∷ sum (0x00 ∷ 0x00 ∷ 0x01 ∷ 0x00 ∷ 0x9E ∷ [])
+    (0x9E ∷ 0x00 ∷ 0x00 ∷ 0x00 ∷ [])
+    -- P3: Push constant 255
+    ∷ sum (0x00 ∷ 0x00 ∷ 0x01 ∷ 0x00 ∷ 0x96 ∷ 0x01 ∷ 0x00 ∷ 0x08 ∷ 0xFF ∷ 0x00 ∷ [])
+    (0x96 ∷ 0x02 ∷ 0x00 ∷ 0x08 ∷ 0xFF ∷ 0x00 ∷ [])
+    -- P4: Push constant 256
+    ∷ sum (0x00 ∷ 0x00 ∷ 0x01 ∷ 0x00 ∷ 0x96 ∷ 0x01 ∷ 0x00 ∷ 0x08 ∷ 0x00 ∷ 0x01 ∷ [])
+    (0x96 ∷ 0x03 ∷ 0x00 ∷ 0x09 ∷ 0x00 ∷ 0x01 ∷ 0x00 ∷ [])
+    -- P5: Push 1.0
+    ∷ sum (0x00 ∷ 0x00 ∷ 0x01 ∷ 0x00 ∷ 0x96 ∷ 0x01 ∷ 0x00 ∷ 0x06 ∷ 0x00 ∷ 0x00 ∷ 0x00 ∷ 0x00 ∷ 0x00 ∷ 0x00 ∷ 0xF0 ∷ 0x3F ∷ [])
+    (0x96 ∷ 0x09 ∷ 0x00 ∷ 0x06 ∷ 0x00 ∷ 0x00 ∷ 0xF0 ∷ 0x3F ∷ 0x00 ∷ 0x00 ∷ 0x00 ∷ 0x00 ∷ 0x00 ∷ [])
+    -- P6: Jump 0, label 0 at 0
+    ∷ sum (0x01 ∷ 0x00 ∷ 0x00 ∷ 0x00 ∷ 0x00 ∷ 0x00 ∷ 0x01 ∷ 0x00 ∷ 0x99 ∷ 0x00 ∷ 0x00 ∷ [])
+    (0x99 ∷ 0x02 ∷ 0x00 ∷ 0xFB ∷ 0xFF ∷ 0x00 ∷ [])
+    -- P7: Jump 0, label 0 at 2, past the count
+    ∷ sum (0x01 ∷ 0x00 ∷ 0x00 ∷ 0x00 ∷ 0x02 ∷ 0x00 ∷ 0x01 ∷ 0x00 ∷ 0x99 ∷ 0x00 ∷ 0x00 ∷ [])
+    (0x99 ∷ 0x02 ∷ 0x00 ∷ 0x00 ∷ 0x00 ∷ 0x00 ∷ [])
+    -- P8: With of Pop
+    ∷ sum (0x00 ∷ 0x00 ∷ 0x01 ∷ 0x00 ∷ 0x94 ∷ 0x00 ∷ 0x00 ∷ 0x01 ∷ 0x00 ∷ 0x17 ∷ [])
+    (0x94 ∷ 0x02 ∷ 0x00 ∷ 0x01 ∷ 0x00 ∷ 0x17 ∷ 0x00 ∷ [])
+    -- P9: DefineFunction2 "f", parameter x in register 1, two registers, preload this and global, empty body
+    ∷ sum (0x00 ∷ 0x00 ∷ 0x01 ∷ 0x00 ∷ 0x8E ∷ 0x01 ∷ 0x00 ∷ 0x66 ∷ 0x01 ∷ 0x00 ∷ 0x01 ∷ 0x01 ∷ 0x00 ∷ 0x78 ∷ 0x02 ∷ 0x01 ∷ 0x01 ∷ 0x00 ∷ 0x00 ∷ 0x00 ∷ 0x00 ∷ [])
+    (0x8E ∷ 0x0C ∷ 0x00 ∷ 0x66 ∷ 0x00 ∷ 0x01 ∷ 0x00 ∷ 0x02 ∷ 0x01 ∷ 0x01 ∷ 0x01 ∷ 0x78 ∷ 0x00 ∷ 0x00 ∷ 0x00 ∷ 0x00 ∷ [])
+    -- P10: Try Play, finally Stop
+    ∷ sum (0x00 ∷ 0x00 ∷ 0x01 ∷ 0x00 ∷ 0x8F ∷ 0x02 ∷ 0x00 ∷ 0x00 ∷ 0x01 ∷ 0x00 ∷ 0x06 ∷ 0x00 ∷ 0x00 ∷ 0x01 ∷ 0x00 ∷ 0x07 ∷ [])
+    (0x8F ∷ 0x08 ∷ 0x00 ∷ 0x02 ∷ 0x01 ∷ 0x00 ∷ 0x00 ∷ 0x00 ∷ 0x01 ∷ 0x00 ∷ 0x00 ∷ 0x06 ∷ 0x07 ∷ 0x00 ∷ [])
+    -- P11: GetUrl2, variables only, method 7
+    ∷ sum (0x00 ∷ 0x00 ∷ 0x01 ∷ 0x00 ∷ 0x9A ∷ 0x01 ∷ 0x00 ∷ 0x07 ∷ [])
+    (0x9A ∷ 0x01 ∷ 0x00 ∷ 0x83 ∷ 0x00 ∷ [])
+    -- P12: label 0 at 0; Jump 0; With whose body has label 0 at 0 and Play
+    ∷ sum (0x01 ∷ 0x00 ∷ 0x00 ∷ 0x00 ∷ 0x00 ∷ 0x00 ∷ 0x02 ∷ 0x00 ∷ 0x99 ∷ 0x00 ∷ 0x00 ∷ 0x94 ∷ 0x01 ∷ 0x00 ∷ 0x00 ∷ 0x00 ∷ 0x00 ∷ 0x00 ∷ 0x01 ∷ 0x00 ∷ 0x06 ∷ [])
+    (0x99 ∷ 0x02 ∷ 0x00 ∷ 0x05 ∷ 0x00 ∷ 0x94 ∷ 0x02 ∷ 0x00 ∷ 0x01 ∷ 0x00 ∷ 0x06 ∷ 0x00 ∷ [])
+    ∷ []
+
+-- a sum holds where the sheet packs to the block, with no room to spare
+abbrev pub Holds : Sum → Type 0
+Holds (sum main block) = pack (sheetOf main) (length block) ≡ Done block
+
+abbrev pub AllHold : List Sum → Type 0
+AllHold [] = Unit {0}
+AllHold (x ∷ xs) = Holds x × AllHold xs
+
+pub sums-hold : AllHold byHand
+unfolding byHand sheetOf each pick firstWith le16 le32 bit smallByte byte smallOpCodes opcodes opcodeOf kindByte pushKinds kindOf edition1 ifWhole ifWithin tested repeat firstZero ifNoZero ifNothingLeft readU8 readU16 readU32 readU64 readBytes readFlag readSpelling readCounted hasCatch hasFinally hasRegister isShape readString readValueOf readValueIf readValue readParam readLabel readEntries readCatchTarget readCatch readFinally readTry readFields readFieldsIf readAction readActions readBodyWith readBody readMain mapValue mapParam mapFlat mapOwner mapTarget mapAction zeroEnded stringsBytes constantBytes doubleBytes pushBytes pushesBytes opcode gotoFrame2Bytes getUrl2Bits payload ownerOpCode paramsBytes ownerFields ownerPayload branchOpCode catchShape finallyShape catchName tryPayload headed framed moved eventIf payloadTest bodyTest labelsAt events later recordIf lookup distanceBits branchBits blockBytes blockSize size trace bytes tooLong distance isNear farUnless judged orElse tooFar judge trailerDistance isMarked cutIf cutAt cutIfTrailer cutIfShort cut unless ifRoom packTree spelling packRead packCut pack output
+sums-hold = (refl, (refl, (refl, (refl, (refl, (refl, (refl, (refl, (refl, (refl, (refl, (refl, tt))))))))))))
