@@ -19,7 +19,7 @@ use Rattle.layout.specs.Strings.{mapBody}
 use Rattle.layout.specs.Write.{events, blockBytes, blockSize}
 use Rattle.layout.specs.Judge.{tooLong, tooFar, orElse, judge}
 use Rattle.layout.specs.Cut.{Cut, main, uncut, cut}
-use Rattle.layout.specs.Pack.{unless, ifRoom, packTree, spelling, packRead, packCut, pack, output, Outcome}
+use Rattle.layout.specs.Pack.{unless, ifRoom, packTree, spelling, packRead, packCut, pack, Outcome, ReadsAs}
 
 -- ---- 1, 2; then 3 to 7; then 8 and 9; then 10; then 11
 
@@ -27,16 +27,6 @@ use Rattle.layout.specs.Pack.{unless, ifRoom, packTree, spelling, packRe
 pub uncut-first : (s : List ℕ) (room : ℕ) (r : Refusal) → cut s ≡ uncut r → pack s room ≡ Refused r
 unfolding pack packCut
 uncut-first s room r e = ap (λ c. packCut c room) e
-
--- the tree that a main body reads as, its strings resolved
-pub record ReadsAs (s : List ℕ) (t : Actions) : Type 0 where
-  pub start : ℕ
-  pub bytes : List ℕ
-  pub read : ActionsOf Text ℕ
-  pub next : Place
-  pub is-cut : cut s ≡ main start bytes
-  pub is-read : readMain edition1 bytes deepest ≡ got read next
-  pub is-tree : mapBody spelling read ≡ t
 
 -- then what reading meets, whatever the room
 pub fault-next : (s : List ℕ) (room start : ℕ) (b : List ℕ) (f : Fault) (p : Place) → cut s ≡ main start b → readMain edition1 b deepest ≡ bad f p

@@ -49,6 +49,16 @@ packCut (uncut r) room = Refused r
 unfoldable pub pack : List ℕ → ℕ → Answer (List ℕ)
 pack s room = packCut (cut s) room
 
+-- the sheet reads whole, as this tree
+pub record ReadsAs (s : List ℕ) (t : Actions) : Type 0 where
+  pub start : ℕ
+  pub bytes : List ℕ
+  pub read : ActionsOf Text ℕ
+  pub next : Place
+  pub is-cut : cut s ≡ main start bytes
+  pub is-read : readMain edition1 bytes deepest ≡ got read next
+  pub is-tree : mapBody spelling read ≡ t
+
 -- ---- the output
 
 -- "Bytes of the output past a Done length keep their values; on any other answer all do"

@@ -1,0 +1,254 @@
+-- What a Done answer says: the sheet reads whole, nothing in its tree is too long or too far, there is room, and the block
+-- is the tree's. Assumes nothing.
+use mathlib.Core.Path.{_≡_, refl, sym, ap, ap₂, _∙_, subst}
+use Prim.Native.Nat.{ℕ, suc, _+_, _-_, _*_, _≤_, _<_}
+use native.Mathlib.Omega.{arith}
+use mathlib.Core.Bool.{Bool, true, false, _&&_}
+use mathlib.Core.Option.{Option, none, some, Option·none-ne-some}
+use mathlib.Core.List.{List, [], _∷_, _++_}
+use lib.ListN.{length, take, drop, length-take, length-drop}
+use lib.Dec.{leb, ltb}
+use borrow.Author.Tests.{ltb-false, leb-true}
+use Rattle.layout.specs.Lists.{all-take, all-drop}
+use Rattle.layout.specs.Answers.{Refusal, ActionLenOverflow, BlockLenOverflow, Answer, Done, Refused}
+use Rattle.layout.specs.Tree.{Actions, ActionsOf, ActionIndex, firstAction, nextAction, Entry, Action, flat, branch, owner, Try, ActionList, empty, more, body, Catch, noCatch, catch, Finally, noFinally, finally}
+use Rattle.layout.specs.Read.{Text, plain, Terms, edition1, deepest, Read, got, bad, readMain, readU16, readSpelling, readString}
+use Rattle.layout.specs.Strings.{mapBody}
+use Rattle.layout.specs.Payload.{payload, ownerFields, catchName}
+use Rattle.layout.specs.Write.{size, bodySize, catchSize, finallySize, Position, Event, labelAt, branchAt, payloadTooLong, bodyTooLong, moved, eventIf, payloadTest, bodyTest, labelsAt, trace, traces, traceBody, traceCatch, traceFinally, events, blockBytes, blockSize}
+use Rattle.layout.specs.Judge.{tooLong, tooFar, orElse, judge}
+use Rattle.layout.specs.Cut.{Cut, main, uncut, sheetLimit, trailerDistance, isMarked, cutIf, cutAt, cutIfTrailer, cutIfShort, cut}
+use Rattle.layout.specs.Pack.{unless, ifRoom, packTree, spelling, packRead, packCut, pack, ReadsAs}
+use Rattle.layout.specs.Order.{tree-next}
+use Rattle.laws.specs.Fits.{Bytes, Well, WellActions, WellBody, WellCatch, WellFinally, Fits, ActionsFit, BodyFits, CatchFits, FinallyFits}
+use Rattle.laws.specs.ReadFits.{Good, fine, good-then, good-got, u16-good, spelling-good, Spells, main-good}
+
+-- ---- a tree that is written
+
+-- what the tests in order leave
+pub record Written (t : Actions) (room : ℕ) (q : List ℕ) : Type 0 where
+  pub is-short : tooLong (events t) ≡ none
+  pub is-near : tooFar (events t) (events t) ≡ none
+  pub has-room : blockSize t ≤ room
+  pub is-block : blockBytes t ≡ q
+
+refused-done : {X A : Type 0} {r : Refusal} {a : A} → Refused r ≡ Done a → X
+refused-done k =
+    let z : _≡_ {A = ℕ} 0 1 = cc in
+    absurd (omega arith)
+
+pub tree-written : (t : Actions) (room : ℕ) (q : List ℕ) → packTree t room ≡ Done q → Written t room q
+unfolding packTree unless judge orElse ifRoom
+tree-written t room q e = go (tooLong (events t)) (tooFar (events t) (events t)) (leb (blockSize t) room) refl refl refl e
+  where
+    go : (x y : Option Refusal) (z : Bool) → tooLong (events t) ≡ x → tooFar (events t) (events t) ≡ y → leb (blockSize t) room ≡ z
+        → unless (orElse x y) (ifRoom z (blockBytes t) (blockSize t)) ≡ Done q → Written t room q
+    go (some r) y z ex ey ez k = refused-done k
+    go none (some r) z ex ey ez k = refused-done k
+    go none none false ex ey ez k = refused-done k
+    go none none true ex ey ez k = record { is-short = ex; is-near = ey; has-room = leb-true (blockSize t) room ez; is-block = cc }
+
+-- ---- a sheet that is packed
+
+-- a Done sheet reads whole
+pub record Packed (s : List ℕ) (room : ℕ) (q : List ℕ) : Type 0 where
+  pub tree : Actions
+  pub reads : ReadsAs s tree
+  pub written : Written tree room q
+
+module _ (s : List ℕ) (room : ℕ) (q : List ℕ) where
+  read-packed : (start : ℕ) (b : List ℕ) (r : Read (ActionsOf Text ℕ)) → cut s ≡ main start b → readMain edition1 b deepest ≡ r
+      → packRead start r room ≡ Done q → Packed s room q
+  unfolding packRead
+  read-packed start b (got t p) c e k =
+      record {
+        tree = mapBody spelling t;
+        reads = record { start = start; bytes = b; read = t; next = p; is-cut = c; is-read = e; is-tree = refl };
+        written = tree-written (mapBody spelling t) room q k;
+      }
+  read-packed start b (bad f p) c e k = refused-done k
+
+  cut-packed : (c : Cut) → cut s ≡ c → packCut c room ≡ Done q → Packed s room q
+  unfolding packCut
+  cut-packed (main start b) e k = read-packed start b (readMain edition1 b deepest) e refl k
+  cut-packed (uncut r) e k = refused-done k
+
+  pub is-packed : pack s room ≡ Done q → Packed s room q
+  unfolding pack
+  is-packed e = cut-packed (cut s) refl e
+
+  -- whatever tree it is found to read as
+  pub is-written : (t : Actions) → ReadsAs s t → pack s room ≡ Done q → Written t room q
+  is-written t h e = tree-written t room q (sym (tree-next s room t h) ∙ e)
+
+-- ---- the main body
+
+-- D, by the trailer
+unfoldable pub sheetDistance : List ℕ → ℕ
+sheetDistance s = trailerDistance (drop (length s - 8) s)
+
+-- the main body is the D bytes before the trailer
+pub record IsMain (s : List ℕ) (start : ℕ) (b : List ℕ) : Type 0 where
+  pub is-distance : length b ≡ sheetDistance s
+  pub is-long : length s ≡ start + length b + 8
+  pub is-part : b ≡ take (length b) (drop start s)
+  pub is-limited : length s ≤ sheetLimit
+
+uncut-main : {X : Type 0} {r : Refusal} {n : ℕ} {b : List ℕ} → uncut r ≡ main n b → X
+uncut-main k =
+    let z : _≡_ {A = ℕ} 0 1 = cc in
+    absurd (omega arith)
+
+and-right : (x y : Bool) → (x && y) ≡ true → y ≡ true
+and-right true y e = e
+and-right false y e = cc
+
+module _ (s : List ℕ) (start : ℕ) (b : List ℕ) where
+  main-if : (z : Bool) (n d : ℕ) → (z ≡ true → d ≤ n) → d ≡ sheetDistance s → length s ≡ n + 8 → length s ≤ sheetLimit → cutIf z s n d ≡ main start b → IsMain s start b
+  unfolding cutIf
+  main-if true n d h g l m e =
+      let k : d ≤ n = h refl in
+      let es : n - d ≡ start = cc in
+      let eb : take d (drop (n - d) s) ≡ b = cc in
+      let el : length b ≡ d = ap length (sym eb) ∙ simp (length-take, length-drop) (omega arith) in
+      record { is-distance = el ∙ g; is-long = omega arith; is-part = sym eb ∙ ap₂ (λ (i j : ℕ). take i (drop j s)) (sym el) es; is-limited = m }
+  main-if false n d h g l m e = uncut-main e
+
+  main-trailer : (y : Bool) → leb 8 (length s) ≡ y → length s ≤ sheetLimit → cutIfTrailer y s ≡ main start b → IsMain s start b
+  unfolding cutIfTrailer cutAt
+  main-trailer true h m e =
+      let n : ℕ = length s - 8 in
+      let d : ℕ = trailerDistance (drop n s) in
+      main-if (isMarked (drop n s) && leb d n) n d (λ z. leb-true d n (and-right (isMarked (drop n s)) (leb d n) z)) (unfold sheetDistance in refl)
+      (omega (arith, leb-true 8 (length s) h)) m e
+  main-trailer false h m e = uncut-main e
+
+  main-short : (x : Bool) → leb (length s) sheetLimit ≡ x → cutIfShort x s ≡ main start b → IsMain s start b
+  unfolding cutIfShort
+  main-short true h e = main-trailer (leb 8 (length s)) refl (leb-true (length s) sheetLimit h) e
+  main-short false h e = uncut-main e
+
+  pub is-main : cut s ≡ main start b → IsMain s start b
+  unfolding cut
+  is-main e = main-short (leb (length s) sheetLimit) refl e
+
+  pub main-bytes : Bytes s → cut s ≡ main start b → Bytes b
+  main-bytes h e = subst Bytes (sym ((is-main e) .is-part)) (all-take _ (length b) (drop start s) (all-drop _ start s h))
+
+-- ---- nothing is too long
+
+abbrev Short : List Event → Type 0
+Short es = tooLong es ≡ none
+
+short-left : (xs ys : List Event) → Short (xs ++ ys) → Short xs
+unfolding tooLong
+short-left [] ys e = refl
+short-left (labelAt l s ∷ xs) ys e = short-left xs ys e
+short-left (branchAt l s ∷ xs) ys e = short-left xs ys e
+short-left (payloadTooLong n s ∷ xs) ys e = e
+short-left (bodyTooLong n s ∷ xs) ys e = e
+
+short-right : (xs ys : List Event) → Short (xs ++ ys) → Short ys
+unfolding tooLong
+short-right [] ys e = e
+short-right (labelAt l s ∷ xs) ys e = short-right xs ys e
+short-right (branchAt l s ∷ xs) ys e = short-right xs ys e
+short-right (payloadTooLong n s ∷ xs) ys e = cc
+short-right (bodyTooLong n s ∷ xs) ys e = cc
+
+payload-short : (n : ℕ) (s : Position) → Short (payloadTest n s) → n < 65536
+unfolding payloadTest eventIf tooLong
+payload-short n s e = go (ltb 65535 n) refl e
+  where
+    go : (t : Bool) → ltb 65535 n ≡ t → Short (eventIf t (payloadTooLong n s)) → n < 65536
+    go true h k = absurd (Option·none-ne-some (ActionLenOverflow n) (sym k))
+    go false h k = omega (arith, ltb-false 65535 n h)
+
+body-short : (n : ℕ) (s : Position) → Short (bodyTest n s) → n < 65536
+unfolding bodyTest eventIf tooLong
+body-short n s e = go (ltb 65535 n) refl e
+  where
+    go : (t : Bool) → ltb 65535 n ≡ t → Short (eventIf t (bodyTooLong n s)) → n < 65536
+    go true h k = absurd (Option·none-ne-some (BlockLenOverflow n) (sym k))
+    go false h k = omega (arith, ltb-false 65535 n h)
+
+-- a tree whose fields fit, and in which nothing is too long, can be written
+mutual
+  unfolding trace
+
+  fits : (a : Action) (s : Position) → Well a → Short (trace a s) → Fits a
+  fits (flat f) s h e = (h, payload-short (length (payload f)) s e)
+  fits (branch k l) s h e = tt
+  fits (owner o b) s h e =
+      let x : List Event = payloadTest (length (ownerFields o) + 2) s in
+      let u : Position = moved (5 + length (ownerFields o)) s in
+      let y : List Event = traceBody b u in
+      let z : List Event = bodyTest (bodySize b) s in
+      let r : Short (y ++ z) = short-right x (y ++ z) e in
+      (h .0, payload-short (length (ownerFields o) + 2) s (short-left x (y ++ z) e), body-short (bodySize b) s (short-right y z r), fits-body b u (h .1) (short-left y z r))
+  fits (Try b c f) s h e =
+      let t : Position = moved (10 + length (catchName c)) s in
+      let t₁ : Position = moved (bodySize b) t in
+      let t₂ : Position = moved (bodySize b + catchSize c) t in
+      let x₀ : List Event = payloadTest (7 + length (catchName c)) s in
+      let x₁ : List Event = traceBody b t in
+      let x₂ : List Event = traceCatch c t₁ in
+      let x₃ : List Event = traceFinally f t₂ in
+      let x₄ : List Event = bodyTest (bodySize b) s in
+      let x₅ : List Event = bodyTest (catchSize c) s in
+      let x₆ : List Event = bodyTest (finallySize f) s in
+      let e₁ : Short (x₁ ++ (x₂ ++ (x₃ ++ (x₄ ++ (x₅ ++ x₆))))) = short-right x₀ (x₁ ++ (x₂ ++ (x₃ ++ (x₄ ++ (x₅ ++ x₆))))) e in
+      let e₂ : Short (x₂ ++ (x₃ ++ (x₄ ++ (x₅ ++ x₆)))) = short-right x₁ (x₂ ++ (x₃ ++ (x₄ ++ (x₅ ++ x₆)))) e₁ in
+      let e₃ : Short (x₃ ++ (x₄ ++ (x₅ ++ x₆))) = short-right x₂ (x₃ ++ (x₄ ++ (x₅ ++ x₆))) e₂ in
+      let e₄ : Short (x₄ ++ (x₅ ++ x₆)) = short-right x₃ (x₄ ++ (x₅ ++ x₆)) e₃ in
+      let e₅ : Short (x₅ ++ x₆) = short-right x₄ (x₅ ++ x₆) e₄ in (
+        h .0,
+        payload-short (7 + length (catchName c)) s (short-left x₀ (x₁ ++ (x₂ ++ (x₃ ++ (x₄ ++ (x₅ ++ x₆))))) e),
+        body-short (bodySize b) s (short-left x₄ (x₅ ++ x₆) e₄),
+        body-short (catchSize c) s (short-left x₅ x₆ e₅),
+        body-short (finallySize f) s (short-right x₅ x₆ e₅),
+        fits-body b t (h .1) (short-left x₁ (x₂ ++ (x₃ ++ (x₄ ++ (x₅ ++ x₆)))) e₁),
+        fits-catch c t₁ (h .2) (short-left x₂ (x₃ ++ (x₄ ++ (x₅ ++ x₆))) e₂),
+        fits-finally f t₂ (h .3) (short-left x₃ (x₄ ++ (x₅ ++ x₆)) e₃),
+      )
+
+  fits-actions : (xs : ActionList) (es : List Entry) (i : ActionIndex) (s : Position) → WellActions xs → Short (traces xs es i s) → ActionsFit xs
+  fits-actions empty es i s h e = tt
+  fits-actions (more a xs) es i s h e =
+      let y : List Event = traces xs es (nextAction i) (moved (size a) s) in
+      let r : Short (trace a s ++ y) = short-right (labelsAt es i s) (trace a s ++ y) e in
+      (fits a s (h .0) (short-left (trace a s) y r), fits-actions xs es (nextAction i) (moved (size a) s) (h .1) (short-right (trace a s) y r))
+
+  fits-body : (b : Actions) (s : Position) → WellBody b → Short (traceBody b s) → BodyFits b
+  fits-body (body es xs) s h e = fits-actions xs es firstAction s h e
+
+  fits-catch : (c : Catch) (s : Position) → WellCatch c → Short (traceCatch c s) → CatchFits c
+  fits-catch noCatch s h e = tt
+  fits-catch (catch t b) s h e = fits-body b s h e
+
+  fits-finally : (f : Finally) (s : Position) → WellFinally f → Short (traceFinally f s) → FinallyFits f
+  fits-finally noFinally s h e = tt
+  fits-finally (finally b) s h e = fits-body b s h e
+
+-- ---- a string that was read has no zero byte, and is no longer than what was read for it
+
+pub spells : (b : List ℕ) → Bytes b → (k : Terms) → Spells k b spelling (Unit {0})
+unfolding readString spelling
+spells b small k p l =
+    good-then (u16-good b small p l) (λ n q h m. good-then (spelling-good b small n q m)
+    (λ s r g j. fine {a = plain s} {p = r} (g .0, (λ κ. omega (arith, g .1, h .1)), omega (arith, g .1, h .1)) j))
+
+-- ---- the tree of a sheet
+
+module _ (s : List ℕ) (t : Actions) (small : Bytes s) (h : ReadsAs s t) where
+  -- its fields fit, and it is written in at most three bytes for each byte of the main body, less twelve
+  pub tree-good : WellBody t × (bodySize t + 12 ≤ 3 * length (h .bytes))
+  tree-good =
+      let b : Bytes (h .bytes) = main-bytes s (h .start) (h .bytes) small (h .is-cut) in
+      let g = (good-got (h .read) (h .next) (main-good edition1 (h .bytes) b spelling (Unit {0}) (spells (h .bytes) b edition1) deepest) (h .is-read)) .0 in
+      subst (λ (x : Actions). WellBody x × (bodySize x + 12 ≤ 3 * length (h .bytes))) (h .is-tree) (g .0, g .1 tt)
+
+  -- and where nothing is too long, its lengths fit too
+  pub tree-fits : tooLong (events t) ≡ none → BodyFits t
+  unfolding events
+  tree-fits e = fits-body t (record { at = 0 }) (tree-good .0) e
