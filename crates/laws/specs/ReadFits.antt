@@ -190,7 +190,7 @@ module _ (k : Terms) (b : List ℕ) (small : Bytes b) (w : Text → List ℕ) (K
   constant-most true = omega arith
   constant-most false = omega arith
 
-  valueLength : PushValueOf Text → ℕ
+  pub valueLength : PushValueOf Text → ℕ
   valueLength x = pushLength (mapValue w x)
 
   valueOf-good : (j : PushKind) (p : Place) → p .at ≤ length b
@@ -212,18 +212,18 @@ module _ (k : Terms) (b : List ℕ) (small : Bytes b) (w : Text → List ℕ) (K
   valueIf-good (some j) i p m l = valueOf-good j p l
   valueIf-good none i p m l = refused m
 
-  value-good : (p : Place) → p .at ≤ length b → Good (length b) (λ x q. ValueFits (mapValue w x) × (K → valueLength x + p .at ≤ q .at) × (p .at ≤ q .at)) (readValue k b p)
+  pub value-good : (p : Place) → p .at ≤ length b → Good (length b) (λ x q. ValueFits (mapValue w x) × (K → valueLength x + p .at ≤ q .at) × (p .at ≤ q .at)) (readValue k b p)
   unfolding readValue
   value-good p l =
       good-then (u8-good b small p l) (λ j q h m. good-as (valueIf-good (kindOf j) p q l m) (λ x o g. (g .0, (λ κ. omega (arith, g .1 κ, h .1)), omega (arith, g .2, h .1))))
 
-  param-good : (p : Place) → p .at ≤ length b → Good (length b) (λ x q. ParamFits (mapParam w x) × (K → paramLength (mapParam w x) + p .at ≤ q .at) × (p .at ≤ q .at)) (readParam k b p)
+  pub param-good : (p : Place) → p .at ≤ length b → Good (length b) (λ x q. ParamFits (mapParam w x) × (K → paramLength (mapParam w x) + p .at ≤ q .at) × (p .at ≤ q .at)) (readParam k b p)
   unfolding readParam paramLength mapParam
   param-good p l =
       good-then (u8-good b small p l) (λ r q h m. good-then (string-good q m)
       (λ s o g j. fine ((h .0, g .0), (λ κ. omega (arith, h .1, g .1 κ)), omega (arith, h .1, g .2)) j))
 
-  text-good : (p : Place) → p .at ≤ length b → Good (length b) (λ s q. Clean (w s) × (K → stringLength (w s) + p .at ≤ q .at) × (p .at ≤ q .at)) (readString k b p)
+  pub text-good : (p : Place) → p .at ≤ length b → Good (length b) (λ s q. Clean (w s) × (K → stringLength (w s) + p .at ≤ q .at) × (p .at ≤ q .at)) (readString k b p)
   unfolding stringLength
   text-good p l = good-as (string-good p l) (λ s q h. (h .0, (λ κ. omega (arith, h .1 κ)), h .2))
 
@@ -233,7 +233,7 @@ module _ (k : Terms) (b : List ℕ) (small : Bytes b) (w : Text → List ℕ) (K
   unfolding readLabel
   label-good least p l = good-as (tested-good b small _ (readU16 b) p l (u16-good b small p l)) (λ n q h. h .0 .1)
 
-  entries-good : (n least : ℕ) (p : Place) → p .at ≤ length b → Good (length b) (λ es q. p .at ≤ q .at) (readEntries k b n least p)
+  pub entries-good : (n least : ℕ) (p : Place) → p .at ≤ length b → Good (length b) (λ es q. p .at ≤ q .at) (readEntries k b n least p)
   unfolding readEntries
   entries-good zero least p l = fine {p = p} (omega arith) l
   entries-good (suc n) least p l =
