@@ -120,7 +120,7 @@ module _ (b : List ℕ) (small : Bytes b) where
 
   -- ---- strings
 
-  bytes-good : (n : ℕ) (p : Place) → p .at ≤ length b → Good (length b) (λ s q. (length s ≡ n) × (q .at ≡ p .at + n) × Bytes s) (readBytes b n p)
+  pub bytes-good : (n : ℕ) (p : Place) → p .at ≤ length b → Good (length b) (λ s q. (length s ≡ n) × (q .at ≡ p .at + n) × Bytes s) (readBytes b n p)
   unfolding readBytes
   bytes-good n p l =
       good-whole (leb (p .at + n) (length b)) _ _ _ l
@@ -190,12 +190,12 @@ module _ (k : Terms) (b : List ℕ) (small : Bytes b) (w : Text → List ℕ) (K
   constant-most true = omega arith
   constant-most false = omega arith
 
-  pub valueLength : PushValueOf Text → ℕ
+  abbrev pub valueLength : PushValueOf Text → ℕ
   valueLength x = pushLength (mapValue w x)
 
   valueOf-good : (j : PushKind) (p : Place) → p .at ≤ length b
       → Good (length b) (λ x q. ValueFits (mapValue w x) × (K → valueLength x + p .at ≤ q .at + 1) × (p .at ≤ q .at)) (readValueOf k b j p)
-  unfolding valueLength readValueOf pushLength mapValue
+  unfolding readValueOf pushLength mapValue
   valueOf-good PushKind.String p l = good-then (string-good p l) (λ s q h m. fine (h .0, (λ κ. omega (arith, h .1 κ)), h .2) m)
   valueOf-good PushKind.Null p l = fine {a = Null} {p = p} (tt, (λ κ. omega arith), omega arith) l
   valueOf-good PushKind.Undefined p l = fine {a = Undefined} {p = p} (tt, (λ κ. omega arith), omega arith) l
@@ -365,7 +365,7 @@ module _ (k : Terms) (b : List ℕ) (small : Bytes b) (w : Text → List ℕ) (K
     fields-good OpCode.Push p l e =
         good-then (counted-good (λ x. ValueFits (mapValue w x)) valueLength _ value-good p l)
         (λ vs q h m. fine (flat-good (Push vs) p q (all-each ValueFits (mapValue w) vs (h .1))
-        (λ κ. unfold payloadLength valueLength in omega (arith, total-each (mapValue w) pushLength vs, h .2 κ)) (h .3)) m)
+        (λ κ. unfold payloadLength in omega (arith, total-each (mapValue w) pushLength vs, h .2 κ)) (h .3)) m)
     fields-good OpCode.Jump p l e = good-then (label-good 0 p l) (λ n q h m. fine {a = branch Jump n} {p = q} (tt, (λ κ. unfold size in omega (arith, h)), omega arith) m)
     fields-good OpCode.GetUrl2 p l e =
         good-then (flag-good b small p l) (λ v q h m. good-then (flag-good b small q m) (λ t r g i. good-then (u8-good b small r i)
