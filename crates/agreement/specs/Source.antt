@@ -389,7 +389,14 @@ write-target (catch (Variable name) b) = write-string name
 write-target (catch (Register i) b) = write-u8 i
 write-target noCatch = write-u8 0
 
--- write_try; the last three are its write_actions(try_body), and the same of the other two where they are
+-- write_try: "Patch the sizes we allocated earlier"
+unfoldable pub patch-sizes : ℕ → ℕ → ℕ → ℕ → ℕ → ℕ → ℕ → Writing
+patch-sizes try-offset catch-offset finally-offset len-before-try len-before-catch len-before-finally len-at-end = do
+  write-block-length-at try-offset len-before-try len-before-catch
+  write-block-length-at catch-offset len-before-catch len-before-finally
+  write-block-length-at finally-offset len-before-finally len-at-end
+
+-- write_try; the last three arguments are its self.write_actions(try_body), and what is done for the other two bodies
 unfoldable pub write-try : Catch → Finally → Writing → Writing → Writing → Writing
 write-try catch-body finally-body write-try-body write-catch-body write-finally-body = do
   write-action-header OpCode.Try (7 + target-len catch-body)
@@ -408,9 +415,7 @@ write-try catch-body finally-body write-try-body write-catch-body write-finally-
   len-before-finally ← output-len
   write-finally-body
   len-at-end ← output-len
-  write-block-length-at try-offset len-before-try len-before-catch
-  write-block-length-at catch-offset len-before-catch len-before-finally
-  write-block-length-at finally-offset len-before-finally len-at-end
+  patch-sizes try-offset catch-offset finally-offset len-before-try len-before-catch len-before-finally len-at-end
 
 -- self.pending_label_writes.push(PendingLabelWrite { label, offset_pos: self.output.len() })
 unfoldable pub push-label-write : ℕ → Writing
@@ -532,6 +537,12 @@ write-flat (Push values) = write-push values
 write-flat (GetUrl2 load-variables load-target method) = write-get-url-2 load-variables load-target method
 write-flat (GotoFrame2 scene-bias play) = write-goto-frame-2 scene-bias play
 
+-- write_actions: the body of its loop over (i, action); `write` is self.write_action(action)
+unfoldable pub write-labelled : Map (List ℕ) → ℕ → Writing → Writing
+write-labelled labels i write = do
+  insert-labels (get i labels)
+  write
+
 -- is the flag of this weight set? The tree has all nine in one number
 unfoldable pub flag-bit : ℕ → ℕ → Bool
 flag-bit flags weight = eqb (flags / weight % 2) 1
@@ -551,8 +562,7 @@ unfoldable mutual
   pub write-each : Map (List ℕ) → ℕ → ActionList → Writing
   write-each labels i empty = pass
   write-each labels i (more action rest) = do
-    insert-labels (get i labels)
-    write-action action
+    write-labelled labels i (write-action action)
     write-each labels (i + 1) rest
 
   pub write-action : Action → Writing

@@ -22,7 +22,7 @@ use Rattle.layout.specs.Lengths.{length-block}
 use Rattle.laws.specs.Fits.{Bytes, WellBody}
 use Rattle.laws.specs.Packed.{tree-good}
 use Rattle.agreement.specs.Source.{PendingLabelWrite, ActionEncoder, EncoderError, JumpOffsetOverflow, ActionLenOverflow, BlockLenOverflow, Result, ok, err, panicked, after, for-each, new, patch-label, patch-labels, write-small-action, write-actions, encoding, encode}
-use Rattle.agreement.specs.SourceSteps.{firstOverflow, pendingOf, recorded, firstOf, resultOf, encoder, Does}
+use Rattle.agreement.specs.SourceSteps.{firstOverflow, pendingOf, recorded, firstOf, resultOf, encoder}
 use Rattle.agreement.specs.SourceWrites.{after-by, perform-is, does-small, blank, position, does-body}
 use Rattle.agreement.specs.SourcePatches.{farIf, farBranch, orErr, bits, firstFar, Turns, turns-as, turns-body}
 

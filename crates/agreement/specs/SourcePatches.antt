@@ -7,7 +7,7 @@ use mathlib.Core.Bool.{Bool, true, false, _&&_}
 use mathlib.Core.Option.{Option, none, some}
 use mathlib.Core.List.{List, [], _∷_, _++_, append-assoc}
 use lib.ListN.{length, length-append}
-use lib.IntN.{ℤ, pos, negsuc, subℕ}
+use lib.IntN.{ℤ, subℕ}
 use lib.Dec.{leb, ltb, eqb}
 use borrow.Author.Tests.{ltb-true, ltb-false, leb-true, leb-false, le-leb, lt-leb}
 use Rattle.layout.specs.Numbers.{le16}
@@ -16,7 +16,7 @@ use Rattle.layout.specs.Tree.{Owner, Branch, ActionIndex, firstAction, nextActi
 use Rattle.layout.specs.Payload.{opcode, payload, ownerOpCode, ownerFields, ownerPayload, branchOpCode, catchShape, finallyShape, catchName, tryPayload, framed}
 use Rattle.layout.specs.Write.{size, bodySize, catchSize, finallySize, Position, Event, labelAt, branchAt, payloadTooLong, bodyTooLong, moved, eventIf, payloadTest, bodyTest, labelsAt, trace, traces, traceBody, traceCatch, traceFinally, later, recordIf, lookup, distanceBits, bytes, actionsBytes, bodyBytes, catchBytes, finallyBytes}
 use Rattle.layout.specs.Judge.{isNear}
-use Rattle.layout.specs.Lengths.{length-le16, length-ownerFields, length-ownerPayload, length-tryPayload, framed-long, length-framed, branch-long, owner-long, try-long, length-bytes, length-body, length-catch}
+use Rattle.layout.specs.Lengths.{length-ownerFields, length-ownerPayload, length-tryPayload, framed-long, length-framed, branch-long, owner-long, try-long, length-bytes, length-body, length-catch}
 use Rattle.laws.specs.Demands.{sub-up, sub-down, near-both}
 use Rattle.agreement.specs.Source.{PendingLabelWrite, Map, ActionEncoder, EncoderError, JumpOffsetOverflow, Result, ok, err, Writing, after, for-each, gotten, get, insert, two-le-bytes, fits-i16, bits-i16, offset-to, patch-offset, patch-position, patch-label}
 use Rattle.agreement.specs.SourceSteps.{pendingOf, recorded, firstOf, encoder, pending-append}
@@ -147,14 +147,19 @@ module _ (all : List Event) where
     abbrev pending : PendingLabelWrite
     pending = record { label = l; offset-pos = q }
 
+    -- the offset is counted from the end of the operand
+    offset-is : (a : ℕ) → offset-to a pending ≡ subℕ a (q + 2)
+    unfolding offset-to
+    offset-is a = refl
+
     near-patch : (s : Position) (t : Bool) → isNear (s .at) (q + 2) ≡ t
         → patch-position (some (s .at)) pending (encoder (pre ++ (le16 0 ++ post)) w table)
         ≡ orErr (farIf t (subℕ (s .at) (q + 2))) (ok (encoder (pre ++ (le16 ((s .at + 65536 - (q + 2)) % 65536) ++ post)) w table))
-    unfolding patch-position patch-offset offset-to orErr farIf
+    unfolding patch-position patch-offset orErr farIf
     near-patch s true h =
-        rw (fits-near (s .at) (q + 2), h, bits-are (s .at) (q + 2) h)
+        rw (offset-is (s .at), fits-near (s .at) (q + 2), h, bits-are (s .at) (q + 2) h)
         (unfold two-le-bytes le16 in copy-at pre post (le16 ((s .at + 65536 - (q + 2)) % 65536)) q w table (sym hq))
-    near-patch s false h = rw (fits-near (s .at) (q + 2), h)
+    near-patch s false h = rw (offset-is (s .at), fits-near (s .at) (q + 2), h)
 
     position-patch : (o : Option Position)
         → patch-position (positionOf none o) pending (encoder (pre ++ (le16 0 ++ post)) w table)
@@ -280,4 +285,3 @@ module _ (all : List Event) where
     turns-finally : (f : Finally) (p : ℕ) (pre post : List ℕ) → length pre ≡ p → Turns (traceFinally f (position p)) (pre ++ (finallyBytes blank f p ++ post)) (pre ++ (finallyBytes bits f p ++ post))
     turns-finally noFinally p pre post h = none-quiet (pre ++ post)
     turns-finally (finally b) p pre post h = turns-body b p pre post h
-

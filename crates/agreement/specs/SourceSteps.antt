@@ -10,12 +10,12 @@ use lib.ListN.{length, length-append}
 use lib.Dec.{leb, ltb, eqb}
 use borrow.Author.Tests.{ltb-true, ltb-false, leb-true, leb-false, le-leb, lt-leb, lt-ltb, le-ltb, eqb-true, eqb-false, eq-eqb, ne-eqb}
 use Rattle.layout.specs.Numbers.{le16}
-use Rattle.layout.specs.OpCode.{OpCode, SmallOpCode, byte}
+use Rattle.layout.specs.OpCode.{OpCode, byte}
 use Rattle.layout.specs.Tree.{ActionIndex, Entry, entry}
 use Rattle.layout.specs.Payload.{framed}
 use Rattle.layout.specs.Write.{Position, Event, labelAt, branchAt, payloadTooLong, bodyTooLong, eventIf, payloadTest, labelsAt}
-use Rattle.layout.specs.Lengths.{framed-long, framed-short}
-use Rattle.agreement.specs.Source.{PendingLabelWrite, Map, ActionEncoder, EncoderError, ActionLenOverflow, BlockLenOverflow, Result, ok, err, Writing, after, _>>_, pass, for-each, if-then, assert, gotten, get, insert, push-here, push-at, put, write-u8, two-le-bytes, write-u16, insert-label, insert-labels, labels-into, labels-per-pos, write-length, write-opcode-and-length, write-action-header, write-small-action}
+use Rattle.layout.specs.Lengths.{framed-long}
+use Rattle.agreement.specs.Source.{PendingLabelWrite, Map, ActionEncoder, EncoderError, ActionLenOverflow, BlockLenOverflow, Result, ok, err, Writing, after, _>>_, pass, for-each, if-then, assert, gotten, get, insert, push-here, push-at, put, write-u8, two-le-bytes, write-u16, insert-label, insert-labels, labels-into, labels-per-pos, write-length, write-opcode-and-length, write-action-header}
 
 -- ---- what a trace does to the encoder
 
@@ -235,4 +235,3 @@ does-framed op n p s q h e a =
     does-as (does-then (does-header op n p s h) (does-at a (unfold le16 in refl)))
     (append-nil (payloadTest n s) ∙ ap (λ (m : ℕ). payloadTest m s) e)
     (ap (λ (m : ℕ). byte op ∷ (le16 m ++ q)) e ∙ sym (framed-long op q h))
-

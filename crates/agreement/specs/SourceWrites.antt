@@ -6,7 +6,7 @@ use native.Mathlib.Omega.{arith}
 use mathlib.Core.Bool.{Bool, true, false}
 use mathlib.Core.Option.{Option, none, some}
 use mathlib.Core.List.{List, [], _∷_, _++_, append-assoc, append-nil}
-use lib.ListN.{length, take, drop, length-append}
+use lib.ListN.{length, drop, length-append}
 use lib.Seq.{take-at, drop-at}
 use lib.Dec.{leb, ltb, eqb}
 use borrow.Author.Tests.{leb-true, leb-false, le-leb, lt-ltb, le-ltb, eqb-true, eqb-false}
@@ -14,10 +14,10 @@ use Rattle.layout.specs.Numbers.{le16, le32, bit}
 use Rattle.layout.specs.OpCode.{OpCode, SmallOpCode, byte}
 use Rattle.layout.specs.Tree.{PushValue, String, Null, Undefined, Register, Boolean, Float, Integer, Constant, FunctionParam, functionParam, Flat, Small, GotoFrame, GetUrl, StoreRegister, ConstantPool, WaitForFrame, SetTarget, GotoLabel, WaitForFrame2, Push, GetUrl2, GotoFrame2, Owner, With, DefineFunction, DefineFunction2, Branch, Jump, If, Variable, ActionIndex, firstAction, nextAction, Entry, Action, flat, branch, owner, Try, ActionList, empty, more, Actions, body, Catch, noCatch, catch, Finally, noFinally, finally}
 use Rattle.layout.specs.Payload.{zeroEnded, stringsBytes, constantBytes, doubleBytes, pushBytes, pushesBytes, opcode, gotoFrame2Bytes, getUrl2Bits, payload, paramsBytes, ownerOpCode, ownerFields, ownerPayload, branchOpCode, catchShape, finallyShape, catchName, tryPayload, headed, framed}
-use Rattle.layout.specs.Write.{size, bodySize, catchSize, finallySize, Position, Event, branchAt, bodyTooLong, moved, eventIf, payloadTest, bodyTest, trace, traces, traceBody, traceCatch, traceFinally, bytes, actionsBytes, bodyBytes, catchBytes, finallyBytes}
+use Rattle.layout.specs.Write.{size, bodySize, catchSize, finallySize, Position, Event, branchAt, bodyTooLong, moved, eventIf, payloadTest, bodyTest, labelsAt, trace, traces, traceBody, traceCatch, traceFinally, bytes, actionsBytes, bodyBytes, catchBytes, finallyBytes}
 use Rattle.layout.specs.Lengths.{length-le16, length-zeroEnded, length-tryPayload, framed-long, try-long, framed-short, length-bytes, length-body, length-catch, length-finally}
 use Rattle.laws.specs.Fits.{OwnerFits, Well, WellActions, WellBody, WellCatch, WellFinally}
-use Rattle.agreement.specs.Source.{PendingLabelWrite, Map, ActionEncoder, EncoderError, Result, ok, err, panicked, Writing, after, _>>_, _>>=_, output-len, pass, for-each, fold, if-else, assert, get, put, write-u8, two-le-bytes, write-u16, write-i16, write-i32, write-u64, write-string, copied, copy-from-slice, rotate-left-32, write-f64-me, insert-labels, labels-per-pos, write-action-header, write-small-action, write-goto-frame, write-goto-frame-2, write-goto-label, write-constant-pool, write-block-length, write-block-length-at, flag-bit, function-flags, write-param, param-name, is-some-catch, is-register, is-some-finally, try-flags, target-len, write-target, push-label-write, write-if, write-jump, value-len, write-constant, write-push-value, write-push, write-set-target, write-store-register, write-get-url, write-get-url-2, write-wait-for-frame, write-wait-for-frame-2, write-flat, write-define-function, write-define-function-2, write-with, write-try, count, write-actions, write-each, write-action, write-catch, write-finally}
+use Rattle.agreement.specs.Source.{PendingLabelWrite, Map, ActionEncoder, EncoderError, Result, ok, err, panicked, Writing, after, _>>_, _>>=_, output-len, for-each, fold, if-else, assert, get, put, write-u8, two-le-bytes, write-u16, write-i16, write-i32, write-u64, write-string, copied, copy-from-slice, rotate-left-32, write-f64-me, insert-labels, labels-per-pos, write-action-header, write-small-action, write-goto-frame, write-goto-frame-2, write-goto-label, write-constant-pool, write-block-length, write-block-length-at, flag-bit, function-flags, write-param, param-name, is-some-catch, is-register, is-some-finally, try-flags, target-len, write-target, push-label-write, write-if, write-jump, value-len, write-constant, write-push-value, write-push, write-set-target, write-store-register, write-get-url, write-get-url-2, write-wait-for-frame, write-wait-for-frame-2, write-flat, write-define-function, write-define-function-2, write-with, patch-sizes, write-try, count, write-labelled, write-actions, write-each, write-action, write-catch, write-finally}
 use Rattle.agreement.specs.SourceSteps.{firstOverflow, pendingOf, recorded, firstOf, resultOf, encoder, perform, overflow-append, pending-append, recorded-append, Does, does-pass, does-put, does-then, does-as, does-at, does-entries, does-header, does-short, does-framed}
 
 -- ---- flat actions
@@ -110,16 +110,20 @@ le32-bytes n =
     rw (a, b, c, d)
 
 -- a double's words change places
+words-rotated : (w : ℕ) → rotate-left-32 w ≡ 4294967296 * (w % 4294967296) + w / 4294967296 % 4294967296
+unfolding rotate-left-32
+words-rotated w = omega arith
+
 double-bytes : (w : ℕ) → put (doubleBytes w) ≡ write-u64 (rotate-left-32 w)
-unfolding write-u64 rotate-left-32 doubleBytes
+unfolding write-u64 doubleBytes
 double-bytes w =
     let hi : ℕ = w / 4294967296 in
     let lo : ℕ = w % 4294967296 in
-    let n : ℕ = lo * 4294967296 + hi % 4294967296 in
-    let m : ℕ = n / 4294967296 in
-    let h = lowest-four n lo (hi % 4294967296) (omega arith) in
+    let n : ℕ = rotate-left-32 w in
+    let r : n ≡ 4294967296 * lo + hi % 4294967296 = words-rotated w in
+    let h = lowest-four n lo (hi % 4294967296) r in
     let k = lowest-four hi (hi / 4294967296) (hi % 4294967296) (omega arith) in
-    let e : m ≡ lo = omega arith in
+    let e : n / 4294967296 ≡ lo = omega arith in
     let a : n / 1099511627776 ≡ lo / 256 = omega arith in
     let b : n / 281474976710656 ≡ lo / 65536 = omega arith in
     let c : n / 72057594037927936 ≡ lo / 16777216 = omega arith in
@@ -309,9 +313,7 @@ tryTail target w₁ w₂ w₃ = do
   len-before-finally ← output-len
   w₃
   len-at-end ← output-len
-  write-block-length-at try-offset len-before-try len-before-catch
-  write-block-length-at catch-offset len-before-catch len-before-finally
-  write-block-length-at finally-offset len-before-finally len-at-end
+  patch-sizes try-offset catch-offset finally-offset len-before-try len-before-catch len-before-finally len-at-end
 
 module _ {target w₁ w₂ w₃ : Writing} {xs ys zs : List Event} {v b c f : List ℕ} (p i j k : ℕ) (s : Position)
     (at-target : Does target (p + 6) [] v) (hi : length b ≡ i) (hj : length c ≡ j) (hk : length f ≡ k)
@@ -335,13 +337,13 @@ module _ {target w₁ w₂ w₃ : Writing} {xs ys zs : List Event} {v b c f : Li
     abbrev written : List ℕ
     written = (((out₃ ++ v) ++ b) ++ c) ++ f
 
-    -- the three lengths
-    patches-are : after (write-block-length-at (length out₀) (length (out₃ ++ v)) (length ((out₃ ++ v) ++ b)) (encoder written ws ms))
-        (λ g. after (write-block-length-at (length (out₀ ++ le16 0)) (length ((out₃ ++ v) ++ b)) (length (((out₃ ++ v) ++ b) ++ c)) g)
-        (λ g. write-block-length-at (length ((out₀ ++ le16 0) ++ le16 0)) (length (((out₃ ++ v) ++ b) ++ c)) (length written) g))
+    -- the three lengths are patched and tested in the order try, catch, finally
+    sizes-patched : patch-sizes (length out₀) (length (out₀ ++ le16 0)) (length ((out₀ ++ le16 0) ++ le16 0)) (length (out₃ ++ v)) (length ((out₃ ++ v) ++ b))
+        (length (((out₃ ++ v) ++ b) ++ c)) (length written) (encoder written ws ms)
         ≡ resultOf (firstOf (firstOverflow (bodyTest i s)) (firstOf (firstOverflow (bodyTest j s)) (firstOverflow (bodyTest k s))))
         (encoder (out₀ ++ (le16 i ++ (le16 j ++ (le16 k ++ rest)))) ws ms)
-    patches-are =
+    unfolding patch-sizes
+    sizes-patched =
         after-by _ (firstOverflow (bodyTest i s)) (firstOf (firstOverflow (bodyTest j s)) (firstOverflow (bodyTest k s)))
         (encoder (out₀ ++ (le16 i ++ (le16 0 ++ (le16 0 ++ rest)))) ws ms) (encoder (out₀ ++ (le16 i ++ (le16 j ++ (le16 k ++ rest)))) ws ms) _
         (patch-at out₀ (le16 0 ++ (le16 0 ++ rest)) (length out₀) i (length (out₃ ++ v)) (length ((out₃ ++ v) ++ b)) ws ms s
@@ -425,7 +427,7 @@ module _ {target w₁ w₂ w₃ : Writing} {xs ys zs : List Event} {v b c f : Li
         (after-by (w₁ e₄) (firstOverflow xs) (firstOf (firstOverflow ys) (firstOf (firstOverflow zs) (firstOverflow tests))) e₅ _ _ first-is
         (after-by (w₂ e₅) (firstOverflow ys) (firstOf (firstOverflow zs) (firstOverflow tests)) e₆ _ _ second-is
         (after-by (w₃ e₆) (firstOverflow zs) (firstOverflow tests) (encoder written ws ms) _ _ third-is
-        (patches-are ∙ ap (λ (o : Option EncoderError). resultOf o (encoder (out₀ ++ (le16 i ++ (le16 j ++ (le16 k ++ rest)))) ws ms)) (sym tests-overflow)))))
+        (sizes-patched ∙ ap (λ (o : Option EncoderError). resultOf o (encoder (out₀ ++ (le16 i ++ (le16 j ++ (le16 k ++ rest)))) ws ms)) (sym tests-overflow)))))
         ∙ try-end
 
   does-tail-try : Does (tryTail target w₁ w₂ w₃) p (xs ++ (ys ++ (zs ++ (bodyTest i s ++ (bodyTest j s ++ bodyTest k s))))) (le16 i ++ (le16 j ++ (le16 k ++ (v ++ (b ++ (c ++ f))))))
@@ -596,14 +598,14 @@ after-assoc (ok e) k l = refl
 after-assoc (err x) k l = refl
 after-assoc panicked k l = refl
 
-after-assoc₂ : (r : Result) (k l m : Writing) → after (after r (k >> l)) m ≡ after r (k >> (l >> m))
-unfolding after
-after-assoc₂ (ok e) k l m = after-assoc (k e) l m
-after-assoc₂ (err x) k l m = refl
-after-assoc₂ panicked k l m = refl
-
 abbrev pub position : ℕ → Position
 position p = record { at = p }
+
+-- the labels of an action's index are recorded before it
+does-labelled : {w : Writing} {xs : List Event} {q : List ℕ} (es : List Entry) (i : ActionIndex) (p : ℕ) → Does w p xs q
+    → Does (write-labelled (labels-per-pos es) (i .index) w) p (labelsAt es i (position p) ++ xs) q
+unfolding write-labelled
+does-labelled es i p d = does-then (does-entries es i p) (does-at d (omega arith))
 
 mutual
   unfolding trace bytes moved write-action tryPayload after count
@@ -631,12 +633,14 @@ mutual
       let n : ℕ = p + length (bytes blank a p) in
       let en : n ≡ p + size a = ap (λ (m : ℕ). p + m) (length-bytes blank a p) in
       let e′ : j ≡ i .index + 1 + count xs = omega arith in
-      let fin : Writing = insert-labels (get j (labels-per-pos es)) in
-      let ins : Writing = insert-labels (get (i .index) (labels-per-pos es)) in
-      does-same (λ u. after-assoc₂ (ins u) (write-action a) (write-each (labels-per-pos es) (i .index + 1) xs) fin)
-      (does-then (does-entries es i p) (does-then (does-at (does-action a (h .0) p) (omega arith))
-      (does-at (does-shift (λ m. traces xs es (nextAction i) (position m)) (λ m. actionsBytes blank xs m) n (p + size a) (p + size a)
-      (does-each xs (h .1) es (nextAction i) j n e′) en en) (omega arith))))
+      let first : Writing = write-labelled (labels-per-pos es) (i .index) (write-action a) in
+      let last : Writing = insert-labels (get j (labels-per-pos es)) in
+      let ys : List Event = traces xs es (nextAction i) (position (p + size a)) in
+      does-as
+      (does-same (λ u. after-assoc (first u) (write-each (labels-per-pos es) (i .index + 1) xs) last)
+      (does-then (does-labelled es i p (does-action a (h .0) p))
+      (does-shift (λ m. traces xs es (nextAction i) (position m)) (λ m. actionsBytes blank xs m) n (p + size a) (p + size a) (does-each xs (h .1) es (nextAction i) j n e′) en en)))
+      (append-assoc (labelsAt es i (position p)) (trace a (position p)) ys) refl
 
   pub does-body : (b : Actions) → WellBody b → (p : ℕ) → Does (write-actions b) p (traceBody b (position p)) (bodyBytes blank b p)
   does-body (body es xs) h p = does-each xs h es firstAction (count xs) p (omega arith)
@@ -648,4 +652,3 @@ mutual
   does-finally : (f : Finally) → WellFinally f → (p : ℕ) → Does (write-finally f) p (traceFinally f (position p)) (finallyBytes blank f p)
   does-finally noFinally h p = does-pass
   does-finally (finally b) h p = does-body b h p
-
