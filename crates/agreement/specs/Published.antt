@@ -16,22 +16,25 @@ use Rattle.layout.specs.Lists.{All}
 use Rattle.layout.specs.OpCode.{SmallOpCode}
 use Rattle.layout.specs.Tree.{PushValue, String, Null, Undefined, Register, Boolean, Float, Integer, Constant, FunctionParam, functionParam, Flat, Small, GotoFrame, GetUrl, StoreRegister, ConstantPool, WaitForFrame, SetTarget, GotoLabel, WaitForFrame2, Push, GetUrl2, GotoFrame2, Owner, With, DefineFunction, DefineFunction2, Jump, If, CatchTarget, Variable, ActionIndex, firstAction, nextAction, Entry, entry, Action, flat, branch, owner, Try, ActionList, empty, more, Actions, body, Catch, noCatch, catch, Finally, noFinally, finally}
 
--- the two known differences: as the specification has them, or as source 000 writes them
+-- the two known differences: both as the specification has them, or both as source 000 writes them
 pub data Order : Type 0 where
   asPublished asWritten : Order
 
--- ---- basic types: a value and its bytes
+-- ---- basic types: a value and its bytes, the low byte first
 
+-- one byte
 pub data UI8 : ℕ → List ℕ → Type 0 where
   ui8 : {n : ℕ} → n < 256 → UI8 n (n ∷ [])
 
+-- two bytes
 pub data UI16 : ℕ → List ℕ → Type 0 where
   ui16 : {n lo hi : ℕ} → lo < 256 → hi < 256 → n ≡ lo + 256 * hi → UI16 n (lo ∷ hi ∷ [])
 
+-- four bytes
 pub data UI32 : ℕ → List ℕ → Type 0 where
   ui32 : {n lo hi : ℕ} {bs cs : List ℕ} → UI16 lo bs → UI16 hi cs → n ≡ lo + 65536 * hi → UI32 n (bs ++ cs)
 
--- two's complement
+-- two bytes with a sign, in two's complement
 pub data SI16 : ℤ → List ℕ → Type 0 where
   positive : {w : ℕ} {bs : List ℕ} → UI16 w bs → w < 32768 → SI16 (pos w) bs
   negative : {w : ℕ} {bs : List ℕ} → UI16 w bs → 32768 ≤ w → SI16 (negsuc (65535 - w)) bs
@@ -41,36 +44,43 @@ pub data DOUBLE : Order → ℕ → List ℕ → Type 0 where
   littleEndian : {n lo hi : ℕ} {bs cs : List ℕ} → UI32 lo bs → UI32 hi cs → n ≡ lo + 4294967296 * hi → DOUBLE asPublished n (bs ++ cs)
   highWordFirst : {n lo hi : ℕ} {bs cs : List ℕ} → UI32 lo bs → UI32 hi cs → n ≡ lo + 4294967296 * hi → DOUBLE asWritten n (cs ++ bs)
 
--- bytes that are not zero, and one that is
+-- bytes of which none is zero
 abbrev pub NonZero : List ℕ → Type 0
 NonZero [] = Unit {0}
 NonZero (x ∷ s) = ((0 < x) × (x < 256)) × NonZero s
 
+-- a string, ended by a zero byte
 pub data STRING : List ℕ → List ℕ → Type 0 where
   string : {s : List ℕ} → NonZero s → STRING s (s ++ 0 ∷ [])
 
--- eight UB[1], the most significant bit first
+-- UB[1], a bit that is set or not
 unfoldable pub bitOf : Bool → ℕ
 bitOf true = 1
 bitOf false = 0
 
+-- eight UB[1], the most significant bit first
 pub data BITS : Bool → Bool → Bool → Bool → Bool → Bool → Bool → Bool → List ℕ → Type 0 where
   eightBits : {a b c d e f g h : Bool}
-      → BITS a b c d e f g h ((128 * bitOf a + 64 * bitOf b + 32 * bitOf c + 16 * bitOf d + 8 * bitOf e + 4 * bitOf f + 2 * bitOf g + bitOf h) ∷ [])
+      → BITS a b c d e f g h
+      ((128 * bitOf a + 64 * bitOf b + 32 * bitOf c + 16 * bitOf d + 8 * bitOf e + 4 * bitOf f + 2 * bitOf g + bitOf h) ∷ [])
 
 -- values one after another
 pub data Each {A : Type 0} (R : A → List ℕ → Type 0) : List A → List ℕ → Type 0 where
   nil : Each R [] []
   cons : {x : A} {xs : List A} {bs cs : List ℕ} → R x bs → Each R xs cs → Each R (x ∷ xs) (bs ++ cs)
 
--- ---- ACTIONRECORDHEADER, and a record whose Length is that of the fields after it
+-- ---- the header of a record
 
+-- ActionCode UI8, and Length UI16 if the code is 0x80 or more; a code under 0x80 has Length 0
 pub data ACTIONRECORDHEADER : ℕ → ℕ → List ℕ → Type 0 where
   codeAlone : {ActionCode : ℕ} → ActionCode < 0x80 → ACTIONRECORDHEADER ActionCode 0 (ActionCode ∷ [])
-  codeAndLength : {ActionCode Length : ℕ} {bs : List ℕ} → 0x80 ≤ ActionCode → ActionCode < 256 → UI16 Length bs → ACTIONRECORDHEADER ActionCode Length (ActionCode ∷ bs)
+  codeAndLength : {ActionCode Length : ℕ} {bs : List ℕ} → 0x80 ≤ ActionCode → ActionCode < 256 → UI16 Length bs
+      → ACTIONRECORDHEADER ActionCode Length (ActionCode ∷ bs)
 
+-- a record without its bodies: the header, then the fields, whose length is the header's Length
 pub data Fields : ℕ → List ℕ → List ℕ → Type 0 where
-  header-and-fields : {ActionCode : ℕ} {hd fields : List ℕ} → ACTIONRECORDHEADER ActionCode (length fields) hd → Fields ActionCode fields (hd ++ fields)
+  header-and-fields : {ActionCode : ℕ} {header fields : List ℕ} → ACTIONRECORDHEADER ActionCode (length fields) header
+      → Fields ActionCode fields (header ++ fields)
 
 -- an action that has no field, and its code
 pub data Simple : Type 0 where
@@ -125,7 +135,7 @@ pub data Member {A : Type 0} (a : A) : List A → Type 0 where
   here : {xs : List A} → Member a (a ∷ xs)
   there : {x : A} {xs : List A} → Member a xs → Member a (x ∷ xs)
 
--- ---- records without a body
+-- ---- records of actions with no body and no branch
 
 -- ActionPush: Type, then the value
 pub data PushData (order : Order) : PushValue → List ℕ → Type 0 where
@@ -139,102 +149,120 @@ pub data PushData (order : Order) : PushValue → List ℕ → Type 0 where
   PushConstant8 : {n : ℕ} {bs : List ℕ} → UI8 n bs → PushData order (Constant n) (8 ∷ bs)
   PushConstant16 : {n : ℕ} {bs : List ℕ} → UI16 n bs → PushData order (Constant n) (9 ∷ bs)
 
--- SendVarsMethod UB[2], Reserved UB[4], LoadTargetFlag UB[1], LoadVariablesFlag UB[1]. Difference: the source writes these from
--- the least significant bit on
-pub data Url2Flags : Order → Bool → Bool → ℕ → List ℕ → Type 0 where
+-- SendVarsMethod UB[2], Reserved UB[4], LoadTargetFlag UB[1], LoadVariablesFlag UB[1]. Difference: the source writes these
+-- from the least significant bit on
+pub data GetURL2Flags : Order → Bool → Bool → ℕ → List ℕ → Type 0 where
   fromMost : {LoadVariablesFlag LoadTargetFlag x y : Bool} {method : ℕ} {bs : List ℕ} → method % 4 ≡ 2 * bitOf x + bitOf y
-      → BITS x y false false false false LoadTargetFlag LoadVariablesFlag bs → Url2Flags asPublished LoadVariablesFlag LoadTargetFlag method bs
+      → BITS x y false false false false LoadTargetFlag LoadVariablesFlag bs → GetURL2Flags asPublished LoadVariablesFlag LoadTargetFlag method bs
   fromLeast : {LoadVariablesFlag LoadTargetFlag x y : Bool} {method : ℕ} {bs : List ℕ} → method % 4 ≡ 2 * bitOf x + bitOf y
-      → BITS LoadVariablesFlag LoadTargetFlag false false false false x y bs → Url2Flags asWritten LoadVariablesFlag LoadTargetFlag method bs
+      → BITS LoadVariablesFlag LoadTargetFlag false false false false x y bs → GetURL2Flags asWritten LoadVariablesFlag LoadTargetFlag method bs
 
+-- what each action says, its fields in order, and the record's bytes
 pub data FlatRecord (order : Order) : Flat → List ℕ → Type 0 where
-  ActionSimple : {action : SmallOpCode} {ActionCode : ℕ} {r : List ℕ} → Member (simple action ActionCode) simples → Fields ActionCode [] r → FlatRecord order (Small action) r
+  ActionSimple : {action : SmallOpCode} {ActionCode : ℕ} {r : List ℕ} → Member (simple action ActionCode) simples → Fields ActionCode [] r
+      → FlatRecord order (Small action) r
   ActionGotoFrame : {Frame : ℕ} {a r : List ℕ} → UI16 Frame a → Fields 0x81 a r → FlatRecord order (GotoFrame Frame) r
-  ActionGetURL : {UrlString TargetString a b r : List ℕ} → STRING UrlString a → STRING TargetString b → Fields 0x83 (a ++ b) r → FlatRecord order (GetUrl UrlString TargetString) r
-  ActionStoreRegister : {RegisterNumber : ℕ} {a r : List ℕ} → UI8 RegisterNumber a → Fields 0x87 a r → FlatRecord order (StoreRegister RegisterNumber) r
+  ActionGetURL : {UrlString TargetString a b r : List ℕ} → STRING UrlString a → STRING TargetString b → Fields 0x83 (a ++ b) r
+      → FlatRecord order (GetUrl UrlString TargetString) r
+  ActionStoreRegister : {RegisterNumber : ℕ} {a r : List ℕ} → UI8 RegisterNumber a → Fields 0x87 a r
+      → FlatRecord order (StoreRegister RegisterNumber) r
   ActionConstantPool : {constants : List (List ℕ)} {a b r : List ℕ} → UI16 (length constants) a → Each STRING constants b
       → Fields 0x88 (a ++ b) r → FlatRecord order (ConstantPool constants) r
-  ActionWaitForFrame : {Frame SkipCount : ℕ} {a b r : List ℕ} → UI16 Frame a → UI8 SkipCount b → Fields 0x8A (a ++ b) r → FlatRecord order (WaitForFrame Frame SkipCount) r
+  ActionWaitForFrame : {Frame SkipCount : ℕ} {a b r : List ℕ} → UI16 Frame a → UI8 SkipCount b → Fields 0x8A (a ++ b) r
+      → FlatRecord order (WaitForFrame Frame SkipCount) r
   ActionSetTarget : {TargetName a r : List ℕ} → STRING TargetName a → Fields 0x8B a r → FlatRecord order (SetTarget TargetName) r
   ActionGoToLabel : {Label a r : List ℕ} → STRING Label a → Fields 0x8C a r → FlatRecord order (GotoLabel Label) r
   ActionWaitForFrame2 : {SkipCount : ℕ} {a r : List ℕ} → UI8 SkipCount a → Fields 0x8D a r → FlatRecord order (WaitForFrame2 SkipCount) r
   ActionPush : {vs : List PushValue} {a r : List ℕ} → Each (PushData order) vs a → Fields 0x96 a r → FlatRecord order (Push vs) r
-  ActionGetURL2 : {LoadVariablesFlag LoadTargetFlag : Bool} {method : ℕ} {a r : List ℕ} → Url2Flags order LoadVariablesFlag LoadTargetFlag method a
+  ActionGetURL2 : {LoadVariablesFlag LoadTargetFlag : Bool} {method : ℕ} {a r : List ℕ} → GetURL2Flags order LoadVariablesFlag LoadTargetFlag method a
       → Fields 0x9A a r → FlatRecord order (GetUrl2 LoadVariablesFlag LoadTargetFlag method) r
   -- Reserved UB[6], SceneBiasFlag UB[1], Play flag UB[1], SceneBias if SceneBiasFlag = 1
-  ActionGotoFrame2 : {PlayFlag : Bool} {a r : List ℕ} → BITS false false false false false false false PlayFlag a → Fields 0x9F a r → FlatRecord order (GotoFrame2 0 PlayFlag) r
-  ActionGotoFrame2Bias : {SceneBias : ℕ} {PlayFlag : Bool} {a b r : List ℕ} → BITS false false false false false false true PlayFlag a → UI16 SceneBias b
-      → Fields 0x9F (a ++ b) r → FlatRecord order (GotoFrame2 SceneBias PlayFlag) r
+  ActionGotoFrame2 : {PlayFlag : Bool} {a r : List ℕ} → BITS false false false false false false false PlayFlag a → Fields 0x9F a r
+      → FlatRecord order (GotoFrame2 0 PlayFlag) r
+  ActionGotoFrame2Bias : {SceneBias : ℕ} {PlayFlag : Bool} {a b r : List ℕ} → BITS false false false false false false true PlayFlag a
+      → UI16 SceneBias b → Fields 0x9F (a ++ b) r → FlatRecord order (GotoFrame2 SceneBias PlayFlag) r
 
--- ---- branches: from the position after the record to the label's position; 0 where it has none
+-- ---- branches
 
+-- BranchOffset, from the position after the record to the label's place; 0 where it has none
 pub data Lands : Option ℕ → ℕ → ℤ → Type 0 where
   reaches : {target after : ℕ} {BranchOffset : ℤ} → pos after +ℤ BranchOffset ≡ pos target → Lands (some target) after BranchOffset
   unlabelled : {after : ℕ} → Lands none after (pos 0)
 
--- ---- records with bodies
+-- ---- the fields of records with bodies
 
 -- REGISTERPARAM: Register, ParamName
 pub data REGISTERPARAM : FunctionParam → List ℕ → Type 0 where
-  registerParam : {register : ℕ} {ParamName a b : List ℕ} → UI8 register a → STRING ParamName b → REGISTERPARAM (functionParam register ParamName) (a ++ b)
+  registerParam : {register : ℕ} {ParamName a b : List ℕ} → UI8 register a → STRING ParamName b
+      → REGISTERPARAM (functionParam register ParamName) (a ++ b)
 
 -- PreloadParentFlag PreloadRootFlag SuppressSuperFlag PreloadSuperFlag SuppressArgumentsFlag PreloadArgumentsFlag
--- SuppressThisFlag PreloadThisFlag, Reserved UB[7], PreloadGlobalFlag; the number has PreloadThis at bit 0, SuppressThis at 1, ..
+-- SuppressThisFlag PreloadThisFlag, Reserved UB[7], PreloadGlobalFlag; the tree's number has PreloadThis at bit 0, and so on
+-- in document 01's order
 pub data FunctionFlags : ℕ → List ℕ → Type 0 where
   functionFlags : {PreloadParent PreloadRoot SuppressSuper PreloadSuper SuppressArguments PreloadArguments SuppressThis PreloadThis PreloadGlobal : Bool}
       {n : ℕ} {a b : List ℕ}
       → BITS PreloadParent PreloadRoot SuppressSuper PreloadSuper SuppressArguments PreloadArguments SuppressThis PreloadThis a
       → BITS false false false false false false false PreloadGlobal b
-      → n ≡ bitOf PreloadThis + 2 * bitOf SuppressThis + 4 * bitOf PreloadArguments + 8 * bitOf SuppressArguments + 16 * bitOf PreloadSuper + 32 * bitOf SuppressSuper
-      + 64 * bitOf PreloadRoot + 128 * bitOf PreloadParent + 256 * bitOf PreloadGlobal
+      → n ≡ bitOf PreloadThis + 2 * bitOf SuppressThis + 4 * bitOf PreloadArguments + 8 * bitOf SuppressArguments
+      + 16 * bitOf PreloadSuper + 32 * bitOf SuppressSuper + 64 * bitOf PreloadRoot + 128 * bitOf PreloadParent + 256 * bitOf PreloadGlobal
       → FunctionFlags n (a ++ b)
 
--- what stands before a body's size
+-- the ActionCode, and the fields before the body's size
 pub data OwnerFields : Owner → ℕ → List ℕ → Type 0 where
   ActionWith : OwnerFields With 0x94 []
-  ActionDefineFunction : {FunctionName : List ℕ} {paramsBytes : List (List ℕ)} {a b c : List ℕ} → STRING FunctionName a → UI16 (length paramsBytes) b → Each STRING paramsBytes c
-      → OwnerFields (DefineFunction FunctionName paramsBytes) 0x9B (a ++ (b ++ c))
-  ActionDefineFunction2 : {FunctionName : List ℕ} {Parameters : List FunctionParam} {RegisterCount flags : ℕ} {a b c d e : List ℕ} → STRING FunctionName a
-      → UI16 (length Parameters) b → UI8 RegisterCount c → FunctionFlags flags d → Each REGISTERPARAM Parameters e
+  ActionDefineFunction : {FunctionName : List ℕ} {params : List (List ℕ)} {a b c : List ℕ}
+      → STRING FunctionName a → UI16 (length params) b → Each STRING params c
+      → OwnerFields (DefineFunction FunctionName params) 0x9B (a ++ (b ++ c))
+  ActionDefineFunction2 : {FunctionName : List ℕ} {Parameters : List FunctionParam} {RegisterCount flags : ℕ} {a b c d e : List ℕ}
+      → STRING FunctionName a → UI16 (length Parameters) b → UI8 RegisterCount c → FunctionFlags flags d → Each REGISTERPARAM Parameters e
       → OwnerFields (DefineFunction2 FunctionName Parameters RegisterCount flags) 0x8E (a ++ (b ++ (c ++ (d ++ e))))
 
 -- CatchInRegisterFlag, CatchBlockFlag, and the CatchName or CatchRegister; without a catch block the name says nothing
 pub data CatchFields : Catch → Bool → Bool → List ℕ → Type 0 where
   NoCatch : {CatchName a : List ℕ} → STRING CatchName a → CatchFields noCatch false false a
-  CatchName : {CatchName a : List ℕ} {b : Actions} → STRING CatchName a → CatchFields (catch (Variable CatchName) b) false true a
-  CatchRegister : {CatchRegister : ℕ} {a : List ℕ} {b : Actions} → UI8 CatchRegister a → CatchFields (catch (Register CatchRegister) b) true true a
+  CatchName : {CatchName a : List ℕ} {b : Actions} → STRING CatchName a
+      → CatchFields (catch (Variable CatchName) b) false true a
+  CatchRegister : {CatchRegister : ℕ} {a : List ℕ} {b : Actions} → UI8 CatchRegister a
+      → CatchFields (catch (Register CatchRegister) b) true true a
 
+-- FinallyBlockFlag
 pub data FinallyFlag : Finally → Bool → Type 0 where
   NoFinally : FinallyFlag noFinally false
   FinallyBlock : {b : Actions} → FinallyFlag (finally b) true
 
--- a label and a position
+-- ---- records with branches and bodies
+
+-- labels and the places where they are met, in order
 abbrev pub Places : Type 0
 Places = List (ℕ × ℕ)
 
--- the labels of the entries with that index, at a position
 unfoldable pub placed : Bool → ℕ → ℕ → Places
 placed true l p = (l, p) ∷ []
 placed false l p = []
 
+-- the labels of the entries with an action index, each at a place
 unfoldable pub labelsHere : List Entry → ActionIndex → ℕ → Places
 labelsHere [] i p = []
 labelsHere (entry l j ∷ es) i p = placed (eqb (i .index) (j .index)) l p ++ labelsHere es i p
 
--- `final l` is label l's position in the block. Each relation has: the position of the first byte, what is written, its bytes, and
--- the labels met, in order, each at the position of a record's first byte or of the end of a body
+-- `final l` is label l's place in the block. Each relation has the position of the first byte, what is written, its bytes, and
+-- the labels met in it. Positions are counted by the bytes themselves
 module _ (order : Order) (final : ℕ → Option ℕ) where
   mutual
+    -- one action, with its bodies
     pub data ActionRecord : ℕ → Action → List ℕ → Places → Type 0 where
       ActionFlat : {p : ℕ} {f : Flat} {r : List ℕ} → FlatRecord order f r → ActionRecord p (flat f) r []
-      ActionJump : {p l : ℕ} {BranchOffset : ℤ} {a r : List ℕ} → SI16 BranchOffset a → Fields 0x99 a r → Lands (final l) (p + length r) BranchOffset
-          → ActionRecord p (branch Jump l) r []
-      ActionIf : {p l : ℕ} {BranchOffset : ℤ} {a r : List ℕ} → SI16 BranchOffset a → Fields 0x9D a r → Lands (final l) (p + length r) BranchOffset
-          → ActionRecord p (branch If l) r []
-      -- the size is the length of the code that follows
-      ActionBlock : {p ActionCode : ℕ} {o : Owner} {b : Actions} {a s r code q : List ℕ} {ls : Places} → OwnerFields o ActionCode a → UI16 (length code) s
+      ActionJump : {p l : ℕ} {BranchOffset : ℤ} {a r : List ℕ} → SI16 BranchOffset a
+          → Fields 0x99 a r → Lands (final l) (p + length r) BranchOffset → ActionRecord p (branch Jump l) r []
+      ActionIf : {p l : ℕ} {BranchOffset : ℤ} {a r : List ℕ} → SI16 BranchOffset a
+          → Fields 0x9D a r → Lands (final l) (p + length r) BranchOffset → ActionRecord p (branch If l) r []
+      -- the size is the length of the code that follows the record
+      ActionBlock : {p ActionCode : ℕ} {o : Owner} {b : Actions} {a s r code q : List ℕ} {ls : Places}
+          → OwnerFields o ActionCode a → UI16 (length code) s
           → Fields ActionCode (a ++ s) r → BodyRecords (p + length r) b code ls → q ≡ r ++ code → ActionRecord p (owner o b) q ls
-      -- Reserved UB[5], CatchInRegisterFlag, FinallyBlockFlag, CatchBlockFlag; TrySize, CatchSize, FinallySize; CatchName or CatchRegister
+      -- Reserved UB[5], CatchInRegisterFlag, FinallyBlockFlag, CatchBlockFlag; TrySize, CatchSize, FinallySize; CatchName or
+      -- CatchRegister; TryBody, CatchBody, FinallyBody
       ActionTry : {p : ℕ} {b : Actions} {c : Catch} {f : Finally} {CatchInRegisterFlag FinallyBlockFlag CatchBlockFlag : Bool}
           {flags ts cs fs name r tryBody catchBody finallyBody q : List ℕ} {ls ms ns ks : Places}
           → BITS false false false false false CatchInRegisterFlag FinallyBlockFlag CatchBlockFlag flags
@@ -246,15 +274,19 @@ module _ (order : Order) (final : ℕ → Option ℕ) where
           → FinallyRecords (p + length r + length tryBody + length catchBody) f finallyBody ns
           → q ≡ r ++ (tryBody ++ (catchBody ++ finallyBody)) → ks ≡ ls ++ (ms ++ ns) → ActionRecord p (Try b c f) q ks
 
-    -- from action index i of a body with these label entries
+    -- the actions of a body from an index on, by the body's label entries: labels are met before an action, or at the end
     pub data ActionRecords : ℕ → ActionList → List Entry → ActionIndex → List ℕ → Places → Type 0 where
       end : {p : ℕ} {i : ActionIndex} {es : List Entry} {ks : Places} → ks ≡ labelsHere es i p → ActionRecords p empty es i [] ks
-      next : {p : ℕ} {i : ActionIndex} {es : List Entry} {a : Action} {xs : ActionList} {r rs q : List ℕ} {ls ms ks : Places} → ActionRecord p a r ls
-          → ActionRecords (p + length r) xs es (nextAction i) rs ms → q ≡ r ++ rs → ks ≡ labelsHere es i p ++ (ls ++ ms) → ActionRecords p (more a xs) es i q ks
+      next : {p : ℕ} {i : ActionIndex} {es : List Entry} {a : Action} {xs : ActionList} {r rs q : List ℕ} {ls ms ks : Places}
+          → ActionRecord p a r ls → ActionRecords (p + length r) xs es (nextAction i) rs ms
+          → q ≡ r ++ rs → ks ≡ labelsHere es i p ++ (ls ++ ms) → ActionRecords p (more a xs) es i q ks
 
+    -- a body
     pub data BodyRecords : ℕ → Actions → List ℕ → Places → Type 0 where
-      code : {p : ℕ} {es : List Entry} {xs : ActionList} {r : List ℕ} {ls : Places} → ActionRecords p xs es firstAction r ls → BodyRecords p (body es xs) r ls
+      code : {p : ℕ} {es : List Entry} {xs : ActionList} {r : List ℕ} {ls : Places} → ActionRecords p xs es firstAction r ls
+          → BodyRecords p (body es xs) r ls
 
+    -- a CatchBody or a FinallyBody; an absent one has no bytes
     pub data CatchRecords : ℕ → Catch → List ℕ → Places → Type 0 where
       noCatchBody : {p : ℕ} → CatchRecords p noCatch [] []
       CatchBody : {p : ℕ} {t : CatchTarget} {b : Actions} {r : List ℕ} {ls : Places} → BodyRecords p b r ls → CatchRecords p (catch t b) r ls
@@ -263,24 +295,27 @@ module _ (order : Order) (final : ℕ → Option ℕ) where
       noFinallyBody : {p : ℕ} → FinallyRecords p noFinally [] []
       FinallyBody : {p : ℕ} {b : Actions} {r : List ℕ} {ls : Places} → BodyRecords p b r ls → FinallyRecords p (finally b) r ls
 
--- a label's last position
+-- ---- a block
+
+-- the later place, if there is one
 unfoldable pub placeIf : Bool → ℕ → Option ℕ → Option ℕ
 placeIf t p (some q) = some q
 placeIf true p none = some p
 placeIf false p none = none
 
+-- a label's last place, if it has one
 unfoldable pub lastPlace : Places → ℕ → Option ℕ
 lastPlace [] l = none
 lastPlace (x ∷ ls) l = placeIf (eqb l (x .0)) (x .1) (lastPlace ls l)
 
--- a block: the records of the main body from position 0, each branch by the labels that these very records place, and ActionEndFlag = 0
+-- the records of the main body from position 0, each branch by the labels that these very records place; then ActionEndFlag
 pub record Block (order : Order) (t : Actions) (q : List ℕ) : Type 0 where
   pub actions : List ℕ
   pub labels : Places
   pub records : BodyRecords order (lastPlace labels) 0 t actions labels
   pub is-ended : q ≡ actions ++ 0 ∷ []
 
--- where records start and bodies end: at these positions alone labels are placed, so that a branch lands nowhere else
+-- the positions where records start and bodies end
 module _ (order : Order) (final : ℕ → Option ℕ) where
   unfoldable mutual
     pub actionStarts : {p : ℕ} {a : Action} {r : List ℕ} {ls : Places} → ActionRecord order final p a r ls → List ℕ
@@ -290,7 +325,8 @@ module _ (order : Order) (final : ℕ → Option ℕ) where
     actionStarts (ActionBlock d u f b e) = bodyStarts b
     actionStarts (ActionTry g s t u c f r x y z e k) = bodyStarts x ++ (catchStarts y ++ finallyStarts z)
 
-    pub actionsStarts : {p : ℕ} {i : ActionIndex} {xs : ActionList} {es : List Entry} {r : List ℕ} {ls : Places} → ActionRecords order final p xs es i r ls → List ℕ
+    pub actionsStarts : {p : ℕ} {i : ActionIndex} {xs : ActionList} {es : List Entry} {r : List ℕ} {ls : Places}
+        → ActionRecords order final p xs es i r ls → List ℕ
     actionsStarts (end {p = p} k) = p ∷ []
     actionsStarts (next {p = p} a b e k) = p ∷ (actionStarts a ++ actionsStarts b)
 
@@ -305,7 +341,7 @@ module _ (order : Order) (final : ℕ → Option ℕ) where
     finallyStarts noFinallyBody = []
     finallyStarts (FinallyBody r) = bodyStarts r
 
--- ---- a tree without GetUrl2 and without a pushed double, which no known difference touches
+-- ---- a tree without GetUrl2 and without a pushed double: neither known difference touches it
 
 abbrev pub ValueUndisputed : PushValue → Type 0
 ValueUndisputed (String s) = Unit {0}

@@ -23,9 +23,9 @@ use Rattle.layout.specs.Lengths.{length-le16, length-tryPayload, framed-long, f
 use Rattle.laws.specs.Fits.{Bytes, Clean, ValueFits, ParamFits, Listed, FlatFits, OwnerFits, NameFits, Fits, ActionsFit, BodyFits, CatchFits, FinallyFits}
 use Rattle.laws.specs.Packed.{Written, is-written, tree-fits}
 use Rattle.laws.specs.Demands.{near-both}
-use Rattle.agreement.specs.Published.{Order, asPublished, asWritten, ui8, UI16, ui16, UI32, ui32, SI16, positive, negative, DOUBLE, littleEndian, highWordFirst, NonZero, STRING, string, bitOf, BITS, eightBits, Each, nil, cons, codeAlone, codeAndLength, Fields, header-and-fields, Simple, simple, simples, Member, here, there, PushData, PushString, PushNull, PushUndefined, PushRegister, PushBoolean, PushDouble, PushInteger, PushConstant8, PushConstant16, Url2Flags, fromMost, fromLeast, FlatRecord, ActionSimple, ActionGotoFrame, ActionGetURL, ActionStoreRegister, ActionConstantPool, ActionWaitForFrame, ActionSetTarget, ActionGoToLabel, ActionWaitForFrame2, ActionPush, ActionGetURL2, ActionGotoFrame2, ActionGotoFrame2Bias, Lands, reaches, unlabelled, REGISTERPARAM, registerParam, FunctionFlags, functionFlags, OwnerFields, ActionWith, ActionDefineFunction, ActionDefineFunction2, CatchFields, NoCatch, CatchName, CatchRegister, FinallyFlag, NoFinally, FinallyBlock, Places, placed, labelsHere, ActionRecord, ActionFlat, ActionJump, ActionIf, ActionBlock, ActionTry, ActionRecords, end, next, BodyRecords, code, CatchRecords, noCatchBody, CatchBody, FinallyRecords, noFinallyBody, FinallyBody, placeIf, lastPlace, Block, actionStarts, actionsStarts, bodyStarts, catchStarts, finallyStarts, ValueUndisputed, FlatUndisputed, Undisputed, ActionsUndisputed, BodyUndisputed, CatchUndisputed, FinallyUndisputed}
+use Rattle.agreement.specs.Published.{Order, asPublished, asWritten, ui8, UI16, ui16, UI32, ui32, SI16, positive, negative, DOUBLE, littleEndian, highWordFirst, NonZero, STRING, string, bitOf, BITS, eightBits, Each, nil, cons, codeAlone, codeAndLength, Fields, header-and-fields, Simple, simple, simples, Member, here, there, PushData, PushString, PushNull, PushUndefined, PushRegister, PushBoolean, PushDouble, PushInteger, PushConstant8, PushConstant16, GetURL2Flags, fromMost, fromLeast, FlatRecord, ActionSimple, ActionGotoFrame, ActionGetURL, ActionStoreRegister, ActionConstantPool, ActionWaitForFrame, ActionSetTarget, ActionGoToLabel, ActionWaitForFrame2, ActionPush, ActionGetURL2, ActionGotoFrame2, ActionGotoFrame2Bias, Lands, reaches, unlabelled, REGISTERPARAM, registerParam, FunctionFlags, functionFlags, OwnerFields, ActionWith, ActionDefineFunction, ActionDefineFunction2, CatchFields, NoCatch, CatchName, CatchRegister, FinallyFlag, NoFinally, FinallyBlock, Places, placed, labelsHere, ActionRecord, ActionFlat, ActionJump, ActionIf, ActionBlock, ActionTry, ActionRecords, end, next, BodyRecords, code, CatchRecords, noCatchBody, CatchBody, FinallyRecords, noFinallyBody, FinallyBody, placeIf, lastPlace, Block, actionStarts, actionsStarts, bodyStarts, catchStarts, finallyStarts, ValueUndisputed, FlatUndisputed, Undisputed, ActionsUndisputed, BodyUndisputed, CatchUndisputed, FinallyUndisputed}
 
--- ---- basic types
+-- ---- the definitions' numbers, strings and bits are of the published types
 
 is-ui16 : (n : ℕ) → n < 65536 → UI16 n (le16 n)
 unfolding le16
@@ -33,7 +33,9 @@ is-ui16 n h = ui16 {n = n} {lo = n % 256} {hi = n / 256 % 256} (omega arith) (om
 
 is-ui32 : (n : ℕ) → n < 4294967296 → UI32 n (le32 n)
 unfolding le32
-is-ui32 n h = ui32 {n = n} {lo = n % 65536} {hi = n / 65536 % 65536} (is-ui16 (n % 65536) (omega arith)) (is-ui16 (n / 65536 % 65536) (omega arith)) (omega arith)
+is-ui32 n h =
+    ui32 {n = n} {lo = n % 65536} {hi = n / 65536 % 65536}
+    (is-ui16 (n % 65536) (omega arith)) (is-ui16 (n / 65536 % 65536) (omega arith)) (omega arith)
 
 ui16-under : {n : ℕ} {bs : List ℕ} → UI16 n bs → n < 65536
 ui16-under (ui16 a b e) = omega arith
@@ -68,13 +70,17 @@ unfolding bitOf
 bit-under true = omega arith
 bit-under false = omega arith
 
+-- eight bits by the number they make
 bits-as : (a b c d e f g h : Bool) (n : ℕ)
-    → 128 * bitOf a + 64 * bitOf b + 32 * bitOf c + 16 * bitOf d + 8 * bitOf e + 4 * bitOf f + 2 * bitOf g + bitOf h ≡ n → BITS a b c d e f g h (n ∷ [])
+    → 128 * bitOf a + 64 * bitOf b + 32 * bitOf c + 16 * bitOf d + 8 * bitOf e + 4 * bitOf f + 2 * bitOf g + bitOf h ≡ n
+    → BITS a b c d e f g h (n ∷ [])
 bits-as a b c d e f g h n e′ = subst (λ (m : ℕ). BITS a b c d e f g h (m ∷ [])) e′ eightBits
 
 -- ---- headers
 
-is-fields : (op : OpCode) (q : List ℕ) → ltb (byte op) 128 ≡ false → ltb (byte op) 256 ≡ true → length q < 65536 → Fields (byte op) q (framed op q)
+-- a header's length is that of the payload
+is-fields : (op : OpCode) (q : List ℕ) → ltb (byte op) 128 ≡ false → ltb (byte op) 256 ≡ true → length q < 65536
+    → Fields (byte op) q (framed op q)
 is-fields op q h k l =
     rw (framed-long op q h) (header-and-fields (codeAndLength (ltb-false (byte op) 128 h) (ltb-true (byte op) 256 k) (is-ui16 (length q) l)))
 
@@ -169,12 +175,13 @@ module _ (op : SmallOpCode) (listed : Listed (OpCode.Small op)) where
       go true h = unfold byte in rw (framed-short (OpCode.Small op) [] h) (header-and-fields (codeAlone (ltb-true (smallByte op) 128 h)))
       go false h = unfold byte in is-fields (OpCode.Small op) [] h code-under (omega arith)
 
--- ---- records without a body
+-- ---- records of actions with no body and no branch
 
 is-double : (w : ℕ) → w < 18446744073709551616 → DOUBLE asWritten w (doubleBytes w)
 unfolding doubleBytes
 is-double w h =
-    highWordFirst {n = w} {lo = w % 4294967296} {hi = w / 4294967296} (is-ui32 (w % 4294967296) (omega arith)) (is-ui32 (w / 4294967296) (omega arith)) (omega arith)
+    highWordFirst {n = w} {lo = w % 4294967296} {hi = w / 4294967296}
+    (is-ui32 (w % 4294967296) (omega arith)) (is-ui32 (w / 4294967296) (omega arith)) (omega arith)
 
 is-constant : (n : ℕ) (t : Bool) → ltb n 256 ≡ t → n < 65536 → PushData asWritten (Constant n) (constantBytes t n)
 unfolding constantBytes
@@ -197,7 +204,7 @@ unfolding pushesBytes
 each-value [] h = nil
 each-value (v ∷ vs) h = cons (is-value v (h .0)) (each-value vs (h .1))
 
--- a number under 2 is a bit, and one under 4 is two
+-- a number under 2 is a bit
 bit-of : (x : ℕ) → x < 2 → bitOf (eqb x 1) ≡ x
 bit-of x h = go (eqb x 1) refl
   where
@@ -210,30 +217,36 @@ bit-of x h = go (eqb x 1) refl
     go true e = unfold bitOf in sym (eqb-true x 1 e)
     go false e = unfold bitOf in zero-of x h (eqb-false x 1 e)
 
-is-url2 : (v t : Bool) (m : ℕ) → Url2Flags asWritten v t m (getUrl2Bits v t m ∷ [])
+is-url2 : (v t : Bool) (m : ℕ) → GetURL2Flags asWritten v t m (getUrl2Bits v t m ∷ [])
 unfolding getUrl2Bits
 is-url2 v t m =
     let x : Bool = eqb (m % 4 / 2) 1 in
     let y : Bool = eqb (m % 2) 1 in
     let ex : bitOf x ≡ m % 4 / 2 = bit-of (m % 4 / 2) (omega arith) in
     let ey : bitOf y ≡ m % 2 = bit-of (m % 2) (omega arith) in
-    fromLeast {x = x} {y = y} {method = m} (omega arith) (bits-as v t false false false false x y (m % 4 + 64 * bit t + 128 * bit v) (omega (arith, bit-is v, bit-is t, bit-false)))
+    fromLeast {x = x} {y = y} {method = m} (omega arith)
+    (bits-as v t false false false false x y (m % 4 + 64 * bit t + 128 * bit v) (omega (arith, bit-is v, bit-is t, bit-false)))
 
 is-frame2 : (n : ℕ) (p : Bool) → n < 65536 → length (gotoFrame2Bytes n (bit p)) < 65536
     → FlatRecord asWritten (GotoFrame2 n p) (framed OpCode.GotoFrame2 (gotoFrame2Bytes n (bit p)))
 unfolding gotoFrame2Bytes byte
-is-frame2 zero p h l = ActionGotoFrame2 (bits-as false false false false false false false p (bit p) (unfold bitOf in omega (arith, bit-is p))) (is-fields OpCode.GotoFrame2 (bit p ∷ []) refl refl l)
+is-frame2 zero p h l =
+    ActionGotoFrame2 (bits-as false false false false false false false p (bit p) (unfold bitOf in omega (arith, bit-is p)))
+    (is-fields OpCode.GotoFrame2 (bit p ∷ []) refl refl l)
 is-frame2 (suc n) p h l =
-    ActionGotoFrame2Bias {SceneBias = suc n} (bits-as false false false false false false true p (bit p + 2) (unfold bitOf in omega (arith, bit-is p))) (is-ui16 (suc n) h)
-    (is-fields OpCode.GotoFrame2 ((bit p + 2) ∷ le16 (suc n)) refl refl l)
+    ActionGotoFrame2Bias {SceneBias = suc n} (bits-as false false false false false false true p (bit p + 2) (unfold bitOf in omega (arith, bit-is p)))
+    (is-ui16 (suc n) h) (is-fields OpCode.GotoFrame2 ((bit p + 2) ∷ le16 (suc n)) refl refl l)
 
+-- each has the record of its table
 is-flat : (f : Flat) → FlatFits f → length (payload f) < 65536 → FlatRecord asWritten f (framed (opcode f) (payload f))
 unfolding opcode payload byte
 is-flat (Small op) h l = ActionSimple (is-member op h) (is-simple op h)
 is-flat (GotoFrame n) h l = ActionGotoFrame (is-ui16 n h) (is-fields OpCode.GotoFrame (le16 n) refl refl l)
 is-flat (GetUrl u t) h l = ActionGetURL (is-string u (h .0)) (is-string t (h .1)) (is-fields OpCode.GetUrl (zeroEnded u ++ zeroEnded t) refl refl l)
 is-flat (StoreRegister r) h l = ActionStoreRegister (ui8 h) (is-fields OpCode.StoreRegister (r ∷ []) refl refl l)
-is-flat (ConstantPool ss) h l = ActionConstantPool (is-ui16 (length ss) (h .0)) (each-string ss (h .1)) (is-fields OpCode.ConstantPool (le16 (length ss) ++ stringsBytes ss) refl refl l)
+is-flat (ConstantPool ss) h l =
+    ActionConstantPool (is-ui16 (length ss) (h .0)) (each-string ss (h .1))
+    (is-fields OpCode.ConstantPool (le16 (length ss) ++ stringsBytes ss) refl refl l)
 is-flat (WaitForFrame n k) h l = ActionWaitForFrame (is-ui16 n (h .0)) (ui8 (h .1)) (is-fields OpCode.WaitForFrame (le16 n ++ k ∷ []) refl refl l)
 is-flat (SetTarget s) h l = ActionSetTarget (is-string s h) (is-fields OpCode.SetTarget (zeroEnded s) refl refl l)
 is-flat (GotoLabel s) h l = ActionGoToLabel (is-string s h) (is-fields OpCode.GotoLabel (zeroEnded s) refl refl l)
@@ -242,65 +255,68 @@ is-flat (Push vs) h l = ActionPush (each-value vs h) (is-fields OpCode.Push (pus
 is-flat (GetUrl2 v t m) h l = ActionGetURL2 (is-url2 v t m) (is-fields OpCode.GetUrl2 (getUrl2Bits v t m ∷ []) refl refl l)
 is-flat (GotoFrame2 n p) h l = is-frame2 n p h l
 
--- ---- heads
-
-is-param : (x : FunctionParam) → ParamFits x → REGISTERPARAM x (paramsBytes (x ∷ []))
-unfolding paramsBytes
-is-param (functionParam r s) h = rw (append-nil (zeroEnded s)) (registerParam (ui8 (h .0)) (is-string s (h .1)))
-
-params-cons : (x : FunctionParam) (ps : List FunctionParam) → paramsBytes (x ∷ []) ++ paramsBytes ps ≡ paramsBytes (x ∷ ps)
-unfolding paramsBytes
-params-cons (functionParam r s) ps = ap (λ (l : List ℕ). r ∷ (l ++ paramsBytes ps)) (append-nil (zeroEnded s))
+-- ---- the fields of actions that own a body
 
 each-param : (ps : List FunctionParam) → All ParamFits ps → Each REGISTERPARAM ps (paramsBytes ps)
-each-param [] h = unfold paramsBytes in nil
-each-param (x ∷ ps) h = subst (λ (q : List ℕ). Each REGISTERPARAM (x ∷ ps) q) (params-cons x ps) (cons (is-param x (h .0)) (each-param ps (h .1)))
+unfolding paramsBytes
+each-param [] h = nil
+each-param (functionParam r s ∷ ps) h = cons (registerParam (ui8 (h .0 .0)) (is-string s (h .0 .1))) (each-param ps (h .1))
 
-low-byte : (f f₁ f₂ f₃ f₄ f₅ f₆ f₇ f₈ b₀ b₁ b₂ b₃ b₄ b₅ b₆ b₇ : ℕ) → f ≡ b₀ + 2 * f₁ → f₁ ≡ b₁ + 2 * f₂ → f₂ ≡ b₂ + 2 * f₃ → f₃ ≡ b₃ + 2 * f₄ → f₄ ≡ b₄ + 2 * f₅
+-- the low eight bits of a number, and the rest
+low-byte : (f f₁ f₂ f₃ f₄ f₅ f₆ f₇ f₈ b₀ b₁ b₂ b₃ b₄ b₅ b₆ b₇ : ℕ)
+    → f ≡ b₀ + 2 * f₁ → f₁ ≡ b₁ + 2 * f₂ → f₂ ≡ b₂ + 2 * f₃ → f₃ ≡ b₃ + 2 * f₄ → f₄ ≡ b₄ + 2 * f₅
     → f₅ ≡ b₅ + 2 * f₆ → f₆ ≡ b₆ + 2 * f₇ → f₇ ≡ b₇ + 2 * f₈
     → f ≡ b₀ + 2 * b₁ + 4 * b₂ + 8 * b₃ + 16 * b₄ + 32 * b₅ + 64 * b₆ + 128 * b₇ + 256 * f₈
 low-byte f f₁ f₂ f₃ f₄ f₅ f₆ f₇ f₈ b₀ b₁ b₂ b₃ b₄ b₅ b₆ b₇ h₀ h₁ h₂ h₃ h₄ h₅ h₆ h₇ = omega arith
 
-one-bit : (b : Bool) (n : ℕ) → bitOf b ≡ n → 128 * bitOf false + 64 * bitOf false + 32 * bitOf false + 16 * bitOf false + 8 * bitOf false + 4 * bitOf false + 2 * bitOf false + bitOf b ≡ n
+one-bit : (b : Bool) (n : ℕ) → bitOf b ≡ n
+    → 128 * bitOf false + 64 * bitOf false + 32 * bitOf false + 16 * bitOf false + 8 * bitOf false + 4 * bitOf false + 2 * bitOf false + bitOf b ≡ n
 one-bit b n h = let z : bitOf false ≡ 0 = (unfold bitOf in refl) in omega arith
 
 module _ (f : ℕ) (h : f < 512) where
-  abbrev fb : ℕ → Bool
-  fb w = eqb (f / w % 2) 1
+  -- the flag of a weight
+  abbrev flag : ℕ → Bool
+  flag w = eqb (f / w % 2) 1
 
-  fb-is : (w : ℕ) → bitOf (fb w) ≡ f / w % 2
-  fb-is w = bit-of (f / w % 2) (omega arith)
+  flag-is : (w : ℕ) → bitOf (flag w) ≡ f / w % 2
+  flag-is w = bit-of (f / w % 2) (omega arith)
 
-  whole-flags : f ≡ bitOf (fb 1) + 2 * bitOf (fb 2) + 4 * bitOf (fb 4) + 8 * bitOf (fb 8) + 16 * bitOf (fb 16) + 32 * bitOf (fb 32) + 64 * bitOf (fb 64) + 128 * bitOf (fb 128) + 256 * bitOf (fb 256)
+  whole-flags : f ≡ bitOf (flag 1) + 2 * bitOf (flag 2) + 4 * bitOf (flag 4) + 8 * bitOf (flag 8) + 16 * bitOf (flag 16) + 32 * bitOf (flag 32)
+      + 64 * bitOf (flag 64) + 128 * bitOf (flag 128) + 256 * bitOf (flag 256)
   whole-flags =
-      rw (fb-is 1, fb-is 2, fb-is 4, fb-is 8, fb-is 16, fb-is 32, fb-is 64, fb-is 128, fb-is 256)
-      (low-byte f (f / 2) (f / 4) (f / 8) (f / 16) (f / 32) (f / 64) (f / 128) (f / 256 % 2) (f / 1 % 2) (f / 2 % 2) (f / 4 % 2) (f / 8 % 2) (f / 16 % 2) (f / 32 % 2) (f / 64 % 2) (f / 128 % 2)
+      rw (flag-is 1, flag-is 2, flag-is 4, flag-is 8, flag-is 16, flag-is 32, flag-is 64, flag-is 128, flag-is 256)
+      (low-byte f (f / 2) (f / 4) (f / 8) (f / 16) (f / 32) (f / 64) (f / 128) (f / 256 % 2)
+      (f / 1 % 2) (f / 2 % 2) (f / 4 % 2) (f / 8 % 2) (f / 16 % 2) (f / 32 % 2) (f / 64 % 2) (f / 128 % 2)
       (omega arith) (omega arith) (omega arith) (omega arith) (omega arith) (omega arith) (omega arith) (omega arith))
 
+  -- from the most significant bit on, as published
   is-flags : FunctionFlags f (le16 f)
   unfolding le16
   is-flags =
-      functionFlags {PreloadParent = fb 128} {PreloadRoot = fb 64} {SuppressSuper = fb 32} {PreloadSuper = fb 16} {SuppressArguments = fb 8} {PreloadArguments = fb 4}
-      {SuppressThis = fb 2} {PreloadThis = fb 1} {PreloadGlobal = fb 256} {a = f % 256 ∷ []} {b = f / 256 % 256 ∷ []}
-      (bits-as (fb 128) (fb 64) (fb 32) (fb 16) (fb 8) (fb 4) (fb 2) (fb 1) (f % 256) (lows f _ _ _ _ _ _ _ _ _ whole-flags (bit-under (fb 1)) (bit-under (fb 2)) (bit-under (fb 4)) (bit-under (fb 8)) (bit-under (fb 16)) (bit-under (fb 32)) (bit-under (fb 64)) (bit-under (fb 128))))
-      (bits-as false false false false false false false (fb 256) (f / 256 % 256) (one-bit (fb 256) (f / 256 % 256) (fb-is 256 ∙ omega arith)))
+      functionFlags {PreloadParent = flag 128} {PreloadRoot = flag 64} {SuppressSuper = flag 32} {PreloadSuper = flag 16} {SuppressArguments = flag 8}
+      {PreloadArguments = flag 4} {SuppressThis = flag 2} {PreloadThis = flag 1} {PreloadGlobal = flag 256} {a = f % 256 ∷ []} {b = f / 256 % 256 ∷ []}
+      (bits-as (flag 128) (flag 64) (flag 32) (flag 16) (flag 8) (flag 4) (flag 2) (flag 1) (f % 256)
+      (lows f _ _ _ _ _ _ _ _ _ whole-flags (bit-under (flag 1)) (bit-under (flag 2)) (bit-under (flag 4)) (bit-under (flag 8)) (bit-under (flag 16)) (bit-under (flag 32)) (bit-under (flag 64)) (bit-under (flag 128))))
+      (bits-as false false false false false false false (flag 256) (f / 256 % 256) (one-bit (flag 256) (f / 256 % 256) (flag-is 256 ∙ omega arith)))
       whole-flags
     where
-      lows : (n a b c d e i j k l : ℕ) → n ≡ a + 2 * b + 4 * c + 8 * d + 16 * e + 32 * i + 64 * j + 128 * k + 256 * l → a < 2 → b < 2 → c < 2 → d < 2 → e < 2 → i < 2 → j < 2 → k < 2
+      lows : (n a b c d e i j k l : ℕ) → n ≡ a + 2 * b + 4 * c + 8 * d + 16 * e + 32 * i + 64 * j + 128 * k + 256 * l
+          → a < 2 → b < 2 → c < 2 → d < 2 → e < 2 → i < 2 → j < 2 → k < 2
           → 128 * k + 64 * j + 32 * i + 16 * e + 8 * d + 4 * c + 2 * b + a ≡ n % 256
       lows n a b c d e i j k l m h₁ h₂ h₃ h₄ h₅ h₆ h₇ h₈ = omega arith
 
-owner-byte : (d : Owner) → ltb (byte (ownerOpCode d)) 256 ≡ true
+owner-byte : (o : Owner) → ltb (byte (ownerOpCode o)) 256 ≡ true
 unfolding ownerOpCode byte
 owner-byte With = refl
 owner-byte (DefineFunction s ps) = refl
 owner-byte (DefineFunction2 s ps r f) = refl
 
-is-owner : (d : Owner) → OwnerFits d → OwnerFields d (byte (ownerOpCode d)) (ownerFields d)
+is-owner : (o : Owner) → OwnerFits o → OwnerFields o (byte (ownerOpCode o)) (ownerFields o)
 unfolding ownerOpCode byte ownerFields
 is-owner With h = ActionWith
 is-owner (DefineFunction s ps) h = ActionDefineFunction (is-string s (h .0)) (is-ui16 (length ps) (h .1)) (each-string ps (h .2))
-is-owner (DefineFunction2 s ps r f) h = ActionDefineFunction2 (is-string s (h .0)) (is-ui16 (length ps) (h .1)) (ui8 {n = r} (h .4)) (is-flags f (h .3)) (each-param ps (h .2))
+is-owner (DefineFunction2 s ps r f) h =
+    ActionDefineFunction2 (is-string s (h .0)) (is-ui16 (length ps) (h .1)) (ui8 {n = r} (h .4)) (is-flags f (h .3)) (each-param ps (h .2))
 
 -- ---- branches
 
@@ -311,8 +327,9 @@ module _ (a b : ℕ) (h : a ≤ b + 32767) (k : b ≤ a + 32768) where
       let e : b - suc (b - suc a) ≡ a = omega arith in
       rw (le-ltb b (suc (b - suc a)) g) (ap pos e)
 
-  -- the word of a branch to a, whose record ends at b
-  near-lands : (t : Bool) → ltb a b ≡ t → (bs : List ℕ) → UI16 ((a + 65536 - b) % 65536) bs → (z : ℤ) × SI16 z bs × Lands (some a) b z
+  -- the offset of a near branch to a, whose record ends at b
+  near-lands : (t : Bool) → ltb a b ≡ t → (bs : List ℕ) → UI16 ((a + 65536 - b) % 65536) bs
+      → (z : ℤ) × SI16 z bs × Lands (some a) b z
   near-lands true l bs u =
       let w : ℕ = (a + 65536 - b) % 65536 in
       let g : a < b = ltb-true a b l in
@@ -324,7 +341,7 @@ module _ (a b : ℕ) (h : a ≤ b + 32767) (k : b ≤ a + 32768) where
       let e : b + w ≡ a = omega arith in
       (pos w, positive u (omega arith), reaches (ap pos e))
 
--- ---- labels
+-- ---- labels: the definitions' records are the places
 
 unfoldable placesOf : List Event → Places
 placesOf [] = []
@@ -368,10 +385,12 @@ places-labels (entry l j ∷ es) i s =
     go true = unfold eventIf placesOf placed in refl
     go false = unfold eventIf placesOf placed in refl
 
+-- a record's position, if there is one
 unfoldable atOf : Option Position → Option ℕ
 atOf none = none
 atOf (some s) = some (s .at)
 
+-- the record that wins is the last place
 last-is : (es : List Event) (l : ℕ) → lastPlace (placesOf es) l ≡ atOf (lookup l es)
 unfolding placesOf lookup lastPlace
 last-is [] l = unfold atOf in refl
@@ -419,7 +438,9 @@ far-append : (all xs ys : List Event) → tooFar all (xs ++ ys) ≡ orElse (tooF
 unfolding tooFar
 far-append all [] ys = unfold orElse in refl
 far-append all (labelAt l s ∷ xs) ys = far-append all xs ys
-far-append all (branchAt l s ∷ xs) ys = ap (orElse (judged (lookup l all) (s .at + 2))) (far-append all xs ys) ∙ sym (orElse-assoc (judged (lookup l all) (s .at + 2)) (tooFar all xs) (tooFar all ys))
+far-append all (branchAt l s ∷ xs) ys =
+    ap (orElse (judged (lookup l all) (s .at + 2))) (far-append all xs ys)
+    ∙ sym (orElse-assoc (judged (lookup l all) (s .at + 2)) (tooFar all xs) (tooFar all ys))
 far-append all (payloadTooLong n s ∷ xs) ys = far-append all xs ys
 far-append all (bodyTooLong n s ∷ xs) ys = far-append all xs ys
 
@@ -456,41 +477,53 @@ module _ (all : List Event) where
   unfolding Near
   near-right xs ys h = (orElse-none (tooFar all xs) (tooFar all ys) (sym (far-append all xs ys) ∙ h)) .1
 
-  -- a branch
+  -- a near branch's bits are its offset
   offset-is : (l p : ℕ) → Near (branchAt l (position (p + 3)) ∷ []) → (z : ℤ) × SI16 z (le16 (offsetBits l (p + 5))) × Lands (final l) (p + 5) z
   unfolding Near tooFar
   offset-is l p h =
       let e : p + 3 + 2 ≡ p + 5 = omega arith in
       let j : judged (lookup l all) (p + 5) ≡ none = rw e at ((orElse-none (judged (lookup l all) (p + 3 + 2)) none h) .0) in
-      let (z, s, d) = branch-offset (lookup l all) (p + 5) j (le16 (offsetBits l (p + 5))) (is-ui16 (offsetBits l (p + 5)) (distance-under (lookup l all) (p + 5))) in
+      let (z, s, d) = branch-offset (lookup l all) (p + 5) j (le16 (offsetBits l (p + 5)))
+      (is-ui16 (offsetBits l (p + 5)) (distance-under (lookup l all) (p + 5))) in
       (z, s, subst (λ (o : Option ℕ). Lands o (p + 5) z) (sym (last-is all l)) d)
 
-  is-branch : (k : Branch) (l p : ℕ) → Near (branchAt l (position (p + 3)) ∷ []) → ActionRecord asWritten final p (branch k l) (framed (branchOpCode k) (le16 (offsetBits l (p + 5)))) []
+  is-branch : (k : Branch) (l p : ℕ) → Near (branchAt l (position (p + 3)) ∷ [])
+      → ActionRecord asWritten final p (branch k l) (framed (branchOpCode k) (le16 (offsetBits l (p + 5)))) []
   unfolding branchOpCode byte
   is-branch Jump l p h =
       let w : ℕ = offsetBits l (p + 5) in
       let (z, s, d) = offset-is l p h in
-      let e : p + 5 ≡ p + length (framed OpCode.Jump (le16 w)) = ap (λ (n : ℕ). p + n) (sym (length-framed OpCode.Jump (le16 w) refl ∙ ap (λ (n : ℕ). 3 + n) (length-le16 w))) in
+      let e : p + 5 ≡ p + length (framed OpCode.Jump (le16 w)) =
+      ap (λ (n : ℕ). p + n) (sym (length-framed OpCode.Jump (le16 w) refl ∙ ap (λ (n : ℕ). 3 + n) (length-le16 w))) in
       ActionJump s (is-fields OpCode.Jump (le16 w) refl refl (omega (arith, length-le16 w))) (subst (λ (n : ℕ). Lands (final l) n z) e d)
   is-branch If l p h =
       let w : ℕ = offsetBits l (p + 5) in
       let (z, s, d) = offset-is l p h in
-      let e : p + 5 ≡ p + length (framed OpCode.If (le16 w)) = ap (λ (n : ℕ). p + n) (sym (length-framed OpCode.If (le16 w) refl ∙ ap (λ (n : ℕ). 3 + n) (length-le16 w))) in
+      let e : p + 5 ≡ p + length (framed OpCode.If (le16 w)) =
+      ap (λ (n : ℕ). p + n) (sym (length-framed OpCode.If (le16 w) refl ∙ ap (λ (n : ℕ). 3 + n) (length-le16 w))) in
       ActionIf s (is-fields OpCode.If (le16 w) refl refl (omega (arith, length-le16 w))) (subst (λ (n : ℕ). Lands (final l) n z) e d)
 
+  -- with a body of m bytes: Length counts the fields, and the size counts the body
   is-owned : (d : Owner) (b : Actions) (p m : ℕ) {q : List ℕ} {ls : Places} → OwnerFits d → length (ownerFields d) + 2 < 65536 → m < 65536 → length q ≡ m
-      → BodyRecords asWritten final (p + (5 + length (ownerFields d))) b q ls → ActionRecord asWritten final p (owner d b) (framed (ownerOpCode d) (ownerPayload d m) ++ q) ls
+      → BodyRecords asWritten final (p + (5 + length (ownerFields d))) b q ls
+      → ActionRecord asWritten final p (owner d b) (framed (ownerOpCode d) (ownerPayload d m) ++ q) ls
   unfolding ownerPayload
   is-owned d b p m {q} {ls} h l k e r =
       let fs : List ℕ = ownerFields d ++ le16 m in
-      let lf : length fs ≡ length (ownerFields d) + 2 = length-append (ownerFields d) (le16 m) ∙ ap (λ (n : ℕ). length (ownerFields d) + n) (length-le16 m) in
+      let lf : length fs ≡ length (ownerFields d) + 2 =
+      length-append (ownerFields d) (le16 m) ∙ ap (λ (n : ℕ). length (ownerFields d) + n) (length-le16 m) in
       let at : p + (5 + length (ownerFields d)) ≡ p + length (framed (ownerOpCode d) fs) = omega (arith, length-framed (ownerOpCode d) fs (owner-long d)) in
-      ActionBlock (is-owner d h) (subst (λ (n : ℕ). UI16 n (le16 m)) (sym e) (is-ui16 m k)) (is-fields (ownerOpCode d) fs (owner-long d) (owner-byte d) (omega arith))
+      ActionBlock (is-owner d h) (subst (λ (n : ℕ). UI16 n (le16 m)) (sym e) (is-ui16 m k))
+      (is-fields (ownerOpCode d) fs (owner-long d) (owner-byte d) (omega arith))
       (subst (λ (n : ℕ). BodyRecords asWritten final n b q ls) at r) refl
 
   owned-places : (n m : ℕ) (s : Position) (xs : List Event) → placesOf xs ≡ placesOf (payloadTest n s ++ (xs ++ bodyTest m s))
-  owned-places n m s xs = sym (places-append (payloadTest n s) (xs ++ bodyTest m s) ∙ ap₂ (λ (x y : Places). x ++ y) (places-payload n s) (places-append xs (bodyTest m s) ∙ ap (λ (y : Places). placesOf xs ++ y) (places-test m s) ∙ append-nil (placesOf xs)))
+  owned-places n m s xs =
+      sym (places-append (payloadTest n s) (xs ++ bodyTest m s)
+      ∙ ap₂ (λ (x y : Places). x ++ y) (places-payload n s)
+      (places-append xs (bodyTest m s) ∙ ap (λ (y : Places). placesOf xs ++ y) (places-test m s) ∙ append-nil (placesOf xs)))
 
+  -- with three bodies of i, j and k bytes
   is-try : (b : Actions) (c : Catch) (f : Finally) (p i j k : ℕ) {x y z : List ℕ} {ls ms ns : Places} → NameFits c → 7 + length (catchName c) < 65536
       → i < 65536 → j < 65536 → k < 65536 → length x ≡ i → length y ≡ j → length z ≡ k
       → BodyRecords asWritten final (p + (10 + length (catchName c))) b x ls → CatchRecords asWritten final (p + (10 + length (catchName c)) + i) c y ms
@@ -506,7 +539,8 @@ module _ (all : List Event) where
       let e₁ : p + (10 + length (catchName c)) + i ≡ p + length (framed OpCode.Try q) + length x = omega arith in
       let e₂ : p + (10 + length (catchName c)) + (i + j) ≡ p + length (framed OpCode.Try q) + length x + length y = omega arith in
       let (u, v, w, bs, cf, ff) = is-shape c f h in
-      ActionTry {flags = o ∷ []} bs (subst (λ (n : ℕ). UI16 n (le16 i)) (sym ex) (is-ui16 i hi)) (subst (λ (n : ℕ). UI16 n (le16 j)) (sym ey) (is-ui16 j hj)) (subst (λ (n : ℕ). UI16 n (le16 k)) (sym ez) (is-ui16 k hk))
+      ActionTry {flags = o ∷ []} bs (subst (λ (n : ℕ). UI16 n (le16 i)) (sym ex) (is-ui16 i hi))
+      (subst (λ (n : ℕ). UI16 n (le16 j)) (sym ey) (is-ui16 j hj)) (subst (λ (n : ℕ). UI16 n (le16 k)) (sym ez) (is-ui16 k hk))
       cf ff (is-fields OpCode.Try q refl refl (omega arith))
       (subst (λ (n : ℕ). BodyRecords asWritten final n b x ls) e₀ rx)
       (subst (λ (n : ℕ). CatchRecords asWritten final n c y ms) e₁ ry)
@@ -533,9 +567,12 @@ module _ (all : List Event) where
   mutual
     unfolding trace bytes moved tryPayload placesOf
 
-    is-action : (a : Action) (p : ℕ) → Fits a → Near (trace a (position p)) → ActionRecord asWritten final p a (bytes offsetBits a p) (placesOf (trace a (position p)))
+    -- what is written follows the layouts, and meets the labels that the definitions record
+    is-action : (a : Action) (p : ℕ) → Fits a → Near (trace a (position p))
+        → ActionRecord asWritten final p a (bytes offsetBits a p) (placesOf (trace a (position p)))
     is-action (flat f) p h r =
-        subst (λ (ls : Places). ActionRecord asWritten final p (flat f) (framed (opcode f) (payload f)) ls) (sym (places-payload (length (payload f)) (position p))) (ActionFlat (is-flat f (h .0) (h .1)))
+        subst (λ (ls : Places). ActionRecord asWritten final p (flat f) (framed (opcode f) (payload f)) ls)
+        (sym (places-payload (length (payload f)) (position p))) (ActionFlat (is-flat f (h .0) (h .1)))
     is-action (branch k l) p h r = is-branch k l p r
     is-action (owner d b) p h r =
         let n : ℕ = p + (5 + length (ownerFields d)) in
@@ -544,7 +581,8 @@ module _ (all : List Event) where
         let z : List Event = bodyTest (bodySize b) (position p) in
         let g : Near y = near-left y z (near-right x (y ++ z) r) in
         subst (λ (ls : Places). ActionRecord asWritten final p (owner d b) (framed (ownerOpCode d) (ownerPayload d (bodySize b)) ++ bodyBytes offsetBits b n) ls)
-        (owned-places (length (ownerFields d) + 2) (bodySize b) (position p) y) (is-owned d b p (bodySize b) (h .0) (h .1) (h .2) (length-body offsetBits b n) (is-body b n (h .3) g))
+        (owned-places (length (ownerFields d) + 2) (bodySize b) (position p) y)
+        (is-owned d b p (bodySize b) (h .0) (h .1) (h .2) (length-body offsetBits b n) (is-body b n (h .3) g))
     is-action (Try b c f) p h r =
         let n : ℕ = p + (10 + length (catchName c)) in
         let n₁ : ℕ = n + bodySize b in
@@ -561,9 +599,11 @@ module _ (all : List Event) where
         let t₂ : CatchRecords asWritten final n₁ c (catchBytes offsetBits c n₁) (placesOf x₂) = is-catch c n₁ (h .6) (near-left x₂ (x₃ ++ x₄) r₂) in
         let t₃ : FinallyRecords asWritten final n₂ f (finallyBytes offsetBits f n₂) (placesOf x₃) = is-finally f n₂ (h .7) (near-left x₃ x₄ r₃) in
         subst (λ (ls : Places). ActionRecord asWritten final p (Try b c f)
-        (framed OpCode.Try (tryPayload (catchShape c + finallyShape f) (bodySize b) (catchSize c) (finallySize f) (catchName c)) ++ (bodyBytes offsetBits b n ++ (catchBytes offsetBits c n₁ ++ finallyBytes offsetBits f n₂))) ls)
+        (framed OpCode.Try (tryPayload (catchShape c + finallyShape f) (bodySize b) (catchSize c) (finallySize f) (catchName c))
+        ++ (bodyBytes offsetBits b n ++ (catchBytes offsetBits c n₁ ++ finallyBytes offsetBits f n₂))) ls)
         (try-places (7 + length (catchName c)) (bodySize b) (catchSize c) (finallySize f) (position p) x₁ x₂ x₃)
-        (is-try b c f p (bodySize b) (catchSize c) (finallySize f) (h .0) (h .1) (h .2) (h .3) (h .4) (length-body offsetBits b n) (length-catch offsetBits c n₁) (length-finally offsetBits f n₂) t₁ t₂ t₃)
+        (is-try b c f p (bodySize b) (catchSize c) (finallySize f) (h .0) (h .1) (h .2) (h .3) (h .4)
+        (length-body offsetBits b n) (length-catch offsetBits c n₁) (length-finally offsetBits f n₂) t₁ t₂ t₃)
 
     is-actions : (xs : ActionList) (es : List Entry) (i : ActionIndex) (p : ℕ) → ActionsFit xs → Near (traces xs es i (position p))
         → ActionRecords asWritten final p xs es i (actionsBytes offsetBits xs p) (placesOf (traces xs es i (position p)))
@@ -575,17 +615,22 @@ module _ (all : List Event) where
         let z : List Event = traces xs es (nextAction i) (position n) in
         let g : Near (y ++ z) = near-right x (y ++ z) r in
         let e : n ≡ p + length (bytes offsetBits a p) = ap (λ (m : ℕ). p + m) (sym (length-bytes offsetBits a p)) in
-        next (is-action a p (h .0) (near-left y z g)) (subst (λ (m : ℕ). ActionRecords asWritten final m xs es (nextAction i) (actionsBytes offsetBits xs n) (placesOf z)) e (is-actions xs es (nextAction i) n (h .1) (near-right y z g))) refl
+        next (is-action a p (h .0) (near-left y z g))
+        (subst (λ (m : ℕ). ActionRecords asWritten final m xs es (nextAction i) (actionsBytes offsetBits xs n) (placesOf z)) e
+        (is-actions xs es (nextAction i) n (h .1) (near-right y z g))) refl
         (places-append x (y ++ z) ∙ ap₂ (λ (u v : Places). u ++ v) (places-labels es i (position p)) (places-append y z))
 
-    is-body : (b : Actions) (p : ℕ) → BodyFits b → Near (traceBody b (position p)) → BodyRecords asWritten final p b (bodyBytes offsetBits b p) (placesOf (traceBody b (position p)))
+    is-body : (b : Actions) (p : ℕ) → BodyFits b → Near (traceBody b (position p))
+        → BodyRecords asWritten final p b (bodyBytes offsetBits b p) (placesOf (traceBody b (position p)))
     is-body (body es xs) p h r = code (is-actions xs es firstAction p h r)
 
-    is-catch : (c : Catch) (p : ℕ) → CatchFits c → Near (traceCatch c (position p)) → CatchRecords asWritten final p c (catchBytes offsetBits c p) (placesOf (traceCatch c (position p)))
+    is-catch : (c : Catch) (p : ℕ) → CatchFits c → Near (traceCatch c (position p))
+        → CatchRecords asWritten final p c (catchBytes offsetBits c p) (placesOf (traceCatch c (position p)))
     is-catch noCatch p h r = noCatchBody
     is-catch (catch t b) p h r = CatchBody (is-body b p h r)
 
-    is-finally : (f : Finally) (p : ℕ) → FinallyFits f → Near (traceFinally f (position p)) → FinallyRecords asWritten final p f (finallyBytes offsetBits f p) (placesOf (traceFinally f (position p)))
+    is-finally : (f : Finally) (p : ℕ) → FinallyFits f → Near (traceFinally f (position p))
+        → FinallyRecords asWritten final p f (finallyBytes offsetBits f p) (placesOf (traceFinally f (position p)))
     is-finally noFinally p h r = noFinallyBody
     is-finally (finally b) p h r = FinallyBody (is-body b p h r)
 
@@ -634,26 +679,31 @@ flat-published (ActionGotoFrame2Bias a b r) h = ActionGotoFrame2Bias a b r
 
 module _ (final : ℕ → Option ℕ) where
   mutual
-    action-published : {p : ℕ} {a : Action} {r : List ℕ} {ls : Places} → ActionRecord asWritten final p a r ls → Undisputed a → ActionRecord asPublished final p a r ls
+    action-published : {p : ℕ} {a : Action} {r : List ℕ} {ls : Places} → ActionRecord asWritten final p a r ls → Undisputed a
+        → ActionRecord asPublished final p a r ls
     action-published (ActionFlat f) h = ActionFlat (flat-published f h)
     action-published (ActionJump s r d) h = ActionJump s r d
     action-published (ActionIf s r d) h = ActionIf s r d
     action-published (ActionBlock d s r b e) h = ActionBlock d s r (body-published b h) e
     action-published (ActionTry g s t u c f r x y z e k) h = ActionTry g s t u c f r (body-published x (h .0)) (catch-published y (h .1)) (finally-published z (h .2)) e k
 
-    actions-published : {p : ℕ} {i : ActionIndex} {xs : ActionList} {es : List Entry} {r : List ℕ} {ls : Places} → ActionRecords asWritten final p xs es i r ls → ActionsUndisputed xs
+    actions-published : {p : ℕ} {i : ActionIndex} {xs : ActionList} {es : List Entry} {r : List ℕ} {ls : Places}
+        → ActionRecords asWritten final p xs es i r ls → ActionsUndisputed xs
         → ActionRecords asPublished final p xs es i r ls
     actions-published (end k) h = end k
     actions-published (next a r e k) h = next (action-published a (h .0)) (actions-published r (h .1)) e k
 
-    body-published : {p : ℕ} {b : Actions} {r : List ℕ} {ls : Places} → BodyRecords asWritten final p b r ls → BodyUndisputed b → BodyRecords asPublished final p b r ls
+    body-published : {p : ℕ} {b : Actions} {r : List ℕ} {ls : Places} → BodyRecords asWritten final p b r ls → BodyUndisputed b
+        → BodyRecords asPublished final p b r ls
     body-published (code r) h = code (actions-published r h)
 
-    catch-published : {p : ℕ} {c : Catch} {r : List ℕ} {ls : Places} → CatchRecords asWritten final p c r ls → CatchUndisputed c → CatchRecords asPublished final p c r ls
+    catch-published : {p : ℕ} {c : Catch} {r : List ℕ} {ls : Places} → CatchRecords asWritten final p c r ls → CatchUndisputed c
+        → CatchRecords asPublished final p c r ls
     catch-published noCatchBody h = noCatchBody
     catch-published (CatchBody r) h = CatchBody (body-published r h)
 
-    finally-published : {p : ℕ} {f : Finally} {r : List ℕ} {ls : Places} → FinallyRecords asWritten final p f r ls → FinallyUndisputed f → FinallyRecords asPublished final p f r ls
+    finally-published : {p : ℕ} {f : Finally} {r : List ℕ} {ls : Places} → FinallyRecords asWritten final p f r ls → FinallyUndisputed f
+        → FinallyRecords asPublished final p f r ls
     finally-published noFinallyBody h = noFinallyBody
     finally-published (FinallyBody r) h = FinallyBody (body-published r h)
 
@@ -714,7 +764,8 @@ module _ (o : Order) (final : ℕ → Option ℕ) where
         (placed-append (ps ++ (qs ++ rs)) ms ns (placed-as qs (ps ++ (qs ++ rs)) ms (λ w m. member-right w ps (qs ++ rs) (member-left w qs rs m)) (starts-catch y))
         (placed-as rs (ps ++ (qs ++ rs)) ns (λ w m. member-right w ps (qs ++ rs) (member-right w qs rs m)) (starts-finally z))))
 
-    starts-actions : {p : ℕ} {i : ActionIndex} {xs : ActionList} {es : List Entry} {r : List ℕ} {ls : Places} → (d : ActionRecords o final p xs es i r ls) → All (Placed (actionsStarts o final d)) ls
+    starts-actions : {p : ℕ} {i : ActionIndex} {xs : ActionList} {es : List Entry} {r : List ℕ} {ls : Places}
+        → (d : ActionRecords o final p xs es i r ls) → All (Placed (actionsStarts o final d)) ls
     starts-actions (end {p = p} {i = i} {es = es} k) = rw k (placed-here es i p [])
     starts-actions (next {p = p} {i = i} {es = es} {ls = ls} {ms = ms} a b e k) =
         let ps : List ℕ = actionStarts o final a in
@@ -747,10 +798,12 @@ last-placed ps (y ∷ ls) l x h e = go (eqb l (y .0)) (lastPlace ls l) refl e (�
 -- ---- the two differences, by name
 
 -- GetUrl2: the byte that the specification's table gives, and the byte that the source writes
-pub getUrl2-published : (v t : Bool) (m : ℕ) (bs : List ℕ) → Url2Flags asPublished v t m bs → bs ≡ (64 * (m % 4) + 2 * bitOf t + bitOf v) ∷ []
+pub getUrl2-published : (v t : Bool) (m : ℕ) (bs : List ℕ) → GetURL2Flags asPublished v t m bs
+    → bs ≡ (64 * (m % 4) + 2 * bitOf t + bitOf v) ∷ []
 getUrl2-published v t m bs (fromMost {x = x} {y = y} e eightBits) = ap (λ (n : ℕ). n ∷ []) (omega (arith, bit-false))
 
-pub getUrl2-written : (v t : Bool) (m : ℕ) (bs : List ℕ) → Url2Flags asWritten v t m bs → bs ≡ (128 * bitOf v + 64 * bitOf t + m % 4) ∷ []
+pub getUrl2-written : (v t : Bool) (m : ℕ) (bs : List ℕ) → GetURL2Flags asWritten v t m bs
+    → bs ≡ (128 * bitOf v + 64 * bitOf t + m % 4) ∷ []
 getUrl2-written v t m bs (fromLeast {x = x} {y = y} e eightBits) = ap (λ (n : ℕ). n ∷ []) (omega (arith, bit-false))
 
 low-word : (w lo hi : ℕ) → w ≡ lo + 4294967296 * hi → lo < 4294967296 → w % 4294967296 ≡ lo
@@ -759,9 +812,10 @@ low-word w lo hi e h = rw e (omega arith)
 high-word : (w lo hi : ℕ) → w ≡ lo + 4294967296 * hi → lo < 4294967296 → w / 4294967296 ≡ hi
 high-word w lo hi e h = rw e (omega arith)
 
--- a double as the source writes it is what the specification gives for the double with its words changed
-pub double-written : (w : ℕ) (bs : List ℕ) → w < 18446744073709551616 → DOUBLE asWritten w bs → DOUBLE asPublished (w % 4294967296 * 4294967296 + w / 4294967296) bs
-double-written w bs h (highWordFirst {lo = lo} {hi = hi} l u e) =
+-- a double as the source writes it is what the specification gives for the double with its words changed over
+pub double-written : (w : ℕ) (bs : List ℕ) → DOUBLE asWritten w bs
+    → DOUBLE asPublished (w % 4294967296 * 4294967296 + w / 4294967296) bs
+double-written w bs (highWordFirst {lo = lo} {hi = hi} l u e) =
     let bl : lo < 4294967296 = ui32-under l in
     let e₁ : w % 4294967296 ≡ lo = low-word w lo hi e bl in
     let e₂ : w / 4294967296 ≡ hi = high-word w lo hi e bl in

@@ -537,11 +537,11 @@ write-flat (Push values) = write-push values
 write-flat (GetUrl2 load-variables load-target method) = write-get-url-2 load-variables load-target method
 write-flat (GotoFrame2 scene-bias play) = write-goto-frame-2 scene-bias play
 
--- write_actions: the body of its loop over (i, action); `write` is self.write_action(action)
+-- write_actions: the body of its loop over (i, action); `write-this-action` is self.write_action(action)
 unfoldable pub write-labelled : Map (List ℕ) → ℕ → Writing → Writing
-write-labelled labels i write = do
+write-labelled labels i write-this-action = do
   insert-labels (get i labels)
-  write
+  write-this-action
 
 -- is the flag of this weight set? The tree has all nine in one number
 unfoldable pub flag-bit : ℕ → ℕ → Bool

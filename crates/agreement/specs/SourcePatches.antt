@@ -22,8 +22,9 @@ use Rattle.agreement.specs.Source.{PendingLabelWrite, Map, ActionEncoder
 use Rattle.agreement.specs.SourceSteps.{pendingOf, recorded, firstOf, encoder, pending-append}
 use Rattle.agreement.specs.SourceWrites.{copy-at, blank, position}
 
--- ---- patch_labels
+-- ---- the table of labels
 
+-- the later of two records of a label
 abbrev positionOf : Option ℕ → Option Position → Option ℕ
 positionOf o none = o
 positionOf o (some s) = some (s .at)
@@ -34,7 +35,8 @@ unfolding recorded lookup
 get-recorded [] m l = refl
 get-recorded (labelAt k s ∷ es) m l = get-recorded es (insert k (s .at) m) l ∙ go (eqb l k) refl (lookup l es)
   where
-    go : (t : Bool) → eqb l k ≡ t → (o : Option Position) → positionOf (get l (insert k (s .at) m)) o ≡ positionOf (get l m) (later (recordIf (eqb l k) s) o)
+    go : (t : Bool) → eqb l k ≡ t → (o : Option Position)
+        → positionOf (get l (insert k (s .at) m)) o ≡ positionOf (get l m) (later (recordIf (eqb l k) s) o)
     go true z none = unfold get insert gotten later recordIf in rw z
     go false z none = unfold get insert gotten later recordIf in rw z
     go t z (some x) = unfold get insert gotten later recordIf in refl
@@ -42,10 +44,14 @@ get-recorded (branchAt k s ∷ es) m l = get-recorded es m l
 get-recorded (payloadTooLong n s ∷ es) m l = get-recorded es m l
 get-recorded (bodyTooLong n s ∷ es) m l = get-recorded es m l
 
+-- ---- one offset
+
+-- JumpOffsetOverflow, unless the branch is near
 unfoldable pub farIf : Bool → ℤ → Option EncoderError
 farIf true offset = none
 farIf false offset = some (JumpOffsetOverflow offset)
 
+-- by its label's record and the position after its operand
 unfoldable pub farBranch : Option Position → ℕ → Option EncoderError
 farBranch none p = none
 farBranch (some s) p = farIf (isNear (s .at) p) (subℕ (s .at) p)
@@ -55,52 +61,67 @@ unfolding firstOf
 first-assoc none b c = refl
 first-assoc (some x) b c = refl
 
--- a difference fits 16 bits with a sign where the branch is near, and its bits are the distance
+-- from b to a
 module _ (a b : ℕ) where
   near-is : (x y : Bool) → leb a (b + 32767) ≡ x → leb b (a + 32768) ≡ y → isNear a b ≡ (x && y)
   unfolding isNear
   near-is x y hx hy = rw (hx, hy)
 
+  -- the i16 test on signed numbers is the definitions' test of the two positions
   fits-near : fits-i16 (subℕ a b) ≡ isNear a b
   fits-near = go (ltb a b) refl
     where
       down : (t : Bool) → leb (b - suc a) 32767 ≡ t → a < b → leb (b - suc a) 32767 ≡ isNear a b
-      down true z h = z ∙ sym (near-is true true (le-leb a (b + 32767) (omega arith)) (le-leb b (a + 32768) (omega (arith, leb-true (b - suc a) 32767 z))))
-      down false z h = z ∙ sym (near-is true false (le-leb a (b + 32767) (omega arith)) (lt-leb b (a + 32768) (omega (arith, leb-false (b - suc a) 32767 z))))
+      down true z h =
+          z ∙ sym (near-is true true (le-leb a (b + 32767) (omega arith)) (le-leb b (a + 32768) (omega (arith, leb-true (b - suc a) 32767 z))))
+      down false z h =
+          z ∙ sym (near-is true false (le-leb a (b + 32767) (omega arith)) (lt-leb b (a + 32768) (omega (arith, leb-false (b - suc a) 32767 z))))
 
       up : (t : Bool) → leb (a - b) 32767 ≡ t → b ≤ a → leb (a - b) 32767 ≡ isNear a b
-      up true z h = z ∙ sym (near-is true true (le-leb a (b + 32767) (omega (arith, leb-true (a - b) 32767 z))) (le-leb b (a + 32768) (omega arith)))
-      up false z h = z ∙ sym (near-is false true (lt-leb a (b + 32767) (omega (arith, leb-false (a - b) 32767 z))) (le-leb b (a + 32768) (omega arith)))
+      up true z h =
+          z ∙ sym (near-is true true (le-leb a (b + 32767) (omega (arith, leb-true (a - b) 32767 z))) (le-leb b (a + 32768) (omega arith)))
+      up false z h =
+          z ∙ sym (near-is false true (lt-leb a (b + 32767) (omega (arith, leb-false (a - b) 32767 z))) (le-leb b (a + 32768) (omega arith)))
 
       go : (t : Bool) → ltb a b ≡ t → fits-i16 (subℕ a b) ≡ isNear a b
       go true h = ap fits-i16 (sub-down a b (ltb-true a b h)) ∙ (unfold fits-i16 in down (leb (b - suc a) 32767) refl (ltb-true a b h))
       go false h = ap fits-i16 (sub-up a b (ltb-false a b h)) ∙ (unfold fits-i16 in up (leb (a - b) 32767) refl (ltb-false a b h))
 
+  -- and where it holds, the sixteen bits are the definitions'
   bits-are : isNear a b ≡ true → bits-i16 (subℕ a b) ≡ (a + 65536 - b) % 65536
   bits-are n = go (ltb a b) refl
     where
       go : (t : Bool) → ltb a b ≡ t → bits-i16 (subℕ a b) ≡ (a + 65536 - b) % 65536
-      go true h = ap bits-i16 (sub-down a b (ltb-true a b h)) ∙ (unfold bits-i16 in omega (arith, near-both a b n .0, near-both a b n .1, ltb-true a b h))
-      go false h = ap bits-i16 (sub-up a b (ltb-false a b h)) ∙ (unfold bits-i16 in omega (arith, near-both a b n .0, near-both a b n .1, ltb-false a b h))
+      go true h =
+          ap bits-i16 (sub-down a b (ltb-true a b h))
+          ∙ (unfold bits-i16 in omega (arith, near-both a b n .0, near-both a b n .1, ltb-true a b h))
+      go false h =
+          ap bits-i16 (sub-up a b (ltb-false a b h))
+          ∙ (unfold bits-i16 in omega (arith, near-both a b n .0, near-both a b n .1, ltb-false a b h))
 
+-- an error, or else a result
 unfoldable pub orErr : Option EncoderError → Result → Result
 orErr none r = r
 orErr (some x) r = err x
 
-regroup₁ : (pre q x post : List ℕ) → (pre ++ q) ++ (x ++ post) ≡ pre ++ ((q ++ x) ++ post)
-regroup₁ pre q x post = simp append-assoc
+regroup : (pre q x post : List ℕ) → (pre ++ q) ++ (x ++ post) ≡ pre ++ ((q ++ x) ++ post)
+regroup pre q x post = simp append-assoc
 
 length-owner : (o : Owner) (n : ℕ) → length (framed (ownerOpCode o) (ownerPayload o n)) ≡ 5 + length (ownerFields o)
 length-owner o n = length-framed (ownerOpCode o) (ownerPayload o n) (owner-long o) ∙ omega (arith, length-ownerPayload o n, length-ownerFields o)
 
--- `all` has every record; the words are patched by them
+-- ---- all offsets; `all` has every record of a label
+
 module _ (all : List Event) where
+  -- a branch's bits after patch_labels
   abbrev pub bits : ℕ → ℕ → ℕ
   bits l p = distanceBits (lookup l all) p
 
+  -- label_positions
   abbrev table : Map ℕ
   table = recorded all []
 
+  -- the first branch that goes too far
   unfoldable pub firstFar : List Event → Option EncoderError
   firstFar [] = none
   firstFar (labelAt l s ∷ es) = firstFar es
@@ -112,14 +133,18 @@ module _ (all : List Event) where
   unfolding firstFar
   far-append [] ys = unfold firstOf in refl
   far-append (labelAt l s ∷ xs) ys = far-append xs ys
-  far-append (branchAt l s ∷ xs) ys = ap (firstOf (farBranch (lookup l all) (s .at + 2))) (far-append xs ys) ∙ sym (first-assoc (farBranch (lookup l all) (s .at + 2)) (firstFar xs) (firstFar ys))
+  far-append (branchAt l s ∷ xs) ys =
+      ap (firstOf (farBranch (lookup l all) (s .at + 2))) (far-append xs ys)
+      ∙ sym (first-assoc (farBranch (lookup l all) (s .at + 2)) (firstFar xs) (firstFar ys))
   far-append (payloadTooLong n s ∷ xs) ys = far-append xs ys
   far-append (bodyTooLong n s ∷ xs) ys = far-append xs ys
 
   -- the branches of es turn one output into another, or the first that is too far ends it
   pub record Turns (es : List Event) (out out′ : List ℕ) : Type 0 where
-    pub turns : (w rest : List PendingLabelWrite) → for-each patch-label (pendingOf es ++ rest) (encoder out w table) ≡ orErr (firstFar es) (for-each patch-label rest (encoder out′ w table))
+    pub turns : (w rest : List PendingLabelWrite)
+        → for-each patch-label (pendingOf es ++ rest) (encoder out w table) ≡ orErr (firstFar es) (for-each patch-label rest (encoder out′ w table))
 
+  -- where no branch is
   turns-quiet : (es : List Event) (out : List ℕ) → pendingOf es ≡ [] → firstFar es ≡ none → Turns es out out
   unfolding orErr
   turns-quiet es out hl hf = record { turns = λ w rest. rw (hl, hf) }
@@ -132,7 +157,9 @@ module _ (all : List Event) where
   turns-then : {xs ys : List Event} {o₁ o₂ o₃ : List ℕ} → Turns xs o₁ o₂ → Turns ys o₂ o₃ → Turns (xs ++ ys) o₁ o₃
   turns-then {xs} {ys} {o₁} {o₂} {o₃} a b = record { turns = λ w rest. go w rest }
     where
-      go : (w rest : List PendingLabelWrite) → for-each patch-label (pendingOf (xs ++ ys) ++ rest) (encoder o₁ w table) ≡ orErr (firstFar (xs ++ ys)) (for-each patch-label rest (encoder o₃ w table))
+      go : (w rest : List PendingLabelWrite)
+          → for-each patch-label (pendingOf (xs ++ ys) ++ rest) (encoder o₁ w table)
+          ≡ orErr (firstFar (xs ++ ys)) (for-each patch-label rest (encoder o₃ w table))
       go w rest =
           rw (pending-append xs ys, append-assoc (pendingOf xs) (pendingOf ys) rest, far-append xs ys)
           (a .turns w (pendingOf ys ++ rest) ∙ ap (orErr (firstFar xs)) (b .turns w rest) ∙ orErr-first (firstFar xs) (firstFar ys) _)
@@ -152,6 +179,7 @@ module _ (all : List Event) where
     unfolding offset-to
     offset-is a = refl
 
+    -- of a label that was recorded
     near-patch : (s : Position) (t : Bool) → isNear (s .at) (q + 2) ≡ t
         → patch-position (some (s .at)) pending (encoder (pre ++ (le16 0 ++ post)) w table)
         ≡ orErr (farIf t (subℕ (s .at) (q + 2))) (ok (encoder (pre ++ (le16 ((s .at + 65536 - (q + 2)) % 65536) ++ post)) w table))
@@ -167,64 +195,78 @@ module _ (all : List Event) where
     position-patch none = unfold patch-position farBranch distanceBits orErr in refl
     position-patch (some s) = unfold farBranch distanceBits in near-patch s (isNear (s .at) (q + 2)) refl
 
+    -- the loop's body: the label is looked up, and its offset put in place
     label-patch : patch-label pending (encoder (pre ++ (le16 0 ++ post)) w table)
         ≡ orErr (farBranch (lookup l all) (q + 2)) (ok (encoder (pre ++ (le16 (bits l (q + 2)) ++ post)) w table))
     unfolding patch-label
-    label-patch = ap (λ (o : Option ℕ). patch-position o pending (encoder (pre ++ (le16 0 ++ post)) w table)) (label-is l) ∙ position-patch (lookup l all)
+    label-patch =
+        ap (λ (o : Option ℕ). patch-position o pending (encoder (pre ++ (le16 0 ++ post)) w table)) (label-is l) ∙ position-patch (lookup l all)
 
   after-orErr : (o : Option EncoderError) (e : ActionEncoder) (k : Writing) → after (orErr o (ok e)) k ≡ orErr (firstOf o none) (k e)
   unfolding after orErr firstOf
   after-orErr none e k = refl
   after-orErr (some x) e k = refl
 
-  turns-operand : (l q : ℕ) (pre post : List ℕ) → length pre ≡ q → Turns (branchAt l (position q) ∷ []) (pre ++ (le16 0 ++ post)) (pre ++ (le16 (bits l (q + 2)) ++ post))
+  turns-operand : (l q : ℕ) (pre post : List ℕ) → length pre ≡ q
+      → Turns (branchAt l (position q) ∷ []) (pre ++ (le16 0 ++ post)) (pre ++ (le16 (bits l (q + 2)) ++ post))
   unfolding pendingOf firstFar for-each
   turns-operand l q pre post hq =
-      record { turns = λ w rest. ap (λ (r : Result). after r (for-each patch-label rest)) (label-patch l q pre post hq w) ∙ after-orErr (farBranch (lookup l all) (q + 2)) _ (for-each patch-label rest) }
+      record {
+        turns = λ w rest. ap (λ (r : Result). after r (for-each patch-label rest)) (label-patch l q pre post hq w)
+            ∙ after-orErr (farBranch (lookup l all) (q + 2)) _ (for-each patch-label rest);
+      }
 
-  branch-parts : (op : OpCode) (n : ℕ) (pre post : List ℕ) → ltb (byte op) 128 ≡ false → (pre ++ (byte op ∷ le16 2)) ++ (le16 n ++ post) ≡ pre ++ (framed op (le16 n) ++ post)
+  branch-parts : (op : OpCode) (n : ℕ) (pre post : List ℕ) → ltb (byte op) 128 ≡ false
+      → (pre ++ (byte op ∷ le16 2)) ++ (le16 n ++ post) ≡ pre ++ (framed op (le16 n) ++ post)
   unfolding le16
-  branch-parts op n pre post h = append-assoc pre (byte op ∷ le16 2) (le16 n ++ post) ∙ ap (λ (t : List ℕ). pre ++ (t ++ post)) (sym (framed-long op (le16 n) h))
+  branch-parts op n pre post h =
+      append-assoc pre (byte op ∷ le16 2) (le16 n ++ post) ∙ ap (λ (t : List ℕ). pre ++ (t ++ post)) (sym (framed-long op (le16 n) h))
 
   turns-branch : (k : Branch) (l p : ℕ) (pre post : List ℕ) → length pre ≡ p
-      → Turns (branchAt l (position (p + 3)) ∷ []) (pre ++ (framed (branchOpCode k) (le16 0) ++ post)) (pre ++ (framed (branchOpCode k) (le16 (bits l (p + 5))) ++ post))
+      → Turns (branchAt l (position (p + 3)) ∷ []) (pre ++ (framed (branchOpCode k) (le16 0) ++ post))
+      (pre ++ (framed (branchOpCode k) (le16 (bits l (p + 5))) ++ post))
   turns-branch k l p pre post h =
       let hd : List ℕ = byte (branchOpCode k) ∷ le16 2 in
       let e : p + 3 + 2 ≡ p + 5 = omega arith in
-      turns-as (turns-operand l (p + 3) (pre ++ hd) post (length-append pre hd ∙ ap₂ (λ (x y : ℕ). x + y) h (unfold le16 in refl))) refl
+      turns-as (turns-operand l (p + 3) (pre ++ hd) post
+      (length-append pre hd ∙ ap₂ (λ (x y : ℕ). x + y) h (unfold le16 in refl))) refl
       (branch-parts (branchOpCode k) 0 pre post (branch-long k))
-      (branch-parts (branchOpCode k) (bits l (p + 3 + 2)) pre post (branch-long k) ∙ ap (λ (n : ℕ). pre ++ (framed (branchOpCode k) (le16 (bits l n)) ++ post)) e)
+      (branch-parts (branchOpCode k) (bits l (p + 3 + 2)) pre post (branch-long k)
+      ∙ ap (λ (n : ℕ). pre ++ (framed (branchOpCode k) (le16 (bits l n)) ++ post)) e)
 
-  -- ---- what branches not
+  -- ---- what is no branch
 
-  only-quiet : (t : Bool) (e : Event) → pendingOf (e ∷ []) ≡ [] → firstFar (e ∷ []) ≡ none → (out : List ℕ) → Turns (eventIf t e) out out
+  event-quiet-if : (t : Bool) (e : Event) → pendingOf (e ∷ []) ≡ [] → firstFar (e ∷ []) ≡ none → (out : List ℕ) → Turns (eventIf t e) out out
   unfolding eventIf
-  only-quiet true e hl hf out = turns-quiet (e ∷ []) out hl hf
-  only-quiet false e hl hf out = turns-quiet [] out (unfold pendingOf in refl) (unfold firstFar in refl)
+  event-quiet-if true e hl hf out = turns-quiet (e ∷ []) out hl hf
+  event-quiet-if false e hl hf out = turns-quiet [] out (unfold pendingOf in refl) (unfold firstFar in refl)
 
   payload-quiet : (n : ℕ) (s : Position) (out : List ℕ) → Turns (payloadTest n s) out out
   unfolding payloadTest pendingOf firstFar
-  payload-quiet n s out = only-quiet (ltb 65535 n) (payloadTooLong n s) refl refl out
+  payload-quiet n s out = event-quiet-if (ltb 65535 n) (payloadTooLong n s) refl refl out
 
   event-quiet : (n : ℕ) (s : Position) (out : List ℕ) → Turns (bodyTest n s) out out
   unfolding bodyTest pendingOf firstFar
-  event-quiet n s out = only-quiet (ltb 65535 n) (bodyTooLong n s) refl refl out
+  event-quiet n s out = event-quiet-if (ltb 65535 n) (bodyTooLong n s) refl refl out
 
   labels-quiet : (es : List Entry) (i : ActionIndex) (s : Position) (out : List ℕ) → Turns (labelsAt es i s) out out
   unfolding labelsAt
   labels-quiet [] i s out = turns-quiet [] out (unfold pendingOf in refl) (unfold firstFar in refl)
-  labels-quiet (entry l j ∷ es) i s out = turns-then (only-quiet (eqb (i .index) (j .index)) (labelAt l s) (unfold pendingOf in refl) (unfold firstFar in refl) out) (labels-quiet es i s out)
+  labels-quiet (entry l j ∷ es) i s out =
+      turns-then
+      (event-quiet-if (eqb (i .index) (j .index)) (labelAt l s) (unfold pendingOf in refl) (unfold firstFar in refl) out) (labels-quiet es i s out)
 
   none-quiet : (out : List ℕ) → Turns [] out out
   unfolding pendingOf firstFar
   none-quiet out = turns-quiet [] out refl refl
 
-  -- ---- trees
+  -- ---- trees: with every branch at 0, and with its bits
 
   mutual
     unfolding trace bytes moved tryPayload
 
-    turns-action : (a : Action) (p : ℕ) (pre post : List ℕ) → length pre ≡ p → Turns (trace a (position p)) (pre ++ (bytes blank a p ++ post)) (pre ++ (bytes bits a p ++ post))
+    turns-action : (a : Action) (p : ℕ) (pre post : List ℕ) → length pre ≡ p
+        → Turns (trace a (position p)) (pre ++ (bytes blank a p ++ post)) (pre ++ (bytes bits a p ++ post))
     turns-action (flat f) p pre post h = payload-quiet (length (payload f)) (position p) (pre ++ (framed (opcode f) (payload f) ++ post))
     turns-action (branch k l) p pre post h = turns-branch k l p pre post h
     turns-action (owner d b) p pre post h =
@@ -234,7 +276,7 @@ module _ (all : List Event) where
         turns-as
         (turns-then (payload-quiet (length (ownerFields d) + 2) (position p) ((pre ++ q) ++ (bodyBytes blank b n ++ post)))
         (turns-then (turns-body b n (pre ++ q) post (omega (arith, length-append pre q))) (event-quiet (bodySize b) (position p) ((pre ++ q) ++ (bodyBytes bits b n ++ post)))))
-        refl (regroup₁ pre q (bodyBytes blank b n) post) (regroup₁ pre q (bodyBytes bits b n) post)
+        refl (regroup pre q (bodyBytes blank b n) post) (regroup pre q (bodyBytes bits b n) post)
     turns-action (Try b c f) p pre post h =
         let m : ℕ = 10 + length (catchName c) in
         let n : ℕ = p + (10 + length (catchName c)) in
@@ -273,15 +315,18 @@ module _ (all : List Event) where
         turns-then (labels-quiet es i (position p) _)
         (turns-then
         (turns-as (turns-action a p pre (actionsBytes blank xs n ++ post) h) refl (ap (λ (t : List ℕ). pre ++ t) (sym (append-assoc (bytes blank a p) (actionsBytes blank xs n) post))) refl)
-        (turns-as (turns-actions xs es (nextAction i) n (pre ++ x) post (omega (arith, length-append pre x, length-bytes bits a p))) refl (append-assoc pre x (actionsBytes blank xs n ++ post)) (regroup₁ pre x (actionsBytes bits xs n) post)))
+        (turns-as (turns-actions xs es (nextAction i) n (pre ++ x) post (omega (arith, length-append pre x, length-bytes bits a p))) refl (append-assoc pre x (actionsBytes blank xs n ++ post)) (regroup pre x (actionsBytes bits xs n) post)))
 
-    pub turns-body : (b : Actions) (p : ℕ) (pre post : List ℕ) → length pre ≡ p → Turns (traceBody b (position p)) (pre ++ (bodyBytes blank b p ++ post)) (pre ++ (bodyBytes bits b p ++ post))
+    pub turns-body : (b : Actions) (p : ℕ) (pre post : List ℕ) → length pre ≡ p
+        → Turns (traceBody b (position p)) (pre ++ (bodyBytes blank b p ++ post)) (pre ++ (bodyBytes bits b p ++ post))
     turns-body (body es xs) p pre post h = turns-actions xs es firstAction p pre post h
 
-    turns-catch : (c : Catch) (p : ℕ) (pre post : List ℕ) → length pre ≡ p → Turns (traceCatch c (position p)) (pre ++ (catchBytes blank c p ++ post)) (pre ++ (catchBytes bits c p ++ post))
+    turns-catch : (c : Catch) (p : ℕ) (pre post : List ℕ) → length pre ≡ p
+        → Turns (traceCatch c (position p)) (pre ++ (catchBytes blank c p ++ post)) (pre ++ (catchBytes bits c p ++ post))
     turns-catch noCatch p pre post h = none-quiet (pre ++ post)
     turns-catch (catch t b) p pre post h = turns-body b p pre post h
 
-    turns-finally : (f : Finally) (p : ℕ) (pre post : List ℕ) → length pre ≡ p → Turns (traceFinally f (position p)) (pre ++ (finallyBytes blank f p ++ post)) (pre ++ (finallyBytes bits f p ++ post))
+    turns-finally : (f : Finally) (p : ℕ) (pre post : List ℕ) → length pre ≡ p
+        → Turns (traceFinally f (position p)) (pre ++ (finallyBytes blank f p ++ post)) (pre ++ (finallyBytes bits f p ++ post))
     turns-finally noFinally p pre post h = none-quiet (pre ++ post)
     turns-finally (finally b) p pre post h = turns-body b p pre post h
