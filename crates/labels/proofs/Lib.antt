@@ -1,0 +1,3 @@
+pub mod Recording
+pub mod Labels
+pub mod Distances

@@ -1,0 +1,104 @@
+// Labels: one table for the block, lent. It holds position + 1 for each label number, or 0 where none is recorded.
+//
+// An entry's four bytes are one number, label + 65536 * index. Entries in the order of these numbers are in the order in which
+// they are recorded, and no two of a body are equal. 4294967295 stands for "no entry is left": no label number is 65535.
+ghost use mathlib.Core.Path.{_≡_};
+ghost use Prim.Native.Nat.{_+_, _*_, _<_, _≤_};
+ghost use lib.ListN.{length, getD};
+ghost use Rattle.layout.specs.Numbers.{bits64};
+ghost use Rattle.layout.specs.Judge.{distance};
+ghost use Rattle.labels.specs.Table.{recordOf, entriesAt, due, index, place, Recordable, Recorded, IsFar};
+use fields::u32_at;
+
+// The index of an action in its body's list: what label_positions of source 001's Actions holds.
+pub struct ActionIndex(pub u32);
+
+// A position in the written block: what label_positions of source 000's ActionEncoder holds.
+pub struct BytePosition(pub usize);
+
+// The least of n entries at or above `from`. (The loop has no way out and chooses values, so that it runs on several at a time.)
+pub fn due_entry(b: &[u8], at: usize, n: usize, from: u32) -> u32
+    requires { ⌜ at + 4 * n ≤ length (now b) ⌝ }
+    ensures { λ r. ⌜ r ≡ due (entriesAt (now (b .entry)) n at) from ⌝ }
+{
+    let mut least = 4294967295;
+    let mut p = at;
+    let mut left = n;
+    while 0 < left {
+        let e = u32_at(b, p);
+        let x = if e < from { 4294967295 } else { e };
+        least = if x < least { x } else { least };
+        p += 4;
+        left -= 1;
+    }
+    least
+}
+
+// Records the entries with index i, of which `first` is the first due; answers the first that is due later.
+fn record_each(
+    b: &[u8],
+    at: usize,
+    n: usize,
+    first: u32,
+    i: ActionIndex,
+    pos: BytePosition,
+    tab: &mut [usize],
+) -> u32
+    requires { ⌜ (at + 4 * n ≤ length (now b)) × Recordable (entriesAt (now b) n at) first (index i) (place pos) (now tab) ⌝ }
+    ensures { λ r. ⌜ Recorded (entriesAt (now (b .entry)) n at) (index i) (place pos) (now (tab .entry)) (now (tab .exit)) r ⌝ }
+{
+    let mut next = first;
+    while next / 65536 == i.0 {
+        if next == 4294967295 {
+            return next;
+        }
+        let label = (next % 65536) as usize;
+        tab[label] = pos.0 + 1;
+        next = due_entry(b, at, n, next + 1);
+    }
+    next
+}
+
+// The same, with the test before the call: most actions have no label.
+pub fn record_labels(
+    b: &[u8],
+    at: usize,
+    n: usize,
+    first: u32,
+    i: ActionIndex,
+    pos: BytePosition,
+    tab: &mut [usize],
+) -> u32
+    requires { ⌜ (at + 4 * n ≤ length (now b)) × Recordable (entriesAt (now b) n at) first (index i) (place pos) (now tab) ⌝ }
+    ensures { λ r. ⌜ Recorded (entriesAt (now (b .entry)) n at) (index i) (place pos) (now (tab .entry)) (now (tab .exit)) r ⌝ }
+{
+    if first / 65536 != i.0 {
+        return first;
+    }
+    record_each(b, at, n, first, i, pos, tab)
+}
+
+// The 64 bits of a branch's distance, from the position after its operand to its label's record; 0 without one.
+pub fn distance(tab: &[usize], label: usize, after: BytePosition) -> u64
+    requires { ⌜ label < length (now tab) ⌝ }
+    ensures { λ r. ⌜ r ≡ bits64 (distance (recordOf (getD (now (tab .entry)) label 0)) (after .0)) ⌝ }
+{
+    let slot = tab[label];
+    if slot == 0 {
+        return 0;
+    }
+    if after.0 < slot {
+        return (slot - 1 - after.0) as u64;
+    }
+    18446744073709551615 - ((after.0 - slot) as u64)
+}
+
+// Whether a distance of these bits is outside -32,768 to 32,767.
+pub fn is_far(bits: u64) -> bool
+    ensures { λ r. ⌜ IsFar bits r ⌝ }
+{
+    if bits < 32768 {
+        return false;
+    }
+    bits < 18446744073709518848
+}
