@@ -109,12 +109,12 @@ module _ (b : List ℕ) (small : Bytes b) where
       good-whole (leb (p .at + 8) (length b)) _ _ _ l
       (λ e. ((omega (arith, two-small (p .at), two-small (p .at + 2), two-small (p .at + 4), two-small (p .at + 4 + 2)), refl), leb-true _ _ e))
 
-  tested-good : {A : Type 0} {P : A → Place → Type 0} (within : A → Bool) (r : Reader A) (p : Place) → p .at ≤ length b → Good (length b) P (r p)
+  pub tested-good : {A : Type 0} {P : A → Place → Type 0} (within : A → Bool) (r : Reader A) (p : Place) → p .at ≤ length b → Good (length b) P (r p)
       → Good (length b) (λ a q. P a q × (within a ≡ true)) (tested within r p)
   unfolding tested
   tested-good within r p k h = good-then h (λ a q g l. good-within (within a) p a q k l (λ e. (g, e)))
 
-  flag-good : (p : Place) → p .at ≤ length b → Good (length b) (λ t q. q .at ≡ p .at + 1) (readFlag b p)
+  pub flag-good : (p : Place) → p .at ≤ length b → Good (length b) (λ t q. q .at ≡ p .at + 1) (readFlag b p)
   unfolding readFlag
   flag-good p l = good-then (tested-good (λ n. ltb n 2) (readU8 b) p l (u8-good p l)) (λ n q h k. fine (h .0 .1) k)
 
