@@ -1,0 +1,20 @@
+use borrow.Author.Tests.{lt-ltb, le-ltb}
+use Rattle.layout.specs.Lists.{pick}
+use Rattle.layout.specs.Lengths.{pushLength}
+use Rattle.pcode.proofs.OpCode.constant_len.Statement.{statement}
+use Rattle.pcode.proofs.OpCode.constant_len.Tie as tie
+use Rattle.pcode.proofs.OpCode.constant_len.Reads as reads
+use Rattle.pcode.proofs.OpCode.constant_len.Lts as lts
+
+-- src/lib.rt:445:5
+returns : tie.Need-returns
+unfolding pushLength pick
+returns c = rw (lt-ltb _ _ (c .if1 .taken))
+
+-- src/lib.rt:445:5
+returns-2 : tie.Need-returns-2
+unfolding pushLength pick
+returns-2 c = rw (le-ltb _ _ (c .if1 .left))
+
+pub constant-len-spec : {M : Type 1} → statement M
+constant-len-spec = tie.close (tie.spec returns returns-2)
