@@ -8,6 +8,7 @@ ghost use Rattle.layout.specs.OpCode.{byte, opcodes};
 ghost use Rattle.layout.specs.Tree.{Constant};
 ghost use Rattle.layout.specs.Lengths.{pushLength};
 ghost use Rattle.pcode.specs.Listed.{listed};
+ghost use Rattle.pcode.specs.Shown.{spanAt, functionAt, ValueReads, ShowsValue};
 ghost use Rattle.pcode.specs.PayloadLengths.{GetUrlLength, StringLength, ConstantPoolLength, DefineFunctionLength, DefineFunction2Length, TryLength, GotoFrame2Length, FixedLengths};
 use fields::u16_at;
 use fields::u32_at;
@@ -714,6 +715,12 @@ pub enum PushValue {
     Constant(usize),
 }
 
+// A pushed value and the place after it.
+pub struct PushAt {
+    pub value: PushValue,
+    pub next: usize,
+}
+
 // A function's name, the count of its parameters and the first one's place.
 pub struct Function {
     pub name: Span,
@@ -741,4 +748,60 @@ pub enum Action {
     DefineFunction(Function),
     If(usize),
     GotoFrame2(usize, u8),
+}
+
+// The string at a place: its bytes stand behind its length.
+fn span_at(b: &[u8], at: usize) -> Span
+    requires { ⌜ at + 2 ≤ length (now b) ⌝ }
+    ensures { λ r. ⌜ r ≡ spanAt (now (b .entry)) at ⌝ }
+{
+    Span {
+        at: at + 2,
+        len: u16_at(b, at),
+    }
+}
+
+// The pushed value at a place where one reads.
+pub fn push_value_at(b: &[u8], at: usize) -> PushAt
+    requires { ⌜ ValueReads (now b) at ⌝ }
+    ensures { λ r. ⌜ ShowsValue (now (b .entry)) at r ⌝ }
+{
+    let p = at + 1;
+    match b[at] {
+        0 => {
+            let string = span_at(b, p);
+            PushAt {
+                value: PushValue::String(string),
+                next: string.at + string.len,
+            }
+        }
+        2 => PushAt {
+            value: PushValue::Null,
+            next: p,
+        },
+        3 => PushAt {
+            value: PushValue::Undefined,
+            next: p,
+        },
+        4 => PushAt {
+            value: PushValue::Register(b[p]),
+            next: p + 1,
+        },
+        5 => PushAt {
+            value: PushValue::Boolean(b[p]),
+            next: p + 1,
+        },
+        6 => PushAt {
+            value: PushValue::Float(u64_at(b, p)),
+            next: p + 8,
+        },
+        7 => PushAt {
+            value: PushValue::Integer(u32_at(b, p)),
+            next: p + 4,
+        },
+        _ => PushAt {
+            value: PushValue::Constant(u16_at(b, p)),
+            next: p + 2,
+        },
+    }
 }

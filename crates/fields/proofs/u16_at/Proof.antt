@@ -1,43 +1,34 @@
+-- `fields::u16_at` meets its contract: a byte is below 256. Assumes nothing.
 use mathlib.Core.Path.{refl}
 use Prim.Native.Nat.{_+_}
 use native.Mathlib.Omega.{arith}
 use borrow.Author.Needs.{needs}
 use Rattle.fields.proofs.u16_at.Statement.{statement}
 use Rattle.fields.proofs.u16_at.Tie as tie
-use Rattle.fields.proofs.u16_at.Reads as reads
-use Rattle.fields.proofs.u16_at.Lts as lts
 
--- src/lib.rt:16:6
 shared-slice-read-result : tie.Need-shared-slice-read-result
 shared-slice-read-result c = search needs
 
--- src/lib.rt:16:6
 cast-result : tie.Need-cast-result
 cast-result c = omega (arith, c .shared-slice-known .given (c .before .args .at))
 
--- src/lib.rt:16:33
 add-result : tie.Need-add-result
 add-result c = search needs
 
--- src/lib.rt:16:31
 shared-slice-read-result-2 : tie.Need-shared-slice-read-result-2
 shared-slice-read-result-2 c = search needs
 
--- src/lib.rt:16:31
 cast-result-2 : tie.Need-cast-result-2
 cast-result-2 c = omega (arith, c .shared-slice-known2 .given (c .before .before .args .at + 1))
 
--- src/lib.rt:16:24
 mul-result : tie.Need-mul-result
 mul-result c = omega (arith, c .shared-slice-known2 .given (c .before .before .args .at + 1))
 
--- src/lib.rt:16:5
 add-result-2 : tie.Need-add-result-2
 add-result-2 c =
     let a = c .before .before .args .at in
     omega (arith, c .shared-slice-known2 .given a, c .shared-slice-known2 .given (a + 1))
 
--- src/lib.rt:12:1
 returns : tie.Need-returns
 returns c =
     let a = c .before .before .args .at in
