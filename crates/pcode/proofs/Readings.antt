@@ -38,15 +38,30 @@ module _ {A : Type 0} {P : A → Place → Type 0} where
   next k (gives (exactly h)) f = f h
   next k refuses f = refuses
 
-  -- any reading, and then another
-  pub any : {B : Type 0} {k : B → Reader A} (m : Read B) → ((x : B) (q : Place) → m ≡ got x q → Gives P (k x q)) → Gives P (chain m k)
-  any (got x q) f = f x q refl
-  any (bad g q) f = refuses
+  -- a reading of which a property is known, and then another
+  pub then : {B : Type 0} {Q : B → Place → Type 0} {m : Read B} {k : B → Reader A} → Gives Q m → ((x : B) (q : Place) → Q x q → Gives P (k x q)) → Gives P (chain m k)
+  then (gives h) f = f _ _ h
+  then refuses f = refuses
+
+-- a reading gives what it gives
+pub itself : {A : Type 0} (m : Read A) → Gives (λ a q. m ≡ got a q) m
+itself (got a q) = gives refl
+itself (bad f q) = refuses
+
+-- something holds besides
+also : {A X : Type 0} {P : A → Place → Type 0} {m : Read A} → X → Gives P m → Gives (λ a q. X × P a q) m
+also h (gives k) = gives (h, k)
+also h refuses = refuses
 
 -- what holds anyway
 pub anyway : {A X : Type 0} (m : Read A) → X → Gives (λ a q. X) m
 anyway (got a q) h = gives h
 anyway (bad f q) h = refuses
+
+-- less is known
+pub weaker : {A X Y : Type 0} {x : A} {q : Place} {m : Read A} → Gives (Exactly X x q) m → (X → Y) → Gives (Exactly Y x q) m
+weaker (gives (exactly h)) f = gives (exactly (f h))
+weaker refuses f = refuses
 
 -- ---- fields
 
@@ -91,6 +106,11 @@ module _ (b : List ℕ) (p : ℕ) where
   pub flag : Gives (Exactly ((p + 1 ≤ length b) × (getD b p 0 < 2)) (eqb (getD b p 0) 1) (place (p + 1))) (readFlag b (place p))
   unfolding readFlag
   flag = next _ (passed (λ n. ltb n 2) (readU8 b) u8) (λ l. gives (exactly (l .0, ltb-true _ _ (l .1))))
+
+  -- a count, and as many of the same
+  pub counted : {A : Type 0} (read : Reader A) → Gives (λ xs q. (p + 2 ≤ length b) × (repeat read (u16At b p) (place (p + 2)) ≡ got xs q)) (readCounted b read (place p))
+  unfolding readCounted
+  counted read = next _ u16 (λ l. also l (itself (repeat read (u16At b p) (place (p + 2)))))
 
   spelling : (n : ℕ) → Gives (Exactly (p + n ≤ length b) (part b p n) (place (p + n))) (readSpelling b n (place p))
   unfolding readSpelling readBytes

@@ -8,7 +8,7 @@ ghost use Rattle.layout.specs.OpCode.{byte, opcodes};
 ghost use Rattle.layout.specs.Tree.{Constant};
 ghost use Rattle.layout.specs.Lengths.{pushLength};
 ghost use Rattle.pcode.specs.Listed.{listed};
-ghost use Rattle.pcode.specs.Shown.{spanAt, functionAt, ValueReads, ShowsValue};
+ghost use Rattle.pcode.specs.Shown.{spanAt, after, functionAt, afterTry, tryAt, ValueReads, ShowsValue, ActionReads, ShowsAction};
 ghost use Rattle.pcode.specs.PayloadLengths.{GetUrlLength, StringLength, ConstantPoolLength, DefineFunctionLength, DefineFunction2Length, TryLength, GotoFrame2Length, FixedLengths};
 use fields::u16_at;
 use fields::u32_at;
@@ -803,5 +803,73 @@ pub fn push_value_at(b: &[u8], at: usize) -> PushAt
             value: PushValue::Constant(u16_at(b, p)),
             next: p + 2,
         },
+    }
+}
+
+// A name at a place, and the parameters behind it.
+fn function_at(b: &[u8], at: usize) -> Function
+    requires { ⌜ functionAt (now b) at .at ≤ length (now b) ⌝ }
+    ensures { λ r. ⌜ r ≡ functionAt (now (b .entry)) at ⌝ }
+{
+    let name = span_at(b, at);
+    let p = name.at + name.len;
+    Function {
+        name,
+        count: u16_at(b, p),
+        at: p + 2,
+    }
+}
+
+// The two strings of a GetUrl.
+fn get_url_at(b: &[u8], at: usize) -> Action
+    requires { ⌜ after (spanAt (now b) (after (spanAt (now b) at))) ≤ length (now b) ⌝ }
+    ensures { λ r. ⌜ r ≡ Action.GetUrl (spanAt (now (b .entry)) at) (spanAt (now (b .entry)) (after (spanAt (now (b .entry)) at))) ⌝ }
+{
+    let url = span_at(b, at);
+    Action::GetUrl(url, span_at(b, url.at + url.len))
+}
+
+// A Try's shape, its catch target and its first body's place.
+fn try_at(b: &[u8], at: usize) -> Action
+    requires { ⌜ afterTry (now b) at ≤ length (now b) ⌝ }
+    ensures { λ r. ⌜ r ≡ tryAt (now (b .entry)) at ⌝ }
+{
+    let shape = b[at];
+    let p = at + 1;
+    if shape % 2 == 0 {
+        return Action::Try(shape, CatchTarget::Nothing, p);
+    }
+    if shape / 4 % 2 == 0 {
+        let name = span_at(b, p);
+        return Action::Try(shape, CatchTarget::Variable(name), name.at + name.len);
+    }
+    Action::Try(shape, CatchTarget::Register(b[p]), p + 1)
+}
+
+// The action at a place where one reads.
+pub fn action_at(b: &[u8], at: usize) -> Action
+    requires { ⌜ ActionReads (now b) at ⌝ }
+    ensures { λ r. ⌜ ShowsAction (now (b .entry)) at r ⌝ }
+{
+    let p = at + 1;
+    match b[at] {
+        OpCode::GOTO_FRAME => Action::GotoFrame(u16_at(b, p)),
+        OpCode::GET_URL => get_url_at(b, p),
+        OpCode::STORE_REGISTER => Action::StoreRegister(b[p]),
+        OpCode::CONSTANT_POOL => Action::ConstantPool(u16_at(b, p), p + 2),
+        OpCode::WAIT_FOR_FRAME => Action::WaitForFrame(u16_at(b, p), b[p + 2]),
+        OpCode::SET_TARGET => Action::SetTarget(span_at(b, p)),
+        OpCode::GOTO_LABEL => Action::GotoLabel(span_at(b, p)),
+        OpCode::WAIT_FOR_FRAME2 => Action::WaitForFrame2(b[p]),
+        OpCode::DEFINE_FUNCTION2 => Action::DefineFunction2(function_at(b, p)),
+        OpCode::TRY => try_at(b, p),
+        OpCode::WITH => Action::With(p),
+        OpCode::PUSH => Action::Push(u16_at(b, p), p + 2),
+        OpCode::JUMP => Action::Jump(u16_at(b, p)),
+        OpCode::GET_URL2 => Action::GetUrl2(b[p], b[p + 1], b[p + 2]),
+        OpCode::DEFINE_FUNCTION => Action::DefineFunction(function_at(b, p)),
+        OpCode::IF => Action::If(u16_at(b, p)),
+        OpCode::GOTO_FRAME2 => Action::GotoFrame2(u16_at(b, p), b[p + 2]),
+        op => Action::Small(op),
     }
 }
