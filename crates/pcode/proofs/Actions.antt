@@ -11,13 +11,15 @@ use borrow.Author.Tests.{ltb-true}
 use Rattle.layout.specs.Lists.{firstWith, first-with, pick, each}
 use Rattle.layout.specs.Numbers.{u16At}
 use Rattle.layout.specs.OpCode.{SmallOpCode, OpCode, smallByte, byte, smallOpCodes, opcodes, opcodeOf}
-use Rattle.layout.specs.Tree.{CatchTargetOf, ActionOf, ActionsOf, flat, Small}
-use Rattle.layout.specs.Read.{Text, Terms, Place, Read, got, Reader, repeat, tested, chain, isShape, hasCatch, hasRegister, hasFinally, readU8, readU16, readCounted, readString, readParam, readValue, readLabel, readCatchTarget, readCatch, readFinally, readTry, readFields, readFieldsIf, readAction}
+use Rattle.layout.specs.Tree.{ActionOf, ActionsOf}
+use Rattle.layout.specs.Read.{Text, Terms, Place, Reader, isShape, hasCatch, hasRegister, hasFinally, readU8, readU16, readString, readParam, readValue, readLabel, readCatchTarget, readCatch, readFinally, readTry, readFields, readFieldsIf, readAction}
 use Rattle.pcode.specs.declared.Action.{Action}
 use Rattle.pcode.specs.declared.Action.the-variants as code
 use Rattle.pcode.specs.Shown.{place, spanAt, after, functionAt, catchAt, afterCatch, afterTry, tryAt, isText, ShownTarget, nothing, variable, register, Shown, small, gotoFrame, getUrl, storeRegister, constantPool, waitForFrame, setTarget, gotoLabel, waitForFrame2, defineFunction2, try, with, push, jump, getUrl2, defineFunction, if, gotoFrame2, ActionReads, ShowsAction}
-use Rattle.pcode.proofs.Readings.{NoneOf, isOne, barred, Gives, gives, refuses, Exactly, exactly, given, next, then, itself, anyway, weaker, first, u8, u16, passed, flag, counted, string}
+use Rattle.pcode.proofs.Arms.{NoneOf, isOne, barred}
+use Rattle.pcode.proofs.Readings.{Gives, gives, refuses, Exactly, given, next, then, itself, weaker, first, u8, u16, passed, flag, counted, string}
 
+-- places, one after the other
 two : (p : ℕ) → p + 1 + 1 ≡ p + 2
 two p = omega arith
 
@@ -70,6 +72,7 @@ taken b OpCode.If p = p + 2
 taken b OpCode.GotoFrame2 p = p + 3
 
 module _ (terms : Terms) (b : List ℕ) (p : ℕ) (l : p ≤ length b) where
+  -- the target that the code takes for a shape's bits shows the one that the definitions read
   target-shown : (shape : ℕ) (c r : Bool) → hasCatch shape ≡ c → hasRegister shape ≡ r
       → Gives (λ t q. ShownTarget b shape (catchAt c r b p) t × (q ≡ place (afterCatch c r b p)) × (afterCatch c r b p ≤ length b)) (readCatchTarget terms b c r (place p))
   unfolding readCatchTarget
@@ -77,6 +80,7 @@ module _ (terms : Terms) (b : List ℕ) (p : ℕ) (l : p ≤ length b) where
   target-shown shape true false e f = next _ (string terms b p) (λ m. gives (variable e f (isText m), refl, m))
   target-shown shape false r e f = gives (nothing e, refl, l)
 
+-- the first of two tests that pass
 and-left : (s t : Bool) → (s && t) ≡ true → s ≡ true
 and-left true t e = refl
 and-left false t e = e
@@ -86,10 +90,12 @@ module _ (terms : Terms) (b : List ℕ) (inner : Reader (ActionsOf Text ℕ)) (p
   abbrev Taken : Action → ℕ → ActionOf Text ℕ → Place → Type 0
   Taken r m a q = Shown terms b inner p r a q × (m ≤ length b)
 
+  -- a label number
   label : Gives (Exactly ((p + 2 ≤ length b) × (u16At b p < terms .labelBound)) (u16At b p) (place (p + 2))) (readLabel terms b 0 (place p))
   unfolding readLabel
   label = weaker (passed b p (λ n. ltb n (terms .labelBound) && leb 0 n) (readU16 b) (u16 b p)) (λ h. (h .0, ltb-true _ _ (and-left _ _ (h .1))))
 
+  -- a Try, whose shape was read
   try-shown : (shape : ℕ) → getD b p 0 ≡ shape → p + 1 ≤ length b → isShape shape ≡ true
       → Gives (Taken (tryAt b p) (taken b OpCode.Try p)) (readTry terms b inner shape (place (p + 1)))
   unfolding readTry
@@ -99,6 +105,7 @@ module _ (terms : Terms) (b : List ℕ) (inner : Reader (ActionsOf Text ℕ)) (p
       (λ c o j. then (itself (readFinally terms b inner (hasFinally shape) o))
       (λ f u k. gives (rw s (try e (h .0) (ap inner (sym (h .1)) ∙ i) j k, h .2))))))
 
+  -- what the code takes for an opcode shows the action that the definitions read
   fields-shown : (op : OpCode) → Gives (Taken (actionAt b op p) (taken b op p)) (readFields terms b inner op (place p))
   unfolding readFields
   fields-shown (OpCode.Small op) = gives (small refl, l)
@@ -169,17 +176,17 @@ arm-listed isDefineFunction = refl
 arm-listed isIf = refl
 arm-listed isGotoFrame2 = refl
 
+-- the same by the byte that stands at p
 action-taken : (b : List ℕ) (p : ℕ) {n : ℕ} {op : OpCode} → Arm n op → getD b p 0 ≡ n → (terms : Terms) (inner : Reader (ActionsOf Text ℕ))
     → Gives (λ a q. Shown terms b inner (p + 1) (actionAt b op (p + 1)) a q × (taken b op (p + 1) ≤ length b)) (readAction terms b inner (place p))
 unfolding readAction readFieldsIf
 action-taken b p {op = op} arm e terms inner = next _ (u8 b p) (λ l. rw (e, arm-listed arm) (fields-shown terms b inner (p + 1) l op))
 
 module _ {b : List ℕ} {p n : ℕ} {op : OpCode} where
-  -- what the code takes for the opcode that stands at p shows that action
   pub action-shown : Arm n op → getD b p 0 ≡ n → ShowsAction b p (actionAt b op (p + 1))
   action-shown arm e = record { shows = λ terms inner a q r. given (action-taken b p arm e terms inner) r .0 }
 
-  -- and lies within b
+  -- what it takes lies within b
   pub action-room : Arm n op → getD b p 0 ≡ n → ActionReads b p → taken b op (p + 1) ≤ length b
   action-room arm e reads = given (action-taken b p arm e (reads .terms) (reads .inner)) (reads .reads) .1
 
@@ -195,6 +202,7 @@ abbrev pub fieldBytes : List ℕ
 fieldBytes = 0x9F ∷ 0x9D ∷ 0x9B ∷ 0x9A ∷ 0x99 ∷ 0x96 ∷ 0x94 ∷ 0x8F ∷ 0x8E ∷ 0x8D ∷ 0x8C ∷ 0x8B ∷ 0x8A ∷ 0x88 ∷ 0x87 ∷ 0x83 ∷ 0x81 ∷ []
 
 module _ (terms : Terms) (b : List ℕ) (inner : Reader (ActionsOf Text ℕ)) (p n : ℕ) (none-of : NoneOf fieldBytes n) where
+  -- an opcode that has no fields is all that the code takes
   small-shown : (op : OpCode) → byte op ≡ n → Gives (Shown terms b inner p (code.Small n)) (readFields terms b inner op (place p))
   unfolding readFields byte isOne pick
   small-shown (OpCode.Small op) e = gives (small e)
@@ -221,7 +229,7 @@ module _ (terms : Terms) (b : List ℕ) (inner : Reader (ActionsOf Text ℕ)) (p
   small-if (some op) q e = small-shown op (unfold opcodeOf in first-with byte n opcodes op e)
   small-if none q e = refuses
 
--- an opcode that has no fields is all that the code takes
+-- the same by the byte that stands at p
 pub other-shown : {b : List ℕ} {p : ℕ} → NoneOf fieldBytes (getD b p 0) → ShowsAction b p (code.Small (getD b p 0))
 unfolding readAction
 other-shown {b} {p} h = record { shows = λ terms inner a q r. given (next _ (u8 b p) (λ l. small-if terms b inner (p + 1) (getD b p 0) h (opcodeOf (getD b p 0)) _ refl)) r }

@@ -1,27 +1,25 @@
 -- What a reading that gives a value gives: the laws of the definitions' readers, each at a place p of the bytes b.
 -- Assumes nothing.
-use mathlib.Core.Path.{_≡_, refl, sym, _∙_, subst}
-use Prim.Native.Nat.{ℕ, _+_, _*_, _≤_, _<_}
-use native.Mathlib.Omega.{arith}
+use mathlib.Core.Path.{_≡_, refl, subst}
+use Prim.Native.Nat.{ℕ, _+_, _≤_, _<_}
 use mathlib.Core.Bool.{Bool, true, false}
 use mathlib.Core.Option.{Option, none, some}
-use mathlib.Core.List.{List, [], _∷_}
+use mathlib.Core.List.{List}
 use lib.ListN.{length, getD}
 use lib.Dec.{leb, ltb, eqb}
-use borrow.Author.Tests.{leb-true, ltb-true, eqb-true}
-use Rattle.layout.specs.Lists.{pick}
+use borrow.Author.Tests.{leb-true, ltb-true}
 use Rattle.layout.specs.Numbers.{u16At, u32At, u64At}
 use Rattle.layout.specs.Answers.{Fault}
-use Rattle.layout.specs.Read.{Text, plain, Terms, Place, ahead, Read, got, bad, Reader, chain, ifWhole, ifWithin, tested, repeat, firstZero, ifNoZero, readU8, readU16, readU32, readU64, readBytes, readFlag, readSpelling, readCounted, readString}
+use Rattle.layout.specs.Read.{Text, plain, Terms, Place, Read, got, bad, Reader, chain, ifWhole, ifWithin, tested, repeat, firstZero, ifNoZero, readU8, readU16, readU32, readU64, readBytes, readFlag, readSpelling, readCounted, readString}
 use Rattle.fields.specs.Runs.{part}
 use Rattle.pcode.specs.Shown.{place, spanAt, after}
 
--- whatever a reading gives has the property
+-- a reading refuses, or what it gives has the property
 pub data Gives {A : Type 0} (P : A → Place → Type 0) : Read A → Type 0 where
   gives : {a : A} {q : Place} → P a q → Gives P (got a q)
   refuses : {f : Fault} {q : Place} → Gives P (bad f q)
 
--- the value x and the next place q, and X holds
+-- the property of being the value x with the next place q, while X holds
 pub data Exactly (X : Type 0) {A : Type 0} (x : A) (q : Place) : A → Place → Type 0 where
   exactly : X → Exactly X x q x q
 
@@ -33,12 +31,12 @@ module _ {A : Type 0} {P : A → Place → Type 0} where
       go : Gives P (got a q) → P a q
       go (gives k) = k
 
-  -- a reading of which one thing is known, and then another
+  -- a reading that gives just this, and then another
   pub next : {B X : Type 0} {x : B} {q : Place} {m : Read B} (k : B → Reader A) → Gives (Exactly X x q) m → (X → Gives P (k x q)) → Gives P (chain m k)
   next k (gives (exactly h)) f = f h
   next k refuses f = refuses
 
-  -- a reading of which a property is known, and then another
+  -- a reading whose value has a property, and then another
   pub then : {B : Type 0} {Q : B → Place → Type 0} {m : Read B} {k : B → Reader A} → Gives Q m → ((x : B) (q : Place) → Q x q → Gives P (k x q)) → Gives P (chain m k)
   then (gives h) f = f _ _ h
   then refuses f = refuses
@@ -48,23 +46,28 @@ pub itself : {A : Type 0} (m : Read A) → Gives (λ a q. m ≡ got a q) m
 itself (got a q) = gives refl
 itself (bad f q) = refuses
 
--- something holds besides
+-- what holds besides may be added
 also : {A X : Type 0} {P : A → Place → Type 0} {m : Read A} → X → Gives P m → Gives (λ a q. X × P a q) m
 also h (gives k) = gives (h, k)
 also h refuses = refuses
 
--- what holds anyway
+-- what holds anyway holds then
 pub anyway : {A X : Type 0} (m : Read A) → X → Gives (λ a q. X) m
 anyway (got a q) h = gives h
 anyway (bad f q) h = refuses
 
--- less is known
+-- what the first reading tells, whatever follows
+pub first : {A B X : Type 0} {x : B} {q : Place} {m : Read B} (k : B → Reader A) → Gives (Exactly X x q) m → Gives (λ a r. X) (chain m k)
+first k h = next k h (λ l. anyway _ l)
+
+-- less may be said
 pub weaker : {A X Y : Type 0} {x : A} {q : Place} {m : Read A} → Gives (Exactly X x q) m → (X → Y) → Gives (Exactly Y x q) m
 weaker (gives (exactly h)) f = gives (exactly (f h))
 weaker refuses f = refuses
 
 -- ---- fields
 
+-- a field that is there, one that is within its range, and bytes of which none is zero
 whole : {A X : Type 0} (t : Bool) (o : Place) {q : Place} {x : A} → (t ≡ true → X) → Gives (Exactly X x q) (ifWhole t o x q)
 unfolding ifWhole
 whole true o h = gives (exactly (h refl))
@@ -81,6 +84,7 @@ noZero o none h = gives (exactly h)
 noZero o (some z) h = refuses
 
 module _ (b : List ℕ) (p : ℕ) where
+  -- numbers
   pub u8 : Gives (Exactly (p + 1 ≤ length b) (getD b p 0) (place (p + 1))) (readU8 b (place p))
   unfolding readU8
   u8 = whole (leb (p + 1) (length b)) _ (leb-true _ _)
@@ -112,6 +116,7 @@ module _ (b : List ℕ) (p : ℕ) where
   unfolding readCounted
   counted read = next _ u16 (λ l. also l (itself (repeat read (u16At b p) (place (p + 2)))))
 
+  -- n bytes, none zero
   spelling : (n : ℕ) → Gives (Exactly (p + n ≤ length b) (part b p n) (place (p + n))) (readSpelling b n (place p))
   unfolding readSpelling readBytes
   spelling n = next _ (whole (leb (p + n) (length b)) _ (leb-true _ _)) (λ l. noZero _ (firstZero 0 (part b p n)) l)
@@ -121,29 +126,3 @@ module _ (terms : Terms) (b : List ℕ) (p : ℕ) where
   pub string : Gives (Exactly (after (spanAt b p) ≤ length b) (plain (part b (p + 2) (u16At b p))) (place (after (spanAt b p)))) (readString terms b (place p))
   unfolding readString
   string = next _ (u16 b p) (λ l. next _ (spelling b (p + 2) (u16At b p)) (λ m. gives (exactly m)))
-
--- a number is none of these: what a match's last arm knows of it, the arm before it first
-abbrev pub NoneOf : List ℕ → ℕ → Type 0
-NoneOf [] n = Unit {0}
-NoneOf (k ∷ ks) n = NoneOf ks n × (n ≡ k → ⊥)
-
--- whether m is one of these
-unfoldable pub isOne : List ℕ → ℕ → Bool
-isOne [] m = false
-isOne (k ∷ ks) m = pick (eqb m k) true (isOne ks m)
-
--- so it is not a number that is one of them
-pub barred : (ks : List ℕ) {m n : ℕ} → NoneOf ks n → m ≡ n → isOne ks m ≡ true → ⊥
-unfolding isOne pick
-barred [] h e t =
-    let z : _≡_ {A = ℕ} 0 1 = cc in
-    omega arith
-barred (k ∷ ks) {m} {n} h e t = go (eqb m k) refl (barred ks (h .0) e) t
-  where
-    go : (s : Bool) → eqb m k ≡ s → (isOne ks m ≡ true → ⊥) → pick s true (isOne ks m) ≡ true → ⊥
-    go true d f u = h .1 (sym e ∙ eqb-true m k d)
-    go false d f u = f u
-
--- what is known from the first field on
-pub first : {A B X : Type 0} {x : B} {q : Place} {m : Read B} (k : B → Reader A) → Gives (Exactly X x q) m → Gives (λ a r. X) (chain m k)
-first k h = next k h (λ l. anyway _ l)

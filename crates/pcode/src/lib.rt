@@ -220,92 +220,106 @@ impl OpCode {
 
     // 1 where the opcode is listed.
     const LISTED: [u8; 256] = [
-        1,
-        0,
-        0,
-        0,
-        1,
-        1,
-        1,
-        1,
-        1,
-        1,
-        1,
-        1,
-        1,
-        1,
-        1,
-        1,
-        1,
-        1,
-        1,
-        1,
-        1,
-        1,
+        // 0x00
+        1, // END
+        0,
+        0,
+        0,
+        1, // NEXT_FRAME
+        1, // PREVIOUS_FRAME
+        1, // PLAY
+        1, // STOP
+        1, // TOGGLE_QUALITY
+        1, // STOP_SOUNDS
+        1, // ADD
+        1, // SUBTRACT
+        1, // MULTIPLY
+        1, // DIVIDE
+        1, // EQUALS
+        1, // LESS
+
+        // 0x10
+        1, // AND
+        1, // OR
+        1, // NOT
+        1, // STRING_EQUALS
+        1, // STRING_LENGTH
+        1, // STRING_EXTRACT
+        0,
+        1, // POP
+        1, // TO_INTEGER
+        0,
+        0,
         0,
-        1,
-        1,
+        1, // GET_VARIABLE
+        1, // SET_VARIABLE
         0,
         0,
+
+        // 0x20
+        1, // SET_TARGET2
+        1, // STRING_ADD
+        1, // GET_PROPERTY
+        1, // SET_PROPERTY
+        1, // CLONE_SPRITE
+        1, // REMOVE_SPRITE
+        1, // TRACE
+        1, // START_DRAG
+        1, // END_DRAG
+        1, // STRING_LESS
+        1, // THROW
+        1, // CAST_OP
+        1, // IMPLEMENTS_OP
         0,
-        1,
-        1,
         0,
         0,
-        1,
-        1,
-        1,
-        1,
-        1,
-        1,
-        1,
-        1,
-        1,
-        1,
-        1,
-        1,
-        1,
+
+        // 0x30
+        1, // RANDOM_NUMBER
+        1, // MB_STRING_LENGTH
+        1, // CHAR_TO_ASCII
+        1, // ASCII_TO_CHAR
+        1, // GET_TIME
+        1, // MB_STRING_EXTRACT
+        1, // MB_CHAR_TO_ASCII
+        1, // MB_ASCII_TO_CHAR
         0,
         0,
+        1, // DELETE
+        1, // DELETE2
+        1, // DEFINE_LOCAL
+        1, // CALL_FUNCTION
+        1, // RETURN
+        1, // MODULO
+
+        // 0x40
+        1, // NEW_OBJECT
+        1, // DEFINE_LOCAL2
+        1, // INIT_ARRAY
+        1, // INIT_OBJECT
+        1, // TYPE_OF
+        1, // TARGET_PATH
+        1, // ENUMERATE
+        1, // ADD2
+        1, // LESS2
+        1, // EQUALS2
+        1, // TO_NUMBER
+        1, // TO_STRING
+        1, // PUSH_DUPLICATE
+        1, // STACK_SWAP
+        1, // GET_MEMBER
+        1, // SET_MEMBER
+
+        // 0x50
+        1, // INCREMENT
+        1, // DECREMENT
+        1, // CALL_METHOD
+        1, // NEW_METHOD
+        1, // INSTANCE_OF
+        1, // ENUMERATE2
         0,
-        1,
-        1,
-        1,
-        1,
-        1,
-        1,
-        1,
-        1,
         0,
         0,
-        1,
-        1,
-        1,
-        1,
-        1,
-        1,
-        1,
-        1,
-        1,
-        1,
-        1,
-        1,
-        1,
-        1,
-        1,
-        1,
-        1,
-        1,
-        1,
-        1,
-        1,
-        1,
-        1,
-        1,
-        1,
-        1,
-        1,
-        1,
         0,
         0,
         0,
@@ -313,22 +327,26 @@ impl OpCode {
         0,
         0,
         0,
+
+        // 0x60
+        1, // BIT_AND
+        1, // BIT_OR
+        1, // BIT_XOR
+        1, // BIT_L_SHIFT
+        1, // BIT_R_SHIFT
+        1, // BIT_U_R_SHIFT
+        1, // STRICT_EQUALS
+        1, // GREATER
+        1, // STRING_GREATER
+        1, // EXTENDS
         0,
         0,
         0,
-        1,
-        1,
-        1,
-        1,
-        1,
-        1,
-        1,
-        1,
-        1,
-        1,
         0,
         0,
         0,
+
+        // 0x70
         0,
         0,
         0,
@@ -345,41 +363,47 @@ impl OpCode {
         0,
         0,
         0,
+
+        // 0x80
         0,
+        1, // GOTO_FRAME
         0,
+        1, // GET_URL
         0,
         0,
-        1,
         0,
-        1,
+        1, // STORE_REGISTER
+        1, // CONSTANT_POOL
         0,
+        1, // WAIT_FOR_FRAME
+        1, // SET_TARGET
+        1, // GOTO_LABEL
+        1, // WAIT_FOR_FRAME2
+        1, // DEFINE_FUNCTION2
+        1, // TRY
+
+        // 0x90
         0,
         0,
-        1,
-        1,
         0,
-        1,
-        1,
-        1,
-        1,
-        1,
-        1,
         0,
+        1, // WITH
         0,
+        1, // PUSH
         0,
         0,
-        1,
+        1, // JUMP
+        1, // GET_URL2
+        1, // DEFINE_FUNCTION
         0,
-        1,
+        1, // IF
+        1, // CALL
+        1, // GOTO_FRAME2
+
+        // 0xA0
         0,
         0,
-        1,
-        1,
-        1,
         0,
-        1,
-        1,
-        1,
         0,
         0,
         0,
@@ -393,6 +417,8 @@ impl OpCode {
         0,
         0,
         0,
+
+        // 0xB0
         0,
         0,
         0,
@@ -409,6 +435,8 @@ impl OpCode {
         0,
         0,
         0,
+
+        // 0xC0
         0,
         0,
         0,
@@ -425,6 +453,8 @@ impl OpCode {
         0,
         0,
         0,
+
+        // 0xD0
         0,
         0,
         0,
@@ -441,6 +471,8 @@ impl OpCode {
         0,
         0,
         0,
+
+        // 0xE0
         0,
         0,
         0,
@@ -457,9 +489,8 @@ impl OpCode {
         0,
         0,
         0,
-        0,
-        0,
-        0,
+
+        // 0xF0
         0,
         0,
         0,

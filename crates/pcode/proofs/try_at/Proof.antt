@@ -1,3 +1,4 @@
+-- `try_at` meets its contract, by the bits of the shape. Assumes nothing.
 use mathlib.Core.Path.{_≡_, ap}
 use Prim.Native.Nat.{ℕ, _+_, _/_, _%_, _≤_}
 use native.Mathlib.Omega.{arith}
@@ -9,9 +10,6 @@ use Rattle.layout.specs.Read.{hasCatch, hasRegister}
 use Rattle.pcode.specs.Shown.{spanAt, after, afterCatch, afterTry}
 use Rattle.pcode.proofs.try_at.Statement.{statement}
 use Rattle.pcode.proofs.try_at.Tie as tie
-use Rattle.pcode.proofs.try_at.Reads as reads
-use Rattle.pcode.proofs.try_at.Lts as lts
-use Rattle.pcode.proofs.span_at.Reads as span-at-reads
 
 -- the bits of a shape, by the code's tests
 module _ (shape : ℕ) where
@@ -47,39 +45,42 @@ module _ (b : List ℕ) (p : ℕ) where
   register-room : (getD b p 0 % 2 ≡ 0 → ⊥) → (getD b p 0 / 4 % 2 ≡ 0 → ⊥) → afterTry b p ≤ length b → p + 1 + 1 ≤ length b
   register-room c r h = rw (a-catch _ c, a-register _ r) at h
 
--- src/lib.rt:837:17
 shared-slice-read-shape : tie.Need-shared-slice-read-shape
-shared-slice-read-shape c = omega (arith, shape-room (c .before .before .args .b .now) (c .before .before .args .at) (c .before .before .pre))
+shared-slice-read-shape c =
+    let s = c .before .before in
+    omega (arith, shape-room (s .args .b .now) (s .args .at) (s .pre))
 
--- src/lib.rt:838:13
 add-p : tie.Need-add-p
-add-p c = omega (arith, shape-room (c .before .before .args .b .now) (c .before .before .args .at) (c .before .before .pre))
+add-p c =
+    let s = c .before .before in
+    omega (arith, shape-room (s .args .b .now) (s .args .at) (s .pre))
 
--- src/lib.rt:840:9
 returns : tie.Need-returns
 returns c = rw (no-catch _ (c .if1 .taken))
 
--- src/lib.rt:843:13
 span-at-requires : tie.Need-span-at-requires
-span-at-requires c κs = omega (arith, name-room (c .before .before .before .before .args .b .now) (c .before .before .before .before .args .at) (c .before .if1 .left) (c .if2 .taken) (c .before .before .before .before .pre))
+span-at-requires c κs =
+    let s = c .before .before .before .before in
+    omega (arith, name-room (s .args .b .now) (s .args .at) (c .before .if1 .left) (c .if2 .taken) (s .pre))
 
--- src/lib.rt:844:64
 add-t12 : tie.Need-add-t12
-add-t12 c = omega (arith, name-room (c .before .before .before .before .before .before .args .b .now) (c .before .before .before .before .before .before .args .at) (c .before .before .before .if1 .left) (c .before .before .if2 .taken) (c .before .before .before .before .before .before .pre), ap after (c .before .span-at .ensures))
+add-t12 c =
+    let s = c .before .before .before .before .before .before in
+    omega (arith, name-room (s .args .b .now) (s .args .at) (c .before .before .before .if1 .left) (c .before .before .if2 .taken) (s .pre), ap after (c .before .span-at .ensures))
 
--- src/lib.rt:844:9
 returns-2 : tie.Need-returns-2
 returns-2 c = rw (c .before .span-at .ensures, a-catch _ (c .before .before .before .if1 .left), no-register _ (c .before .before .if2 .taken))
 
--- src/lib.rt:846:46
 shared-slice-read-t7 : tie.Need-shared-slice-read-t7
-shared-slice-read-t7 c = omega (arith, register-room (c .before .before .before .before .before .args .b .now) (c .before .before .before .before .before .args .at) (c .before .before .if1 .left) (c .before .if2 .left) (c .before .before .before .before .before .pre))
+shared-slice-read-t7 c =
+    let s = c .before .before .before .before .before in
+    omega (arith, register-room (s .args .b .now) (s .args .at) (c .before .before .if1 .left) (c .before .if2 .left) (s .pre))
 
--- src/lib.rt:846:53
 add-t15 : tie.Need-add-t15
-add-t15 c = omega (arith, register-room (c .before .before .before .before .before .args .b .now) (c .before .before .before .before .before .args .at) (c .before .before .if1 .left) (c .before .if2 .left) (c .before .before .before .before .before .pre))
+add-t15 c =
+    let s = c .before .before .before .before .before in
+    omega (arith, register-room (s .args .b .now) (s .args .at) (c .before .before .if1 .left) (c .before .if2 .left) (s .pre))
 
--- src/lib.rt:833:1
 returns-3 : tie.Need-returns-3
 returns-3 c = rw (a-catch _ (c .before .before .if1 .left), a-register _ (c .before .if2 .left))
 

@@ -1,17 +1,14 @@
+-- `OpCode::constant_len` meets its contract, on both sides of 256. Assumes nothing.
 use borrow.Author.Tests.{lt-ltb, le-ltb}
 use Rattle.layout.specs.Lists.{pick}
 use Rattle.layout.specs.Lengths.{pushLength}
 use Rattle.pcode.proofs.OpCode.constant_len.Statement.{statement}
 use Rattle.pcode.proofs.OpCode.constant_len.Tie as tie
-use Rattle.pcode.proofs.OpCode.constant_len.Reads as reads
-use Rattle.pcode.proofs.OpCode.constant_len.Lts as lts
 
--- src/lib.rt:445:5
 returns : tie.Need-returns
 unfolding pushLength pick
 returns c = rw (lt-ltb _ _ (c .if1 .taken))
 
--- src/lib.rt:445:5
 returns-2 : tie.Need-returns-2
 unfolding pushLength pick
 returns-2 c = rw (le-ltb _ _ (c .if1 .left))

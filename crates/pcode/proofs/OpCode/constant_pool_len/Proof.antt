@@ -1,16 +1,13 @@
+-- `OpCode::constant_pool_len` meets its contract. Assumes nothing.
 use native.Mathlib.Omega.{arith}
-use Rattle.layout.specs.Lengths.{payloadLength}
 use borrow.Author.Needs.{needs}
+use Rattle.layout.specs.Lengths.{payloadLength}
 use Rattle.pcode.proofs.OpCode.constant_pool_len.Statement.{statement}
 use Rattle.pcode.proofs.OpCode.constant_pool_len.Tie as tie
-use Rattle.pcode.proofs.OpCode.constant_pool_len.Reads as reads
-use Rattle.pcode.proofs.OpCode.constant_pool_len.Lts as lts
 
--- src/lib.rt:410:9
 add-result : tie.Need-add-result
 add-result c = search needs
 
--- src/lib.rt:406:5
 returns : tie.Need-returns
 unfolding payloadLength
 returns c = record { is = λ ss h. omega arith }

@@ -1,12 +1,10 @@
+-- `OpCode::fixed_lens` meets its contract. Assumes nothing.
 use mathlib.Core.Path.{refl}
 use Rattle.layout.specs.Numbers.{le16}
 use Rattle.layout.specs.Lengths.{payloadLength, ownerLength}
 use Rattle.pcode.proofs.OpCode.fixed_lens.Statement.{statement}
 use Rattle.pcode.proofs.OpCode.fixed_lens.Tie as tie
-use Rattle.pcode.proofs.OpCode.fixed_lens.Reads as reads
-use Rattle.pcode.proofs.OpCode.fixed_lens.Lts as lts
 
--- src/lib.rt:374:5
 returns : tie.Need-returns
 unfolding payloadLength ownerLength le16
 returns c = record { are = λ n k m v t op. refl }
