@@ -9,7 +9,8 @@ use Rattle.layout.specs.Read.{firstZero}
 use Rattle.fields.specs.Runs.{part, nulOr, firstNul}
 use Rattle.fields.proofs.Stores.{length-part}
 
--- Counted on from m in a list s: the first z bytes are not zero, and the next one is, if there is one.
+-- In a list s that is counted on from m: where the first z bytes are not zero, and the next one is or there is none, the
+-- place is i + (m + z).
 zero-after : (i n m z : ℕ) (s : List ℕ) → n ≡ m + length s → z ≤ length s → ((k : ℕ) → k < z → getD s k 0 ≡ 0 → ⊥) → (z < length s → getD s z 0 ≡ 0) → i + (m + z) ≡ nulOr i n (firstZero m s)
 unfolding nulOr firstZero
 zero-after i n m z [] e h before at = omega arith
@@ -20,7 +21,7 @@ zero-after i n m (suc z) (suc x ∷ s) e h before at =
     let j : i + (m + suc z) ≡ i + (suc m + z) = omega arith in
     j ∙ zero-after i n (suc m) z s (omega arith) (omega arith) (λ k b. before (suc k) (omega arith)) (λ b. at (omega arith))
 
--- Where no byte before place i + z of n bytes is zero, and the one there is, or none is left, that is the place.
+-- Among n bytes from place i on: where the first z are not zero, and the next one is or there is none, the place is i + z.
 pub nul-at : (l : List ℕ) (i n z : ℕ) → i + n ≤ length l → z ≤ n → ((k : ℕ) → k < z → getD l (i + k) 0 ≡ 0 → ⊥) → (z < n → getD l (i + z) 0 ≡ 0) → i + z ≡ firstNul l i n
 unfolding firstNul
 nul-at l i n z h fits before at =

@@ -9,6 +9,7 @@ use Rattle.layout.specs.Read.{firstZero}
 abbrev pub part : List ℕ → ℕ → ℕ → List ℕ
 part l i n = take n (drop i l)
 
+-- z places after i, or n places where there is no z
 unfoldable pub nulOr : ℕ → ℕ → Option ℕ → ℕ
 nulOr i n none = i + n
 nulOr i n (some z) = i + z

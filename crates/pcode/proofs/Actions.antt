@@ -10,7 +10,7 @@ use lib.Dec.{ltb, leb}
 use borrow.Author.Tests.{ltb-true}
 use Rattle.layout.specs.Lists.{firstWith, first-with, pick, each}
 use Rattle.layout.specs.Numbers.{u16At}
-use Rattle.layout.specs.OpCode.{SmallOpCode, OpCode, smallByte, byte, smallOpCodes, opcodes, opcodeOf}
+use Rattle.layout.specs.OpCode.{OpCode, smallByte, byte, smallOpCodes, opcodes, opcodeOf}
 use Rattle.layout.specs.Tree.{ActionOf, ActionsOf}
 use Rattle.layout.specs.Read.{Text, Terms, Place, Reader, isShape, hasCatch, hasRegister, hasFinally, readU8, readU16, readString, readParam, readValue, readLabel, readCatchTarget, readCatch, readFinally, readTry, readFields, readFieldsIf, readAction}
 use Rattle.pcode.specs.declared.Action.{Action}
@@ -50,7 +50,7 @@ actionAt b OpCode.DefineFunction p = code.DefineFunction (functionAt b p)
 actionAt b OpCode.If p = code.If (u16At b p)
 actionAt b OpCode.GotoFrame2 p = code.GotoFrame2 (u16At b p) (getD b (p + 2) 0)
 
--- the place behind what it takes, where that is the same for every action of the opcode
+-- the place behind the bytes that it looks at
 abbrev pub taken : List ℕ → OpCode → ℕ → ℕ
 taken b (OpCode.Small op) p = p
 taken b OpCode.GotoFrame p = p + 2

@@ -10,7 +10,7 @@ use lib.Dec.{leb, ltb, eqb}
 use borrow.Author.Tests.{leb-true, ltb-true}
 use Rattle.layout.specs.Numbers.{u16At, u32At, u64At}
 use Rattle.layout.specs.Answers.{Fault}
-use Rattle.layout.specs.Read.{Text, plain, Terms, Place, Read, got, bad, Reader, chain, ifWhole, ifWithin, tested, repeat, firstZero, ifNoZero, readU8, readU16, readU32, readU64, readBytes, readFlag, readSpelling, readCounted, readString}
+use Rattle.layout.specs.Read.{plain, Terms, Place, Read, got, bad, Reader, chain, ifWhole, ifWithin, tested, repeat, firstZero, ifNoZero, readU8, readU16, readU32, readU64, readBytes, readFlag, readSpelling, readCounted, readString}
 use Rattle.fields.specs.Runs.{part}
 use Rattle.pcode.specs.Shown.{place, spanAt, after}
 

@@ -11,21 +11,21 @@ use Rattle.layout.specs.Tree.{PushValueOf}
 use Rattle.layout.specs.Read.{Text, Terms, Place, readValueOf, readValueIf, readValue}
 use Rattle.pcode.specs.declared.PushAt.{PushAt}
 use Rattle.pcode.specs.declared.PushValue.the-variants as value
-use Rattle.pcode.specs.Shown.{place, spanAt, after, isText, ShownValue, string, null, undefined, register, boolean, float, integer, constant, ValueReads, ShowsValue}
+use Rattle.pcode.specs.Shown.{place, pushAt, spanAt, after, isText, ShownValue, string, null, undefined, register, boolean, float, integer, constant, ValueReads, ShowsValue}
 use Rattle.pcode.proofs.Readings as reading
 use Rattle.pcode.proofs.Arms.{NoneOf, isOne, barred}
 use Rattle.pcode.proofs.Readings.{Gives, gives, refuses, given, next, anyway, first, u8}
 
 -- what the code takes at p for a value of a kind
 abbrev pub valueAt : List ℕ → PushKind → ℕ → PushAt
-valueAt b PushKind.String p = record { value = value.String (spanAt b p); next = after (spanAt b p) }
-valueAt b PushKind.Null p = record { value = value.Null; next = p }
-valueAt b PushKind.Undefined p = record { value = value.Undefined; next = p }
-valueAt b PushKind.Register p = record { value = value.Register (getD b p 0); next = p + 1 }
-valueAt b PushKind.Boolean p = record { value = value.Boolean (getD b p 0); next = p + 1 }
-valueAt b PushKind.Float p = record { value = value.Float (u64At b p); next = p + 8 }
-valueAt b PushKind.Integer p = record { value = value.Integer (u32At b p); next = p + 4 }
-valueAt b PushKind.Constant p = record { value = value.Constant (u16At b p); next = p + 2 }
+valueAt b PushKind.String p = pushAt (value.String (spanAt b p)) (after (spanAt b p))
+valueAt b PushKind.Null p = pushAt value.Null p
+valueAt b PushKind.Undefined p = pushAt value.Undefined p
+valueAt b PushKind.Register p = pushAt (value.Register (getD b p 0)) (p + 1)
+valueAt b PushKind.Boolean p = pushAt (value.Boolean (getD b p 0)) (p + 1)
+valueAt b PushKind.Float p = pushAt (value.Float (u64At b p)) (p + 8)
+valueAt b PushKind.Integer p = pushAt (value.Integer (u32At b p)) (p + 4)
+valueAt b PushKind.Constant p = pushAt (value.Constant (u16At b p)) (p + 2)
 
 -- a value and the place after it are those that r shows, and the place lies within b
 abbrev Pushed : List ℕ → PushAt → PushValueOf Text → Place → Type 0

@@ -5,7 +5,7 @@ use Prim.Native.Nat.{ℕ}
 use mathlib.Core.Bool.{Bool}
 use mathlib.Core.List.{List, [], _∷_}
 use lib.ListN.{length}
-use Rattle.layout.specs.Tree.{FunctionParam, Small, GotoFrame, GetUrl, StoreRegister, ConstantPool, WaitForFrame, SetTarget, GotoLabel, WaitForFrame2, GetUrl2, GotoFrame2, With, DefineFunction, DefineFunction2, Branch, Catch}
+use Rattle.layout.specs.Tree.{FunctionParam, Small, GotoFrame, GetUrl, StoreRegister, ConstantPool, WaitForFrame, SetTarget, GotoLabel, WaitForFrame2, GetUrl2, GotoFrame2, With, DefineFunction, DefineFunction2, Catch}
 use Rattle.layout.specs.OpCode.{SmallOpCode}
 use Rattle.layout.specs.Numbers.{le16}
 use Rattle.layout.specs.Payload.{tryPayload, catchName}
@@ -41,6 +41,6 @@ pub record GotoFrame2Length (bias r : ℕ) : Type 0 where
   pub is : (play : Bool) → r ≡ payloadLength (GotoFrame2 bias play)
 
 -- the payload lengths of the actions that have the same whatever they hold, in the order of the opcodes:
--- GotoFrame, StoreRegister, WaitForFrame, WaitForFrame2, With, a branch, GetUrl2 and an action without a field, such as Call
+-- GotoFrame, StoreRegister, WaitForFrame, WaitForFrame2, With, a branch (its distance), GetUrl2 and an action without a field, such as Call
 pub record FixedLengths (r : List ℕ) : Type 0 where
   pub are : (n k m : ℕ) (v t : Bool) (op : SmallOpCode) → r ≡ payloadLength (GotoFrame n) ∷ payloadLength (StoreRegister n) ∷ payloadLength (WaitForFrame n k) ∷ payloadLength (WaitForFrame2 n) ∷ ownerLength With ∷ length (le16 n) ∷ payloadLength (GetUrl2 v t m) ∷ payloadLength (Small op) ∷ []

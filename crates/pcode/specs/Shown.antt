@@ -8,8 +8,8 @@ use lib.ListN.{length, getD}
 use lib.Dec.{eqb}
 use Rattle.layout.specs.Numbers.{u16At}
 use Rattle.layout.specs.OpCode.{SmallOpCode, smallByte}
-use Rattle.layout.specs.Tree.{PushValueOf, String, Null, Undefined, Register, Boolean, Float, Integer, Constant, FunctionParamOf, FlatOf, Small, GotoFrame, GetUrl, StoreRegister, ConstantPool, WaitForFrame, SetTarget, GotoLabel, WaitForFrame2, Push, GetUrl2, GotoFrame2, With, DefineFunction, DefineFunction2, Jump, If, CatchTargetOf, Variable, ActionOf, flat, branch, owner, Try, ActionsOf, CatchOf, FinallyOf}
-use Rattle.layout.specs.Read.{Text, plain, Terms, Place, ahead, Read, got, Reader, repeat, hasCatch, hasFinally, hasRegister, isShape, readString, readValue, readParam, readCatch, readFinally, readAction}
+use Rattle.layout.specs.Tree.{PushValueOf, String, Null, Undefined, Register, Boolean, Float, Integer, Constant, FunctionParamOf, Small, GotoFrame, GetUrl, StoreRegister, ConstantPool, WaitForFrame, SetTarget, GotoLabel, WaitForFrame2, Push, GetUrl2, GotoFrame2, With, DefineFunction, DefineFunction2, Jump, If, CatchTargetOf, Variable, ActionOf, flat, branch, owner, Try, ActionsOf, CatchOf, FinallyOf}
+use Rattle.layout.specs.Read.{Text, plain, Terms, Place, got, Reader, repeat, hasCatch, hasFinally, hasRegister, isShape, readString, readValue, readParam, readCatch, readFinally, readAction}
 use Rattle.fields.specs.Runs.{part}
 use Rattle.pcode.specs.declared.Span.{Span}
 use Rattle.pcode.specs.declared.CatchTarget.{CatchTarget}
@@ -21,6 +21,7 @@ use Rattle.pcode.specs.declared.Function.{Function}
 use Rattle.pcode.specs.declared.Action.{Action}
 use Rattle.pcode.specs.declared.Action.the-variants as code
 
+-- the place at a number
 abbrev pub place : ℕ → Place
 place n = record { at = n }
 
@@ -44,16 +45,27 @@ pub data IsText (b : List ℕ) : Span → Text → Type 0 where
 
 -- ---- push values
 
+-- a value and the place after it
+abbrev pub pushAt : PushValue → ℕ → PushAt
+pushAt x q = record { value = x; next = q }
+
 -- a case of the code, and the push value that it shows
 pub data ShownValue (b : List ℕ) : PushValue → PushValueOf Text → Type 0 where
+  -- the string behind the kind
   string : {s : Span} {t : Text} → IsText b s t → ShownValue b (value.String s) (String t)
+  -- the kind alone
   null : ShownValue b value.Null Null
+  -- the kind alone
   undefined : ShownValue b value.Undefined Undefined
+  -- the byte behind the kind
   register : {r : ℕ} → ShownValue b (value.Register r) (Register r)
-  -- the byte is 0 or 1
+  -- the byte behind the kind, 0 or 1
   boolean : {n : ℕ} → n < 2 → ShownValue b (value.Boolean n) (Boolean (eqb n 1))
+  -- the u64 behind the kind, a double's bits
   float : {w : ℕ} → ShownValue b (value.Float w) (Float w)
+  -- the u32 behind the kind
   integer : {w : ℕ} → ShownValue b (value.Integer w) (Integer w)
+  -- the u16 behind the kind
   constant : {i : ℕ} → ShownValue b (value.Constant i) (Constant i)
 
 -- the definitions read a push value at p
@@ -89,10 +101,13 @@ afterTry b p = afterCatch (hasCatch (getD b p 0)) (hasRegister (getD b p 0)) b (
 abbrev pub tryAt : List ℕ → ℕ → Action
 tryAt b p = code.Try (getD b p 0) (catchAt (hasCatch (getD b p 0)) (hasRegister (getD b p 0)) b (p + 1)) (afterTry b p)
 
--- a case of the code, and the catch target that it shows in a Try of this shape. Without a catch the target is not used
+-- a case of the code, and the catch target that it shows in a Try of this shape
 pub data ShownTarget (b : List ℕ) (shape : ℕ) : CatchTarget → CatchTargetOf Text → Type 0 where
+  -- no bytes: without a catch the target is not used
   nothing : {t : CatchTargetOf Text} → hasCatch shape ≡ false → ShownTarget b shape target.Nothing t
+  -- the string behind the shape
   variable : {s : Span} {t : Text} → hasCatch shape ≡ true → hasRegister shape ≡ false → IsText b s t → ShownTarget b shape (target.Variable s) (Variable t)
+  -- the byte behind the shape
   register : {r : ℕ} → hasCatch shape ≡ true → hasRegister shape ≡ true → ShownTarget b shape (target.Register r) (Register r)
 
 -- A case of the code, and the action that it shows, with the place after that action. Its fields start at p, behind its

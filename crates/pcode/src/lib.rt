@@ -8,7 +8,7 @@ ghost use Rattle.layout.specs.OpCode.{byte, opcodes};
 ghost use Rattle.layout.specs.Tree.{Constant};
 ghost use Rattle.layout.specs.Lengths.{pushLength};
 ghost use Rattle.pcode.specs.Listed.{listed};
-ghost use Rattle.pcode.specs.Shown.{spanAt, after, functionAt, afterTry, tryAt, ValueReads, ShowsValue, ActionReads, ShowsAction};
+ghost use Rattle.pcode.specs.Shown.{pushAt, spanAt, after, functionAt, afterTry, tryAt, ValueReads, ShowsValue, ActionReads, ShowsAction};
 ghost use Rattle.pcode.specs.PayloadLengths.{GetUrlLength, StringLength, ConstantPoolLength, DefineFunctionLength, DefineFunction2Length, TryLength, GotoFrame2Length, FixedLengths};
 use fields::u16_at;
 use fields::u32_at;
@@ -792,6 +792,13 @@ fn span_at(b: &[u8], at: usize) -> Span
     }
 }
 
+// A value and the place after it.
+fn pushed(value: PushValue, next: usize) -> PushAt
+    ensures { λ r. ⌜ r ≡ pushAt value next ⌝ }
+{
+    PushAt { value, next }
+}
+
 // The pushed value at a place where one reads.
 pub fn push_value_at(b: &[u8], at: usize) -> PushAt
     requires { ⌜ ValueReads (now b) at ⌝ }
@@ -801,39 +808,15 @@ pub fn push_value_at(b: &[u8], at: usize) -> PushAt
     match b[at] {
         0 => {
             let string = span_at(b, p);
-            PushAt {
-                value: PushValue::String(string),
-                next: string.at + string.len,
-            }
+            pushed(PushValue::String(string), string.at + string.len)
         }
-        2 => PushAt {
-            value: PushValue::Null,
-            next: p,
-        },
-        3 => PushAt {
-            value: PushValue::Undefined,
-            next: p,
-        },
-        4 => PushAt {
-            value: PushValue::Register(b[p]),
-            next: p + 1,
-        },
-        5 => PushAt {
-            value: PushValue::Boolean(b[p]),
-            next: p + 1,
-        },
-        6 => PushAt {
-            value: PushValue::Float(u64_at(b, p)),
-            next: p + 8,
-        },
-        7 => PushAt {
-            value: PushValue::Integer(u32_at(b, p)),
-            next: p + 4,
-        },
-        _ => PushAt {
-            value: PushValue::Constant(u16_at(b, p)),
-            next: p + 2,
-        },
+        2 => pushed(PushValue::Null, p),
+        3 => pushed(PushValue::Undefined, p),
+        4 => pushed(PushValue::Register(b[p]), p + 1),
+        5 => pushed(PushValue::Boolean(b[p]), p + 1),
+        6 => pushed(PushValue::Float(u64_at(b, p)), p + 8),
+        7 => pushed(PushValue::Integer(u32_at(b, p)), p + 4),
+        _ => pushed(PushValue::Constant(u16_at(b, p)), p + 2),
     }
 }
 
