@@ -1,0 +1,235 @@
+-- Actions: what the code takes for each opcode shows what the definitions read. Assumes nothing.
+use mathlib.Core.Path.{_≡_, refl, sym, ap, _∙_}
+use Prim.Native.Nat.{ℕ, _+_, _≤_, _<_}
+use native.Mathlib.Omega.{arith}
+use mathlib.Core.Bool.{Bool, true, false, _&&_}
+use mathlib.Core.Option.{Option, none, some}
+use mathlib.Core.List.{List, [], _∷_}
+use lib.ListN.{length, getD}
+use lib.Dec.{ltb, leb}
+use borrow.Author.Tests.{ltb-true}
+use Rattle.layout.specs.Lists.{firstWith, first-with, pick, each}
+use Rattle.layout.specs.Numbers.{u16At}
+use Rattle.layout.specs.OpCode.{OpCode, smallByte, byte, smallOpCodes, opcodes, opcodeOf}
+use Rattle.layout.specs.Tree.{ActionOf, ActionsOf}
+use Rattle.layout.specs.Read.{Text, Terms, Place, Reader, isShape, hasCatch, hasRegister, hasFinally, readU8, readU16, readString, readParam, readValue, readLabel, readCatchTarget, readCatch, readFinally, readTry, readFields, readFieldsIf, readAction}
+use Rattle.pcode.specs.declared.Action.{Action}
+use Rattle.pcode.specs.declared.Action.the-variants as code
+use Rattle.pcode.specs.Shown.{place, spanAt, after, functionAt, catchAt, afterCatch, afterTry, tryAt, isText, ShownTarget, nothing, variable, register, Shown, small, gotoFrame, getUrl, storeRegister, constantPool, waitForFrame, setTarget, gotoLabel, waitForFrame2, defineFunction2, try, with, push, jump, getUrl2, defineFunction, if, gotoFrame2, ActionReads, ShowsAction}
+use Rattle.pcode.proofs.Arms.{NoneOf, isOne, barred}
+use Rattle.pcode.proofs.Readings.{Gives, gives, refuses, Exactly, given, next, then, itself, weaker, first, u8, u16, passed, flag, counted, string}
+
+-- places, one after the other
+two : (p : ℕ) → p + 1 + 1 ≡ p + 2
+two p = omega arith
+
+three : (p : ℕ) → p + 2 + 1 ≡ p + 3
+three p = omega arith
+
+three' : (p : ℕ) → p + 1 + 2 ≡ p + 3
+three' p = omega arith
+
+-- what the code takes at p for the fields of an opcode
+abbrev pub actionAt : List ℕ → OpCode → ℕ → Action
+actionAt b (OpCode.Small op) p = code.Small (smallByte op)
+actionAt b OpCode.GotoFrame p = code.GotoFrame (u16At b p)
+actionAt b OpCode.GetUrl p = code.GetUrl (spanAt b p) (spanAt b (after (spanAt b p)))
+actionAt b OpCode.StoreRegister p = code.StoreRegister (getD b p 0)
+actionAt b OpCode.ConstantPool p = code.ConstantPool (u16At b p) (p + 2)
+actionAt b OpCode.WaitForFrame p = code.WaitForFrame (u16At b p) (getD b (p + 2) 0)
+actionAt b OpCode.SetTarget p = code.SetTarget (spanAt b p)
+actionAt b OpCode.GotoLabel p = code.GotoLabel (spanAt b p)
+actionAt b OpCode.WaitForFrame2 p = code.WaitForFrame2 (getD b p 0)
+actionAt b OpCode.DefineFunction2 p = code.DefineFunction2 (functionAt b p)
+actionAt b OpCode.Try p = tryAt b p
+actionAt b OpCode.With p = code.With p
+actionAt b OpCode.Push p = code.Push (u16At b p) (p + 2)
+actionAt b OpCode.Jump p = code.Jump (u16At b p)
+actionAt b OpCode.GetUrl2 p = code.GetUrl2 (getD b p 0) (getD b (p + 1) 0) (getD b (p + 2) 0)
+actionAt b OpCode.DefineFunction p = code.DefineFunction (functionAt b p)
+actionAt b OpCode.If p = code.If (u16At b p)
+actionAt b OpCode.GotoFrame2 p = code.GotoFrame2 (u16At b p) (getD b (p + 2) 0)
+
+-- the place behind the bytes that it looks at
+abbrev pub taken : List ℕ → OpCode → ℕ → ℕ
+taken b (OpCode.Small op) p = p
+taken b OpCode.GotoFrame p = p + 2
+taken b OpCode.GetUrl p = after (spanAt b (after (spanAt b p)))
+taken b OpCode.StoreRegister p = p + 1
+taken b OpCode.ConstantPool p = p + 2
+taken b OpCode.WaitForFrame p = p + 3
+taken b OpCode.SetTarget p = after (spanAt b p)
+taken b OpCode.GotoLabel p = after (spanAt b p)
+taken b OpCode.WaitForFrame2 p = p + 1
+taken b OpCode.DefineFunction2 p = functionAt b p .at
+taken b OpCode.Try p = afterTry b p
+taken b OpCode.With p = p
+taken b OpCode.Push p = p + 2
+taken b OpCode.Jump p = p + 2
+taken b OpCode.GetUrl2 p = p + 3
+taken b OpCode.DefineFunction p = functionAt b p .at
+taken b OpCode.If p = p + 2
+taken b OpCode.GotoFrame2 p = p + 3
+
+module _ (terms : Terms) (b : List ℕ) (p : ℕ) (l : p ≤ length b) where
+  -- the target that the code takes for a shape's bits shows the one that the definitions read
+  target-shown : (shape : ℕ) (c r : Bool) → hasCatch shape ≡ c → hasRegister shape ≡ r
+      → Gives (λ t q. ShownTarget b shape (catchAt c r b p) t × (q ≡ place (afterCatch c r b p)) × (afterCatch c r b p ≤ length b)) (readCatchTarget terms b c r (place p))
+  unfolding readCatchTarget
+  target-shown shape true true e f = next _ (u8 b p) (λ m. gives (register e f, refl, m))
+  target-shown shape true false e f = next _ (string terms b p) (λ m. gives (variable e f (isText m), refl, m))
+  target-shown shape false r e f = gives (nothing e, refl, l)
+
+-- the first of two tests that pass
+and-left : (s t : Bool) → (s && t) ≡ true → s ≡ true
+and-left true t e = refl
+and-left false t e = e
+
+module _ (terms : Terms) (b : List ℕ) (inner : Reader (ActionsOf Text ℕ)) (p : ℕ) (l : p ≤ length b) where
+  -- r shows the action and the place behind it, and m lies within b
+  abbrev Taken : Action → ℕ → ActionOf Text ℕ → Place → Type 0
+  Taken r m a q = Shown terms b inner p r a q × (m ≤ length b)
+
+  -- a label number
+  label : Gives (Exactly ((p + 2 ≤ length b) × (u16At b p < terms .labelBound)) (u16At b p) (place (p + 2))) (readLabel terms b 0 (place p))
+  unfolding readLabel
+  label = weaker (passed b p (λ n. ltb n (terms .labelBound) && leb 0 n) (readU16 b) (u16 b p)) (λ h. (h .0, ltb-true _ _ (and-left _ _ (h .1))))
+
+  -- a Try, whose shape was read
+  try-shown : (shape : ℕ) → getD b p 0 ≡ shape → p + 1 ≤ length b → isShape shape ≡ true
+      → Gives (Taken (tryAt b p) (taken b OpCode.Try p)) (readTry terms b inner shape (place (p + 1)))
+  unfolding readTry
+  try-shown shape s m e =
+      then (target-shown terms b (p + 1) m shape (hasCatch shape) (hasRegister shape) refl refl)
+      (λ t q h. then (itself (inner q)) (λ a r i. then (itself (readCatch terms b inner (hasCatch shape) t r))
+      (λ c o j. then (itself (readFinally terms b inner (hasFinally shape) o))
+      (λ f u k. gives (rw s (try e (h .0) (ap inner (sym (h .1)) ∙ i) j k, h .2))))))
+
+  -- what the code takes for an opcode shows the action that the definitions read
+  fields-shown : (op : OpCode) → Gives (Taken (actionAt b op p) (taken b op p)) (readFields terms b inner op (place p))
+  unfolding readFields
+  fields-shown (OpCode.Small op) = gives (small refl, l)
+  fields-shown OpCode.GotoFrame = next _ (u16 b p) (λ m. gives (gotoFrame, m))
+  fields-shown OpCode.GetUrl = next _ (string terms b p) (λ m. next _ (string terms b (after (spanAt b p))) (λ n. gives (getUrl (isText m) (isText n), n)))
+  fields-shown OpCode.StoreRegister = next _ (u8 b p) (λ m. gives (storeRegister, m))
+  fields-shown OpCode.ConstantPool = then (counted b p (readString terms b)) (λ xs q m. gives (constantPool (m .1), m .0))
+  fields-shown OpCode.WaitForFrame = next _ (u16 b p) (λ m. next _ (u8 b (p + 2)) (λ n. gives (rw (three p) (waitForFrame, omega arith))))
+  fields-shown OpCode.SetTarget = next _ (string terms b p) (λ m. gives (setTarget (isText m), m))
+  fields-shown OpCode.GotoLabel = next _ (string terms b p) (λ m. gives (gotoLabel (isText m), m))
+  fields-shown OpCode.WaitForFrame2 = next _ (u8 b p) (λ m. gives (waitForFrame2, m))
+  fields-shown OpCode.DefineFunction2 =
+      next _ (string terms b p) (λ m. then (counted b (after (spanAt b p)) (readParam terms b)) (λ ps r n. next _ (u8 b (r .at))
+      (λ o. next _ (passed b (r .at + 1) (λ f. ltb f 512) (readU16 b) (u16 b (r .at + 1))) (λ h. then (itself (inner (place (r .at + 1 + 2))))
+      (λ a q e. gives (defineFunction2 (isText m) (n .1) (omega (arith, h .0)) (ltb-true _ _ (h .1)) (rw (three' (r .at)) at e), n .0))))))
+  fields-shown OpCode.Try = next _ (passed b p isShape (readU8 b) (u8 b p)) (λ m. try-shown (getD b p 0) refl (m .0) (m .1))
+  fields-shown OpCode.With = then (itself (inner (place p))) (λ x q e. gives (with e, l))
+  fields-shown OpCode.Push = then (counted b p (readValue terms b)) (λ xs q m. gives (push (m .1), m .0))
+  fields-shown OpCode.Jump = next _ label (λ m. gives (jump (m .1), m .0))
+  fields-shown OpCode.GetUrl2 =
+      next _ (flag b p) (λ m. next _ (flag b (p + 1)) (λ n. next _ (u8 b (p + 1 + 1)) (λ o. gives (rw (two p, three p) (getUrl2 (m .1) (n .1), omega arith)))))
+  fields-shown OpCode.DefineFunction =
+      next _ (string terms b p) (λ m. then (counted b (after (spanAt b p)) (readString terms b)) (λ ps r n. then (itself (inner r))
+      (λ a q e. gives (defineFunction (isText m) (n .1) e, n .0))))
+  fields-shown OpCode.If = next _ label (λ m. gives (if (m .1), m .0))
+  fields-shown OpCode.GotoFrame2 = next _ (u16 b p) (λ m. next _ (flag b (p + 2)) (λ n. gives (rw (three p) (gotoFrame2 (n .1), omega (arith, n .0)))))
+
+-- ---- by the opcode's byte
+
+-- the opcodes with fields, each by its byte, as a match on the byte has them
+pub data Arm : ℕ → OpCode → Type 0 where
+  isGotoFrame : Arm 0x81 OpCode.GotoFrame
+  isGetUrl : Arm 0x83 OpCode.GetUrl
+  isStoreRegister : Arm 0x87 OpCode.StoreRegister
+  isConstantPool : Arm 0x88 OpCode.ConstantPool
+  isWaitForFrame : Arm 0x8A OpCode.WaitForFrame
+  isSetTarget : Arm 0x8B OpCode.SetTarget
+  isGotoLabel : Arm 0x8C OpCode.GotoLabel
+  isWaitForFrame2 : Arm 0x8D OpCode.WaitForFrame2
+  isDefineFunction2 : Arm 0x8E OpCode.DefineFunction2
+  isTry : Arm 0x8F OpCode.Try
+  isWith : Arm 0x94 OpCode.With
+  isPush : Arm 0x96 OpCode.Push
+  isJump : Arm 0x99 OpCode.Jump
+  isGetUrl2 : Arm 0x9A OpCode.GetUrl2
+  isDefineFunction : Arm 0x9B OpCode.DefineFunction
+  isIf : Arm 0x9D OpCode.If
+  isGotoFrame2 : Arm 0x9F OpCode.GotoFrame2
+
+-- each byte stands for its opcode
+arm-listed : {n : ℕ} {op : OpCode} → Arm n op → opcodeOf n ≡ some op
+unfolding opcodeOf opcodes smallOpCodes byte smallByte firstWith each pick
+arm-listed isGotoFrame = refl
+arm-listed isGetUrl = refl
+arm-listed isStoreRegister = refl
+arm-listed isConstantPool = refl
+arm-listed isWaitForFrame = refl
+arm-listed isSetTarget = refl
+arm-listed isGotoLabel = refl
+arm-listed isWaitForFrame2 = refl
+arm-listed isDefineFunction2 = refl
+arm-listed isTry = refl
+arm-listed isWith = refl
+arm-listed isPush = refl
+arm-listed isJump = refl
+arm-listed isGetUrl2 = refl
+arm-listed isDefineFunction = refl
+arm-listed isIf = refl
+arm-listed isGotoFrame2 = refl
+
+-- the same by the byte that stands at p
+action-taken : (b : List ℕ) (p : ℕ) {n : ℕ} {op : OpCode} → Arm n op → getD b p 0 ≡ n → (terms : Terms) (inner : Reader (ActionsOf Text ℕ))
+    → Gives (λ a q. Shown terms b inner (p + 1) (actionAt b op (p + 1)) a q × (taken b op (p + 1) ≤ length b)) (readAction terms b inner (place p))
+unfolding readAction readFieldsIf
+action-taken b p {op = op} arm e terms inner = next _ (u8 b p) (λ l. rw (e, arm-listed arm) (fields-shown terms b inner (p + 1) l op))
+
+module _ {b : List ℕ} {p n : ℕ} {op : OpCode} where
+  pub action-shown : Arm n op → getD b p 0 ≡ n → ShowsAction b p (actionAt b op (p + 1))
+  action-shown arm e = record { shows = λ terms inner a q r. given (action-taken b p arm e terms inner) r .0 }
+
+  -- what it takes lies within b
+  pub action-room : Arm n op → getD b p 0 ≡ n → ActionReads b p → taken b op (p + 1) ≤ length b
+  action-room arm e reads = given (action-taken b p arm e (reads .terms) (reads .inner)) (reads .reads) .1
+
+-- there is an opcode at p
+pub opcode-room : {b : List ℕ} {p : ℕ} → ActionReads b p → p + 1 ≤ length b
+unfolding readAction
+opcode-room {b} {p} reads = given (first _ (u8 b p)) (reads .reads)
+
+-- ---- every other opcode
+
+-- the bytes of the opcodes with fields, the last first
+abbrev pub fieldBytes : List ℕ
+fieldBytes = 0x9F ∷ 0x9D ∷ 0x9B ∷ 0x9A ∷ 0x99 ∷ 0x96 ∷ 0x94 ∷ 0x8F ∷ 0x8E ∷ 0x8D ∷ 0x8C ∷ 0x8B ∷ 0x8A ∷ 0x88 ∷ 0x87 ∷ 0x83 ∷ 0x81 ∷ []
+
+module _ (terms : Terms) (b : List ℕ) (inner : Reader (ActionsOf Text ℕ)) (p n : ℕ) (none-of : NoneOf fieldBytes n) where
+  -- an opcode that has no fields is all that the code takes
+  small-shown : (op : OpCode) → byte op ≡ n → Gives (Shown terms b inner p (code.Small n)) (readFields terms b inner op (place p))
+  unfolding readFields byte isOne pick
+  small-shown (OpCode.Small op) e = gives (small e)
+  small-shown OpCode.GotoFrame e = absurd (barred fieldBytes none-of e refl)
+  small-shown OpCode.GetUrl e = absurd (barred fieldBytes none-of e refl)
+  small-shown OpCode.StoreRegister e = absurd (barred fieldBytes none-of e refl)
+  small-shown OpCode.ConstantPool e = absurd (barred fieldBytes none-of e refl)
+  small-shown OpCode.WaitForFrame e = absurd (barred fieldBytes none-of e refl)
+  small-shown OpCode.SetTarget e = absurd (barred fieldBytes none-of e refl)
+  small-shown OpCode.GotoLabel e = absurd (barred fieldBytes none-of e refl)
+  small-shown OpCode.WaitForFrame2 e = absurd (barred fieldBytes none-of e refl)
+  small-shown OpCode.DefineFunction2 e = absurd (barred fieldBytes none-of e refl)
+  small-shown OpCode.Try e = absurd (barred fieldBytes none-of e refl)
+  small-shown OpCode.With e = absurd (barred fieldBytes none-of e refl)
+  small-shown OpCode.Push e = absurd (barred fieldBytes none-of e refl)
+  small-shown OpCode.Jump e = absurd (barred fieldBytes none-of e refl)
+  small-shown OpCode.GetUrl2 e = absurd (barred fieldBytes none-of e refl)
+  small-shown OpCode.DefineFunction e = absurd (barred fieldBytes none-of e refl)
+  small-shown OpCode.If e = absurd (barred fieldBytes none-of e refl)
+  small-shown OpCode.GotoFrame2 e = absurd (barred fieldBytes none-of e refl)
+
+  small-if : (o : Option OpCode) (q : Place) → opcodeOf n ≡ o → Gives (Shown terms b inner p (code.Small n)) (readFieldsIf terms b inner o q (place p))
+  unfolding readFieldsIf
+  small-if (some op) q e = small-shown op (unfold opcodeOf in first-with byte n opcodes op e)
+  small-if none q e = refuses
+
+-- the same by the byte that stands at p
+pub other-shown : {b : List ℕ} {p : ℕ} → NoneOf fieldBytes (getD b p 0) → ShowsAction b p (code.Small (getD b p 0))
+unfolding readAction
+other-shown {b} {p} h = record { shows = λ terms inner a q r. given (next _ (u8 b p) (λ l. small-if terms b inner (p + 1) (getD b p 0) h (opcodeOf (getD b p 0)) _ refl)) r }

@@ -1,0 +1,128 @@
+-- What a reading that gives a value gives: the laws of the definitions' readers, each at a place p of the bytes b.
+-- Assumes nothing.
+use mathlib.Core.Path.{_≡_, refl, subst}
+use Prim.Native.Nat.{ℕ, _+_, _≤_, _<_}
+use mathlib.Core.Bool.{Bool, true, false}
+use mathlib.Core.Option.{Option, none, some}
+use mathlib.Core.List.{List}
+use lib.ListN.{length, getD}
+use lib.Dec.{leb, ltb, eqb}
+use borrow.Author.Tests.{leb-true, ltb-true}
+use Rattle.layout.specs.Numbers.{u16At, u32At, u64At}
+use Rattle.layout.specs.Answers.{Fault}
+use Rattle.layout.specs.Read.{plain, Terms, Place, Read, got, bad, Reader, chain, ifWhole, ifWithin, tested, repeat, firstZero, ifNoZero, readU8, readU16, readU32, readU64, readBytes, readFlag, readSpelling, readCounted, readString}
+use Rattle.fields.specs.Runs.{part}
+use Rattle.pcode.specs.Shown.{place, spanAt, after}
+
+-- a reading refuses, or what it gives has the property
+pub data Gives {A : Type 0} (P : A → Place → Type 0) : Read A → Type 0 where
+  gives : {a : A} {q : Place} → P a q → Gives P (got a q)
+  refuses : {f : Fault} {q : Place} → Gives P (bad f q)
+
+-- the property of being the value x with the next place q, while X holds
+pub data Exactly (X : Type 0) {A : Type 0} (x : A) (q : Place) : A → Place → Type 0 where
+  exactly : X → Exactly X x q x q
+
+module _ {A : Type 0} {P : A → Place → Type 0} where
+  -- what was given has the property
+  pub given : {m : Read A} {a : A} {q : Place} → Gives P m → m ≡ got a q → P a q
+  given {m} {a} {q} h e = go (subst (Gives P) e h)
+    where
+      go : Gives P (got a q) → P a q
+      go (gives k) = k
+
+  -- a reading that gives just this, and then another
+  pub next : {B X : Type 0} {x : B} {q : Place} {m : Read B} (k : B → Reader A) → Gives (Exactly X x q) m → (X → Gives P (k x q)) → Gives P (chain m k)
+  next k (gives (exactly h)) f = f h
+  next k refuses f = refuses
+
+  -- a reading whose value has a property, and then another
+  pub then : {B : Type 0} {Q : B → Place → Type 0} {m : Read B} {k : B → Reader A} → Gives Q m → ((x : B) (q : Place) → Q x q → Gives P (k x q)) → Gives P (chain m k)
+  then (gives h) f = f _ _ h
+  then refuses f = refuses
+
+-- a reading gives what it gives
+pub itself : {A : Type 0} (m : Read A) → Gives (λ a q. m ≡ got a q) m
+itself (got a q) = gives refl
+itself (bad f q) = refuses
+
+-- what holds besides may be added
+also : {A X : Type 0} {P : A → Place → Type 0} {m : Read A} → X → Gives P m → Gives (λ a q. X × P a q) m
+also h (gives k) = gives (h, k)
+also h refuses = refuses
+
+-- what holds anyway holds then
+pub anyway : {A X : Type 0} (m : Read A) → X → Gives (λ a q. X) m
+anyway (got a q) h = gives h
+anyway (bad f q) h = refuses
+
+-- what the first reading tells, whatever follows
+pub first : {A B X : Type 0} {x : B} {q : Place} {m : Read B} (k : B → Reader A) → Gives (Exactly X x q) m → Gives (λ a r. X) (chain m k)
+first k h = next k h (λ l. anyway _ l)
+
+-- less may be said
+pub weaker : {A X Y : Type 0} {x : A} {q : Place} {m : Read A} → Gives (Exactly X x q) m → (X → Y) → Gives (Exactly Y x q) m
+weaker (gives (exactly h)) f = gives (exactly (f h))
+weaker refuses f = refuses
+
+-- ---- fields
+
+-- a field that is there, one that is within its range, and bytes of which none is zero
+whole : {A X : Type 0} (t : Bool) (o : Place) {q : Place} {x : A} → (t ≡ true → X) → Gives (Exactly X x q) (ifWhole t o x q)
+unfolding ifWhole
+whole true o h = gives (exactly (h refl))
+whole false o h = refuses
+
+within : {A X : Type 0} (t : Bool) (o : Place) {q : Place} {x : A} → (t ≡ true → X) → Gives (Exactly X x q) (ifWithin t o x q)
+unfolding ifWithin
+within true o h = gives (exactly (h refl))
+within false o h = refuses
+
+noZero : {s : List ℕ} {q : Place} {X : Type 0} (o : Place) (z : Option ℕ) → X → Gives (Exactly X s q) (ifNoZero o s z q)
+unfolding ifNoZero
+noZero o none h = gives (exactly h)
+noZero o (some z) h = refuses
+
+module _ (b : List ℕ) (p : ℕ) where
+  -- numbers
+  pub u8 : Gives (Exactly (p + 1 ≤ length b) (getD b p 0) (place (p + 1))) (readU8 b (place p))
+  unfolding readU8
+  u8 = whole (leb (p + 1) (length b)) _ (leb-true _ _)
+
+  pub u16 : Gives (Exactly (p + 2 ≤ length b) (u16At b p) (place (p + 2))) (readU16 b (place p))
+  unfolding readU16
+  u16 = whole (leb (p + 2) (length b)) _ (leb-true _ _)
+
+  pub u32 : Gives (Exactly (p + 4 ≤ length b) (u32At b p) (place (p + 4))) (readU32 b (place p))
+  unfolding readU32
+  u32 = whole (leb (p + 4) (length b)) _ (leb-true _ _)
+
+  pub u64 : Gives (Exactly (p + 8 ≤ length b) (u64At b p) (place (p + 8))) (readU64 b (place p))
+  unfolding readU64
+  u64 = whole (leb (p + 8) (length b)) _ (leb-true _ _)
+
+  -- a field that passes a test
+  pub passed : {A X : Type 0} {x : A} {q : Place} (test : A → Bool) (read : Reader A) → Gives (Exactly X x q) (read (place p)) → Gives (Exactly (X × (test x ≡ true)) x q) (tested test read (place p))
+  unfolding tested
+  passed {x = x} test read h = next _ h (λ l. within (test x) _ (λ e. (l, e)))
+
+  -- a byte that is 0 or 1
+  pub flag : Gives (Exactly ((p + 1 ≤ length b) × (getD b p 0 < 2)) (eqb (getD b p 0) 1) (place (p + 1))) (readFlag b (place p))
+  unfolding readFlag
+  flag = next _ (passed (λ n. ltb n 2) (readU8 b) u8) (λ l. gives (exactly (l .0, ltb-true _ _ (l .1))))
+
+  -- a count, and as many of the same
+  pub counted : {A : Type 0} (read : Reader A) → Gives (λ xs q. (p + 2 ≤ length b) × (repeat read (u16At b p) (place (p + 2)) ≡ got xs q)) (readCounted b read (place p))
+  unfolding readCounted
+  counted read = next _ u16 (λ l. also l (itself (repeat read (u16At b p) (place (p + 2)))))
+
+  -- n bytes, none zero
+  spelling : (n : ℕ) → Gives (Exactly (p + n ≤ length b) (part b p n) (place (p + n))) (readSpelling b n (place p))
+  unfolding readSpelling readBytes
+  spelling n = next _ (whole (leb (p + n) (length b)) _ (leb-true _ _)) (λ l. noZero _ (firstZero 0 (part b p n)) l)
+
+module _ (terms : Terms) (b : List ℕ) (p : ℕ) where
+  -- a string, whose bytes are those of the span at p
+  pub string : Gives (Exactly (after (spanAt b p) ≤ length b) (plain (part b (p + 2) (u16At b p))) (place (after (spanAt b p)))) (readString terms b (place p))
+  unfolding readString
+  string = next _ (u16 b p) (λ l. next _ (spelling b (p + 2) (u16At b p)) (λ m. gives (exactly m)))

@@ -1,0 +1,121 @@
+-- Push values: what the code takes for each kind shows what the definitions read. Assumes nothing.
+use mathlib.Core.Path.{_≡_, refl, sym}
+use Prim.Native.Nat.{ℕ, _+_, _≤_}
+use mathlib.Core.Option.{Option, none, some}
+use mathlib.Core.List.{List, [], _∷_}
+use lib.ListN.{length, getD}
+use Rattle.layout.specs.Lists.{firstWith, first-with, pick}
+use Rattle.layout.specs.Numbers.{u16At, u32At, u64At}
+use Rattle.layout.specs.PushKind.{PushKind, kindByte, pushKinds, kindOf}
+use Rattle.layout.specs.Tree.{PushValueOf}
+use Rattle.layout.specs.Read.{Text, Terms, Place, readValueOf, readValueIf, readValue}
+use Rattle.pcode.specs.declared.PushAt.{PushAt}
+use Rattle.pcode.specs.declared.PushValue.the-variants as value
+use Rattle.pcode.specs.Shown.{place, pushAt, spanAt, after, isText, ShownValue, string, null, undefined, register, boolean, float, integer, constant, ValueReads, ShowsValue}
+use Rattle.pcode.proofs.Readings as reading
+use Rattle.pcode.proofs.Arms.{NoneOf, isOne, barred}
+use Rattle.pcode.proofs.Readings.{Gives, gives, refuses, given, next, anyway, first, u8}
+
+-- what the code takes at p for a value of a kind
+abbrev pub valueAt : List ℕ → PushKind → ℕ → PushAt
+valueAt b PushKind.String p = pushAt (value.String (spanAt b p)) (after (spanAt b p))
+valueAt b PushKind.Null p = pushAt value.Null p
+valueAt b PushKind.Undefined p = pushAt value.Undefined p
+valueAt b PushKind.Register p = pushAt (value.Register (getD b p 0)) (p + 1)
+valueAt b PushKind.Boolean p = pushAt (value.Boolean (getD b p 0)) (p + 1)
+valueAt b PushKind.Float p = pushAt (value.Float (u64At b p)) (p + 8)
+valueAt b PushKind.Integer p = pushAt (value.Integer (u32At b p)) (p + 4)
+valueAt b PushKind.Constant p = pushAt (value.Constant (u16At b p)) (p + 2)
+
+-- a value and the place after it are those that r shows, and the place lies within b
+abbrev Pushed : List ℕ → PushAt → PushValueOf Text → Place → Type 0
+Pushed b r x q = ShownValue b (r .value) x × (q ≡ place (r .next)) × (r .next ≤ length b)
+
+module _ (b : List ℕ) (p : ℕ) (l : p ≤ length b) where
+  -- what the code takes for a kind shows the value that the definitions read
+  kind-shown : (terms : Terms) (k : PushKind) → Gives (Pushed b (valueAt b k p)) (readValueOf terms b k (place p))
+  unfolding readValueOf
+  kind-shown terms PushKind.String = next _ (reading.string terms b p) (λ m. gives (string (isText m), refl, m))
+  kind-shown terms PushKind.Null = gives (null, refl, l)
+  kind-shown terms PushKind.Undefined = gives (undefined, refl, l)
+  kind-shown terms PushKind.Register = next _ (u8 b p) (λ m. gives (register, refl, m))
+  kind-shown terms PushKind.Boolean = next _ (reading.flag b p) (λ m. gives (boolean (m .1), refl, m .0))
+  kind-shown terms PushKind.Float = next _ (reading.u64 b p) (λ m. gives (float, refl, m))
+  kind-shown terms PushKind.Integer = next _ (reading.u32 b p) (λ m. gives (integer, refl, m))
+  kind-shown terms PushKind.Constant = next _ (reading.u16 b p) (λ m. gives (constant, refl, m))
+
+-- the kinds, each by its byte, as a match on the byte has them
+pub data KindArm : ℕ → PushKind → Type 0 where
+  isString : KindArm 0 PushKind.String
+  isNull : KindArm 2 PushKind.Null
+  isUndefined : KindArm 3 PushKind.Undefined
+  isRegister : KindArm 4 PushKind.Register
+  isBoolean : KindArm 5 PushKind.Boolean
+  isFloat : KindArm 6 PushKind.Float
+  isInteger : KindArm 7 PushKind.Integer
+  isConstant : KindArm 8 PushKind.Constant
+
+-- each byte stands for its kind
+kind-listed : {n : ℕ} {k : PushKind} → KindArm n k → kindOf n ≡ some k
+unfolding kindOf kindByte pushKinds firstWith pick
+kind-listed isString = refl
+kind-listed isNull = refl
+kind-listed isUndefined = refl
+kind-listed isRegister = refl
+kind-listed isBoolean = refl
+kind-listed isFloat = refl
+kind-listed isInteger = refl
+kind-listed isConstant = refl
+
+-- what the code takes for the kind that stands at p shows the value there, and the place after it
+pushed : (b : List ℕ) (p : ℕ) {n : ℕ} {k : PushKind} → KindArm n k → getD b p 0 ≡ n → (terms : Terms)
+    → Gives (Pushed b (valueAt b k (p + 1))) (readValue terms b (place p))
+unfolding readValue readValueIf
+pushed b p {k = k} arm e terms = next _ (u8 b p) (λ l. rw (e, kind-listed arm) (kind-shown b (p + 1) l terms k))
+
+module _ {b : List ℕ} {p n : ℕ} {k : PushKind} where
+  pub value-shown : KindArm n k → getD b p 0 ≡ n → ShowsValue b p (valueAt b k (p + 1))
+  value-shown arm e = record { shows = λ terms x q r. let h = given (pushed b p arm e terms) r in (h .0, h .1) }
+
+  -- it ends within b
+  pub value-room : KindArm n k → getD b p 0 ≡ n → ValueReads b p → valueAt b k (p + 1) .next ≤ length b
+  value-room arm e reads = given (pushed b p arm e (reads .terms)) (reads .reads) .2
+
+-- there is a kind at p
+pub kind-room : {b : List ℕ} {p : ℕ} → ValueReads b p → p + 1 ≤ length b
+unfolding readValue
+kind-room {b} {p} reads = given (first _ (u8 b p)) (reads .reads)
+
+-- ---- the last kind
+
+-- a byte that stands for a kind
+data Kind (n : ℕ) : Type 0 where
+  kind : (k : PushKind) → kindByte k ≡ n → Kind n
+
+-- the bytes of all kinds but a constant's, the last first
+abbrev pub otherKinds : List ℕ
+otherKinds = 7 ∷ 6 ∷ 5 ∷ 4 ∷ 3 ∷ 2 ∷ 0 ∷ []
+
+-- such a byte is a constant's if it is no other kind's
+last-kind : {n : ℕ} → Kind n → NoneOf otherKinds n → n ≡ 8
+unfolding kindByte isOne pick
+last-kind (kind PushKind.String e) h = absurd (barred otherKinds h e refl)
+last-kind (kind PushKind.Null e) h = absurd (barred otherKinds h e refl)
+last-kind (kind PushKind.Undefined e) h = absurd (barred otherKinds h e refl)
+last-kind (kind PushKind.Register e) h = absurd (barred otherKinds h e refl)
+last-kind (kind PushKind.Boolean e) h = absurd (barred otherKinds h e refl)
+last-kind (kind PushKind.Float e) h = absurd (barred otherKinds h e refl)
+last-kind (kind PushKind.Integer e) h = absurd (barred otherKinds h e refl)
+last-kind (kind PushKind.Constant e) h = sym e
+
+-- where a value reads, a kind stands
+kind-if : (terms : Terms) (b : List ℕ) (n : ℕ) (o : Option PushKind) (q r : Place) → kindOf n ≡ o → Gives (λ a r. Kind n) (readValueIf terms b o q r)
+unfolding readValueIf
+kind-if terms b n (some k) q r e = anyway _ (kind k (unfold kindOf in first-with kindByte n pushKinds k e))
+kind-if terms b n none q r e = refuses
+
+-- the kind at p is a constant's if it is no other
+pub constant-kind : {b : List ℕ} {p : ℕ} → ValueReads b p → NoneOf otherKinds (getD b p 0) → getD b p 0 ≡ 8
+unfolding readValue
+constant-kind {b} {p} reads h =
+    last-kind (given (next _ (u8 b p) (λ l. kind-if (reads .terms) b (getD b p 0) (kindOf (getD b p 0)) _ _ refl)) (reads .reads)) h
