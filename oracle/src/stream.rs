@@ -47,3 +47,37 @@ fn length_of(bytes: &[u8]) -> [u8; 4] {
         .expect("a record of under 4 GiB")
         .to_le_bytes()
 }
+
+#[cfg(test)]
+mod tests {
+    use super::*;
+    use crate::answer::Refusal;
+
+    #[test]
+    fn questions_are_read_as_they_were_written() {
+        let mut bytes = vec![];
+        for (sheet, room) in [(vec![], 7), (vec![1, 2, 3], u32::MAX)] {
+            let question = Question { sheet, room };
+            question.write(&mut bytes).expect("a Vec takes all");
+        }
+        let mut from = &bytes[..];
+        let mut next = || Question::read(&mut from).map(|q| q.map(|q| (q.sheet, q.room)));
+        assert_eq!(next().expect("whole"), Some((vec![], 7)));
+        assert_eq!(next().expect("whole"), Some((vec![1, 2, 3], u32::MAX)));
+        assert_eq!(next().expect("the end"), None);
+        assert!(Question::read(&mut &bytes[..bytes.len() - 1][8..]).is_err());
+    }
+
+    #[test]
+    fn answers_are_number_value_and_block() {
+        let written = |answer| {
+            let mut bytes = vec![];
+            write_answer(&answer, &mut bytes).expect("a Vec takes all");
+            bytes
+        };
+        let done = [0, 2, 0, 0, 0, 0, 0, 0, 0, 2, 0, 0, 0, 6, 0];
+        assert_eq!(written(Ok(vec![6, 0])), done);
+        let far = [10, 254, 255, 255, 255, 255, 255, 255, 255, 0, 0, 0, 0];
+        assert_eq!(written(Err(Refusal::JumpOffsetOverflow(-2))), far);
+    }
+}
