@@ -1,0 +1,72 @@
+//! Document 01's answers: number and value of each.
+
+/// 3 to 7: what reading can meet, each at a place.
+#[derive(Clone, Copy, Debug, Eq, PartialEq)]
+pub enum Fault {
+    CutShort,
+    UnknownCode,
+    BadField,
+    TooDeep,
+    LeftOver,
+}
+
+/// 1 to 12, with what their values are made of.
+#[derive(Clone, Copy, Debug, Eq, PartialEq)]
+pub enum Refusal {
+    SheetTooLong(usize),
+    BadTrailer,
+    Reading(Fault, usize),
+    ActionLenOverflow(usize),
+    BlockLenOverflow(usize),
+    JumpOffsetOverflow(isize),
+    NoRoom(usize),
+    InputFull(usize),
+}
+
+/// Done with the block, or a refusal.
+pub type Answer = Result<Vec<u8>, Refusal>;
+
+impl Refusal {
+    pub fn number(self) -> u8 {
+        match self {
+            Refusal::SheetTooLong(_) => 1,
+            Refusal::BadTrailer => 2,
+            Refusal::Reading(Fault::CutShort, _) => 3,
+            Refusal::Reading(Fault::UnknownCode, _) => 4,
+            Refusal::Reading(Fault::BadField, _) => 5,
+            Refusal::Reading(Fault::TooDeep, _) => 6,
+            Refusal::Reading(Fault::LeftOver, _) => 7,
+            Refusal::ActionLenOverflow(_) => 8,
+            Refusal::BlockLenOverflow(_) => 9,
+            Refusal::JumpOffsetOverflow(_) => 10,
+            Refusal::NoRoom(_) => 11,
+            Refusal::InputFull(_) => 12,
+        }
+    }
+
+    pub fn value(self) -> i64 {
+        match self {
+            Refusal::BadTrailer => 0,
+            Refusal::JumpOffsetOverflow(distance) => distance as i64,
+            Refusal::SheetTooLong(n)
+            | Refusal::Reading(_, n)
+            | Refusal::ActionLenOverflow(n)
+            | Refusal::BlockLenOverflow(n)
+            | Refusal::NoRoom(n)
+            | Refusal::InputFull(n) => n as i64,
+        }
+    }
+}
+
+/// The answer's number; 0 is Done.
+pub fn number(answer: &Answer) -> u8 {
+    answer.as_ref().map_or_else(|r| r.number(), |_| 0)
+}
+
+/// The answer's value; Done's is the block's length.
+pub fn value(answer: &Answer) -> i64 {
+    match answer {
+        Ok(block) => block.len() as i64,
+        Err(refusal) => refusal.value(),
+    }
+}

@@ -1,0 +1,141 @@
+//! A seeded generator of sheets, by families; each sheet comes with a room for its block.
+
+pub mod write;
+
+mod damaged;
+mod distances;
+mod limits;
+mod mixed;
+mod random;
+mod small;
+
+use crate::pack::pack;
+use crate::stream::Question;
+use random::Random;
+
+/// Room for any block: at most three times a sheet's length.
+pub const AMPLE: u32 = 1 << 22;
+
+#[derive(Clone, Copy, Debug, Eq, PartialEq)]
+pub enum Family {
+    /// `count` random sheets.
+    Mixed,
+    /// `count` random small sheets, and all damaged copies of each.
+    Damaged,
+    /// Sizes, counts, labels, depths and lengths at their limits.
+    Limits,
+    /// Branches at both edges.
+    Distances,
+    /// Small sheets without a gap.
+    Small,
+}
+
+impl Family {
+    pub const ALL: [Family; 5] = [
+        Family::Mixed,
+        Family::Damaged,
+        Family::Limits,
+        Family::Distances,
+        Family::Small,
+    ];
+
+    pub fn name(self) -> &'static str {
+        match self {
+            Family::Mixed => "mixed",
+            Family::Damaged => "damaged",
+            Family::Limits => "limits",
+            Family::Distances => "distances",
+            Family::Small => "small",
+        }
+    }
+}
+
+/// Gives the questions of a family. `count` is for mixed and damaged; the others have a number of their own.
+pub fn questions(family: Family, seed: u64, count: usize, give: &mut dyn FnMut(Question)) {
+    let mut rooms = Random::new(!seed);
+    let mut random = Random::new(seed);
+    let give_sheet = &mut |sheet: Vec<u8>| {
+        let room = room_for(&sheet, &mut rooms);
+        give(Question { sheet, room });
+    };
+    match family {
+        Family::Mixed => {
+            for _ in 0..count {
+                let actions = random.pick(&[2, 6, 15, 60, 300]);
+                give_sheet(mixed::random_sheet(&mut random, actions));
+            }
+        }
+        Family::Damaged => {
+            for _ in 0..count {
+                let actions = random.pick(&[1, 3, 6]);
+                let sheet = mixed::random_sheet(&mut random, actions);
+                damaged::damaged(&sheet, &mut random, give_sheet);
+                give_sheet(sheet);
+            }
+        }
+        Family::Limits => limits::limits(give_sheet),
+        Family::Distances => distances::distances(give_sheet),
+        Family::Small => small::small(give_sheet),
+    }
+}
+
+/// Exact, one less, one more, none or ample.
+fn room_for(sheet: &[u8], random: &mut Random) -> u32 {
+    let needed = match pack(sheet, AMPLE as usize) {
+        Ok(block) => block.len() as u32,
+        Err(_) => 1 + random.below(64) as u32,
+    };
+    match random.below(8) {
+        0 => 0,
+        1 => needed - 1,
+        2 => needed + 1,
+        3 => AMPLE,
+        _ => needed,
+    }
+}
+
+#[cfg(test)]
+mod tests {
+    use super::*;
+    use crate::answer::number;
+
+    fn numbers(family: Family) -> [usize; 12] {
+        let mut numbers = [0; 12];
+        questions(family, 1, 40, &mut |question| {
+            let answer = pack(&question.sheet, question.room as usize);
+            numbers[usize::from(number(&answer))] += 1;
+        });
+        numbers
+    }
+
+    /// What each family is made to meet.
+    #[test]
+    fn families_meet_their_answers() {
+        let due: [(Family, &[usize]); 5] = [
+            (Family::Mixed, &[0, 11]),
+            (Family::Damaged, &[0, 2, 3, 4, 5, 7, 11]),
+            (Family::Limits, &[0, 1, 2, 3, 5, 6, 7, 8, 9, 10, 11]),
+            (Family::Distances, &[0, 10, 11]),
+            (Family::Small, &[0, 2, 3, 4, 5, 7, 11]),
+        ];
+        for (family, due) in due {
+            let numbers = numbers(family);
+            for number in due {
+                assert!(numbers[*number] > 0, "{family:?} {number}: {numbers:?}");
+            }
+        }
+    }
+
+    #[test]
+    fn a_seed_gives_the_same_sheets_again() {
+        let all = |seed| {
+            let mut bytes = vec![];
+            questions(Family::Mixed, seed, 50, &mut |q| {
+                q.write(&mut bytes).expect("a Vec takes all")
+            });
+            bytes
+        };
+        assert_eq!(all(5), all(5));
+        assert_ne!(all(5), all(6));
+    }
+}

@@ -1,0 +1,14 @@
+//! The Rust ActionEncoder, as it stands, behind a reader of sheets of its own; and a generator of sheets.
+//! Document 01 gives the sheet, the answers and their order. Nothing here leans on anything in `crates/`.
+
+pub mod answer;
+pub mod generate;
+pub mod pack;
+pub mod sheet;
+pub mod stream;
+
+mod source;
+mod swf;
+
+// The names by which the source files know each other.
+use source::{internal, program};

@@ -1,0 +1,83 @@
+//! Sheets and answers as streams of records; numbers are little-endian.
+//! A question: u32 length, the sheet, u32 room. An answer: u8 number, i64 value, u32 length, the block (empty unless Done).
+
+use crate::answer::{Answer, number, value};
+use std::io::{self, Read, Write};
+
+pub struct Question {
+    pub sheet: Vec<u8>,
+    pub room: u32,
+}
+
+impl Question {
+    /// The next question, or none at the stream's end.
+    pub fn read(from: &mut impl Read) -> io::Result<Option<Self>> {
+        let mut first = [0];
+        if from.read(&mut first)? == 0 {
+            return Ok(None);
+        }
+        let mut rest = [0; 3];
+        from.read_exact(&mut rest)?;
+        let length = u32::from_le_bytes([first[0], rest[0], rest[1], rest[2]]);
+        let mut sheet = vec![0; length as usize];
+        from.read_exact(&mut sheet)?;
+        let mut room = [0; 4];
+        from.read_exact(&mut room)?;
+        let room = u32::from_le_bytes(room);
+        Ok(Some(Self { sheet, room }))
+    }
+
+    pub fn write(&self, to: &mut impl Write) -> io::Result<()> {
+        to.write_all(&length_of(&self.sheet))?;
+        to.write_all(&self.sheet)?;
+        to.write_all(&self.room.to_le_bytes())
+    }
+}
+
+pub fn write_answer(answer: &Answer, to: &mut impl Write) -> io::Result<()> {
+    let block = answer.as_deref().unwrap_or(&[]);
+    to.write_all(&[number(answer)])?;
+    to.write_all(&value(answer).to_le_bytes())?;
+    to.write_all(&length_of(block))?;
+    to.write_all(block)
+}
+
+fn length_of(bytes: &[u8]) -> [u8; 4] {
+    u32::try_from(bytes.len())
+        .expect("a record of under 4 GiB")
+        .to_le_bytes()
+}
+
+#[cfg(test)]
+mod tests {
+    use super::*;
+    use crate::answer::Refusal;
+
+    #[test]
+    fn questions_are_read_as_they_were_written() {
+        let mut bytes = vec![];
+        for (sheet, room) in [(vec![], 7), (vec![1, 2, 3], u32::MAX)] {
+            let question = Question { sheet, room };
+            question.write(&mut bytes).expect("a Vec takes all");
+        }
+        let mut from = &bytes[..];
+        let mut next = || Question::read(&mut from).map(|q| q.map(|q| (q.sheet, q.room)));
+        assert_eq!(next().expect("whole"), Some((vec![], 7)));
+        assert_eq!(next().expect("whole"), Some((vec![1, 2, 3], u32::MAX)));
+        assert_eq!(next().expect("the end"), None);
+        assert!(Question::read(&mut &bytes[..bytes.len() - 1][8..]).is_err());
+    }
+
+    #[test]
+    fn answers_are_number_value_and_block() {
+        let written = |answer| {
+            let mut bytes = vec![];
+            write_answer(&answer, &mut bytes).expect("a Vec takes all");
+            bytes
+        };
+        let done = [0, 2, 0, 0, 0, 0, 0, 0, 0, 2, 0, 0, 0, 6, 0];
+        assert_eq!(written(Ok(vec![6, 0])), done);
+        let far = [10, 254, 255, 255, 255, 255, 255, 255, 255, 0, 0, 0, 0];
+        assert_eq!(written(Err(Refusal::JumpOffsetOverflow(-2))), far);
+    }
+}
