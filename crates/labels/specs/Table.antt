@@ -4,13 +4,13 @@ use Prim.Native.Nat.{ℕ, zero, suc, min, _+_, _*_, _≤_, _<_}
 use mathlib.Core.Bool.{Bool, not}
 use mathlib.Core.Option.{Option, none, some}
 use mathlib.Core.List.{List, [], _∷_}
-use lib.ListN.{length, set}
+use lib.ListN.{length, getD, set}
 use lib.Dec.{ltb}
 use lib.IntN.{subℕ}
 use Rattle.layout.specs.Lists.{pick}
 use Rattle.layout.specs.Numbers.{u16At, bits64}
 use Rattle.layout.specs.Tree.{ActionIndex, Entry, entry}
-use Rattle.layout.specs.Write.{Position, Event, labelAt, branchAt, payloadTooLong, bodyTooLong, labelsAt}
+use Rattle.layout.specs.Write.{Position, Event, labelAt, branchAt, payloadTooLong, bodyTooLong, labelsAt, lookup}
 use Rattle.layout.specs.Judge.{isNear}
 
 -- ---- the table
@@ -32,6 +32,11 @@ recordAll (labelAt l s ∷ es) tab = recordAll es (set tab l (s .at + 1))
 recordAll (branchAt l s ∷ es) tab = recordAll es tab
 recordAll (payloadTooLong n s ∷ es) tab = recordAll es tab
 recordAll (bodyTooLong n s ∷ es) tab = recordAll es tab
+
+-- a table of `bound` slots holds each label's final record among these events
+pub record TableHolds (bound : ℕ) (tab : List ℕ) (es : List Event) : Type 0 where
+  pub slots : length tab ≡ bound
+  pub holds : (l : ℕ) → l < bound → getD tab l 0 ≡ slot (lookup l es)
 
 -- ---- the entries
 

@@ -12,7 +12,7 @@ use borrow.Author.Tests.{ltb-false, leb-true}
 use Rattle.layout.specs.Lists.{all-take, all-drop}
 use Rattle.layout.specs.Answers.{Refusal, ActionLenOverflow, BlockLenOverflow, Answer, Done, Refused}
 use Rattle.layout.specs.Tree.{Actions, ActionsOf, ActionIndex, firstAction, nextAction, Entry, Action, flat, branch, owner, Try, ActionList, empty, more, body, Catch, noCatch, catch, Finally, noFinally, finally}
-use Rattle.layout.specs.Read.{Text, plain, Terms, edition1, deepest, Read, got, bad, readMain, readU16, readSpelling, readString}
+use Rattle.layout.specs.Read.{Text, plain, Terms, edition1, deepest, Place, Read, got, bad, readMain, readU16, readSpelling, readString}
 use Rattle.layout.specs.Strings.{mapBody}
 use Rattle.layout.specs.Payload.{payload, ownerFields, catchName}
 use Rattle.layout.specs.Write.{size, bodySize, catchSize, finallySize, Position, Event, labelAt, branchAt, payloadTooLong, bodyTooLong, moved, eventIf, payloadTest, bodyTest, labelsAt, trace, traces, traceBody, traceCatch, traceFinally, events, blockBytes, blockSize}
@@ -47,6 +47,15 @@ tree-written t room q e = go (tooLong (events t)) (tooFar (events t) (events t))
     go none (some r) z ex ey ez k = refused-done k
     go none none false ex ey ez k = refused-done k
     go none none true ex ey ez k = record { is-short = ex; is-near = ey; has-room = leb-true (blockSize t) room ez; is-block = cc }
+
+-- ---- a main body that reads whole
+
+-- its tree, with the strings resolved
+pub record ReadsMain (b : List ℕ) (t : Actions) : Type 0 where
+  pub read : ActionsOf Text ℕ
+  pub next : Place
+  pub is-read : readMain edition1 b deepest ≡ got read next
+  pub is-tree : mapBody spelling read ≡ t
 
 -- ---- a sheet that is packed
 
