@@ -175,7 +175,7 @@ module _ (k : Terms) (b : List ℕ) (small : Bytes b) (w : Text → List ℕ) (K
       good-then (h p l) (λ a q g m. good-then (repeat-good P v r h n q m)
       (λ xs o i j. fine (ap suc (i .0), (g .0, i .1), (λ κ. omega (arith, i .2 κ, g .1 κ)), omega (arith, g .2, i .3)) j))
 
-  counted-good : {A : Type 0} (P : A → Type 0) (v : A → ℕ) (r : Reader A)
+  pub counted-good : {A : Type 0} (P : A → Type 0) (v : A → ℕ) (r : Reader A)
       → ((p : Place) → p .at ≤ length b → Good (length b) (λ a q. P a × (K → v a + p .at ≤ q .at) × (p .at ≤ q .at)) (r p))
       → (p : Place) → p .at ≤ length b → Good (length b) (λ l q. (length l < 65536) × All P l × (K → total v l + p .at + 2 ≤ q .at) × (p .at ≤ q .at)) (readCounted b r p)
   unfolding readCounted

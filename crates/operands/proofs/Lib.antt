@@ -1,0 +1,4 @@
+pub mod Scans
+pub mod Reading
+pub mod Values
+pub mod Lists

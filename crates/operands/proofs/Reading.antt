@@ -1,0 +1,173 @@
+-- Laws of the fields' readers by cases, in the shape of the code's tests. Assumes nothing.
+use mathlib.Core.Path.{_≡_, refl, sym, ap, _∙_}
+use Prim.Native.Nat.{ℕ, zero, suc, _+_, _-_, _*_, _≤_, _<_}
+use native.Mathlib.Omega.{arith}
+use native.Mathlib.Numerals.{sub-one}
+use mathlib.Core.Bool.{Bool, true, false, _&&_}
+use mathlib.Core.Option.{Option, none, some}
+use mathlib.Core.List.{List, [], _∷_}
+use lib.ListN.{length, getD, take, drop, length-take, length-drop}
+use lib.Seq.{length-take-le}
+use lib.Dec.{leb, ltb, eqb}
+use borrow.Author.Tests.{le-leb, lt-leb, lt-ltb, le-ltb}
+use Rattle.layout.specs.Lists.{pick}
+use Rattle.layout.specs.Numbers.{u16At, u32At, u64At}
+use Rattle.layout.specs.Answers.{CutShort, UnknownCode, BadField}
+use Rattle.layout.specs.Read.{Text, plain, edition1, Place, ahead, Read, got, bad, Reader, chain, ifWhole, ifWithin, tested, repeat, firstZero, ifNoZero, readU8, readU16, readU32, readU64, readBytes, readFlag, readSpelling, readCounted, readString, readLabel}
+use Rattle.layout.specs.Lengths.{stringLength}
+use Rattle.layout.specs.Pack.{spelling}
+use Rattle.fields.specs.Runs.{part, nulOr, firstNul}
+use Rattle.labels.specs.declared.BytePosition.{BytePosition}
+use Rattle.operands.specs.declared.Scan.{Scan}
+use Rattle.operands.specs.declared.Scan.the-variants as scan
+use Rattle.operands.specs.declared.Fault.the-variants as fault
+use Rattle.operands.specs.Scanned.{placed, faultOf, scanned}
+use Rattle.operands.specs.Operands.{stringSize, constantSize}
+use Rattle.operands.proofs.Scans.{ends, stops}
+
+-- ---- numbers and runs: whole, or cut short at their first byte
+
+module _ (b : List ℕ) (at : ℕ) where
+  whole : {A : Type 0} (n : ℕ) (a : A) → at + n ≤ length b → ifWhole (leb (at + n) (length b)) (placed at) a (ahead n (placed at)) ≡ got a (placed (at + n))
+  unfolding ifWhole
+  whole n a h = rw (le-leb (at + n) (length b) h)
+
+  cut : {A : Type 0} (n : ℕ) (a : A) → length b < at + n → ifWhole (leb (at + n) (length b)) (placed at) a (ahead n (placed at)) ≡ bad CutShort (placed at)
+  unfolding ifWhole
+  cut n a h = rw (lt-leb (at + n) (length b) h)
+
+  pub u8-in : at + 1 ≤ length b → readU8 b (placed at) ≡ got (getD b at 0) (placed (at + 1))
+  unfolding readU8
+  u8-in h = whole 1 _ h
+
+  pub u8-out : length b < at + 1 → readU8 b (placed at) ≡ bad CutShort (placed at)
+  unfolding readU8
+  u8-out h = cut 1 _ h
+
+  pub u16-in : at + 2 ≤ length b → readU16 b (placed at) ≡ got (u16At b at) (placed (at + 2))
+  unfolding readU16
+  u16-in h = whole 2 _ h
+
+  pub u16-out : length b < at + 2 → readU16 b (placed at) ≡ bad CutShort (placed at)
+  unfolding readU16
+  u16-out h = cut 2 _ h
+
+  pub bytes-in : (n : ℕ) → at + n ≤ length b → readBytes b n (placed at) ≡ got (part b at n) (placed (at + n))
+  unfolding readBytes
+  bytes-in n h = whole n _ h
+
+  pub bytes-out : (n : ℕ) → length b < at + n → readBytes b n (placed at) ≡ bad CutShort (placed at)
+  unfolding readBytes
+  bytes-out n h = cut n _ h
+
+  -- ---- a flag
+
+  pub flag-out : length b < at + 1 → readFlag b (placed at) ≡ bad CutShort (placed at)
+  unfolding readFlag tested
+  flag-out h = rw (u8-out h)
+
+  pub flag-big : at + 1 ≤ length b → 1 < getD b at 0 → readFlag b (placed at) ≡ bad BadField (placed at)
+  unfolding readFlag tested ifWithin
+  flag-big h k =
+      let l : 2 ≤ getD b at 0 = omega arith in
+      rw (u8-in h, le-ltb (getD b at 0) 2 l)
+
+  pub flag-in : at + 1 ≤ length b → getD b at 0 ≤ 1 → readFlag b (placed at) ≡ got (eqb (getD b at 0) 1) (placed (at + 1))
+  unfolding readFlag tested ifWithin
+  flag-in h k =
+      let l : getD b at 0 < 2 = omega arith in
+      rw (u8-in h, lt-ltb (getD b at 0) 2 l)
+
+  -- ---- a branch's label number
+
+  pub label-out : length b < at + 2 → readLabel edition1 b 0 (placed at) ≡ bad CutShort (placed at)
+  unfolding readLabel tested
+  label-out h = rw (u16-out h)
+
+  pub label-big : at + 2 ≤ length b → 1023 < u16At b at → readLabel edition1 b 0 (placed at) ≡ bad BadField (placed at)
+  unfolding readLabel tested ifWithin edition1
+  label-big h k =
+      let l : 1024 ≤ u16At b at = omega arith in
+      rw (u16-in h, le-ltb (u16At b at) 1024 l)
+
+  pub label-in : at + 2 ≤ length b → u16At b at ≤ 1023 → readLabel edition1 b 0 (placed at) ≡ got (u16At b at) (placed (at + 2))
+  unfolding readLabel tested ifWithin edition1
+  label-in h k =
+      let l : u16At b at < 1024 = omega arith in
+      let z : 0 ≤ u16At b at = omega arith in
+      rw (u16-in h, lt-ltb (u16At b at) 1024 l, le-leb 0 (u16At b at) z)
+
+-- ---- a string
+
+-- where the first zero byte stands, and that there is none
+nul-at : (i n : ℕ) (o : Option ℕ) → ((z : ℕ) → o ≡ some z → z < n) → nulOr i n o < i + n → (z : ℕ) × (o ≡ some z) × (nulOr i n o ≡ i + z)
+unfolding nulOr
+nul-at i n none h l = absurd (omega arith)
+nul-at i n (some z) h l = (z, refl, refl)
+
+nul-none : (i n : ℕ) (o : Option ℕ) → ((z : ℕ) → o ≡ some z → z < n) → i + n ≤ nulOr i n o → o ≡ none
+unfolding nulOr
+nul-none i n none h l = refl
+nul-none i n (some z) h l = absurd (omega (arith, h z refl))
+
+zero-before : (m : ℕ) (s : List ℕ) (z : ℕ) → firstZero m s ≡ some z → z < m + length s
+unfolding firstZero
+zero-before m [] z e =
+    let y : _≡_ {A = ℕ} 0 1 = cc in
+    absurd (omega arith)
+zero-before m (zero ∷ s) z e =
+    let same : m ≡ z = cc in
+    omega arith
+zero-before m (suc x ∷ s) z e = omega (arith, zero-before (suc m) s z e)
+
+module _ (b : List ℕ) (at : ℕ) where
+  pub string-out : length b < at + 2 → readString edition1 b (placed at) ≡ bad CutShort (placed at)
+  unfolding readString
+  string-out h = rw (u16-out b at h)
+
+  module _ (h : at + 2 ≤ length b) where
+    pub string-short : length b < at + 2 + u16At b at → readString edition1 b (placed at) ≡ bad CutShort (placed (at + 2))
+    unfolding readString readSpelling
+    string-short l = rw (u16-in b at h, bytes-out b (at + 2) (u16At b at) l)
+
+    module _ (l : at + 2 + u16At b at ≤ length b) where
+      pub string-length : length (part b (at + 2) (u16At b at)) ≡ u16At b at
+      string-length = length-take-le (u16At b at) (drop (at + 2) b) (simp length-drop (omega arith))
+
+      within : (z : ℕ) → firstZero 0 (part b (at + 2) (u16At b at)) ≡ some z → z < u16At b at
+      within z e = omega (arith, zero-before 0 (part b (at + 2) (u16At b at)) z e, string-length)
+
+      pub string-nul : firstNul b (at + 2) (u16At b at) < at + 2 + u16At b at
+          → readString edition1 b (placed at) ≡ bad BadField (placed (firstNul b (at + 2) (u16At b at)))
+      unfolding readString readSpelling ifNoZero firstNul
+      string-nul k =
+          let n = nul-at (at + 2) (u16At b at) (firstZero 0 (part b (at + 2) (u16At b at))) within k in
+          go (n .0) (n .1) (n .2)
+        where
+          go : (z : ℕ) → firstZero 0 (part b (at + 2) (u16At b at)) ≡ some z → nulOr (at + 2) (u16At b at) (firstZero 0 (part b (at + 2) (u16At b at))) ≡ at + 2 + z
+              → readString edition1 b (placed at) ≡ bad BadField (placed (nulOr (at + 2) (u16At b at) (firstZero 0 (part b (at + 2) (u16At b at)))))
+          go z x y = rw (y, u16-in b at h, bytes-in b (at + 2) (u16At b at) l, x)
+
+      pub string-in : at + 2 + u16At b at ≤ firstNul b (at + 2) (u16At b at)
+          → readString edition1 b (placed at) ≡ got (plain (part b (at + 2) (u16At b at))) (placed (at + 2 + u16At b at))
+      unfolding readString readSpelling ifNoZero firstNul
+      string-in k = rw (u16-in b at h, bytes-in b (at + 2) (u16At b at) l, nul-none (at + 2) (u16At b at) (firstZero 0 (part b (at + 2) (u16At b at))) within k)
+
+-- as the code answers, which holds the length in n and the zero byte's place in z
+module _ (b : List ℕ) (at pos n : ℕ) (h : at + 2 ≤ length b) (e : n ≡ u16At b at) where
+  pub scan-short : length b < at + 2 + n → scan.Stops fault.CutShort (at + 2) ≡ scanned stringSize pos (readString edition1 b (placed at))
+  unfolding faultOf
+  scan-short l = stops stringSize pos (string-short b at h (omega arith))
+
+  module _ (z : ℕ) (l : at + 2 + n ≤ length b) (f : z ≡ firstNul b (at + 2) n) where
+    pub scan-nul : z < at + 2 + n → scan.Stops fault.BadField z ≡ scanned stringSize pos (readString edition1 b (placed at))
+    unfolding faultOf
+    scan-nul k =
+        let g : z ≡ firstNul b (at + 2) (u16At b at) = rw (← e) f in
+        stops stringSize pos (string-nul b at h (omega arith) (omega arith) ∙ ap (λ (x : ℕ). bad BadField (placed x)) (sym g))
+
+    pub scan-text : at + 2 + n ≤ z → scan.Ends (at + 2 + n) (record { 0 = pos + (n + 1) }) ≡ scanned stringSize pos (readString edition1 b (placed at))
+    unfolding stringSize stringLength spelling
+    scan-text k =
+        let g : z ≡ firstNul b (at + 2) (u16At b at) = rw (← e) f in
+        rw e (ends stringSize pos (string-in b at h (omega arith) (omega arith)) (omega (arith, string-length b at h (omega arith))))

@@ -1,0 +1,69 @@
+use Rattle.operands.specs.Scanned.{faultOf}
+use Rattle.operands.proofs.Reading as reading
+use Rattle.operands.proofs.Scans.{ends, stops}
+use native.Mathlib.Omega.{arith}
+use borrow.Author.Needs.{needs}
+use Rattle.operands.proofs.scan_string.Statement.{statement}
+use Rattle.operands.proofs.scan_string.Tie as tie
+use Rattle.operands.proofs.scan_string.Reads as reads
+use Rattle.operands.proofs.scan_string.Lts as lts
+use Rattle.fields.proofs.first_nul.Reads as first-nul-reads
+use Rattle.fields.proofs.u16_at.Reads as u16-at-reads
+
+sub-if1 : tie.Need-sub-if1
+sub-if1 c = search needs
+
+returns : tie.Need-returns
+unfolding faultOf
+returns c = stops _ _ (reading.string-out _ _ (omega arith))
+
+u16-at-requires : tie.Need-u16-at-requires
+u16-at-requires c κs = search needs
+
+add-p : tie.Need-add-p
+add-p c = search needs
+
+sub-if2 : tie.Need-sub-if2
+sub-if2 c = search needs
+
+returns-2 : tie.Need-returns-2
+returns-2 c = reading.scan-short _ _ _ _ (omega arith) (c .before .u16-at .ensures .0) (omega arith)
+
+first-nul-requires : tie.Need-first-nul-requires
+first-nul-requires c κs = search needs
+
+add-if3 : tie.Need-add-if3
+add-if3 c = search needs
+
+returns-3 : tie.Need-returns-3
+returns-3 c = reading.scan-nul _ _ _ _ (omega arith) (c .before .before .before .u16-at .ensures .0) _ (omega arith) (c .before .first-nul .ensures) (c .if3 .taken)
+
+add-t8 : tie.Need-add-t8
+add-t8 c = search needs
+
+add-t7 : tie.Need-add-t7
+add-t7 c = search needs
+
+add-t13 : tie.Need-add-t13
+add-t13 c = search needs
+
+returns-4 : tie.Need-returns-4
+returns-4 c = reading.scan-text _ _ _ _ (omega arith) (c .before .before .before .before .u16-at .ensures .0) _ (omega arith) (c .before .before .first-nul .ensures) (c .before .if3 .left)
+
+pub scan-string-spec : {M : Type 1} → statement M
+scan-string-spec =
+    tie.close
+    (tie.spec
+    sub-if1
+    returns
+    u16-at-requires
+    add-p
+    sub-if2
+    returns-2
+    first-nul-requires
+    add-if3
+    returns-3
+    add-t8
+    add-t7
+    add-t13
+    returns-4)

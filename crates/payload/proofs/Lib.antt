@@ -1,0 +1,5 @@
+pub mod Steps
+pub mod Runs
+pub mod Layings
+pub mod Tries
+pub mod Arms

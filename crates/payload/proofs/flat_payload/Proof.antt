@@ -1,0 +1,27 @@
+use Prim.Native.Nat.{ℕ}
+use mathlib.Core.Path.{_≡_, refl, sym, ap, _∙_}
+use native.Mathlib.Omega.{arith}
+use Rattle.operands.proofs.Lists as lists
+use Rattle.payload.proofs.Steps as steps
+use Rattle.payload.proofs.Layings as lay
+use Rattle.payload.proofs.Tries as tries
+use borrow.Author.Needs.{needs}
+use Rattle.payload.proofs.flat_payload.Statement.{statement}
+use Rattle.payload.proofs.flat_payload.Tie as tie
+use Rattle.payload.proofs.flat_payload.Reads as reads
+use Rattle.payload.proofs.flat_payload.Lts as lts
+
+enum-known-r : tie.Need-enum-known-r
+enum-known-r c = search needs
+
+enum-known-r-2 : tie.Need-enum-known-r-2
+enum-known-r-2 c = search needs
+
+returns : tie.Need-returns
+returns c = lay.laid-stops _ _ _ _ (c .before .r .given .1)
+
+returns-2 : tie.Need-returns-2
+returns-2 c = lay.laid-flat _ _ _ _ (c .before .r2 .given .1) refl
+
+pub flat-payload-spec : {M : Type 1} → statement M
+flat-payload-spec = tie.close (tie.spec enum-known-r enum-known-r-2 returns returns-2)

@@ -1,0 +1,302 @@
+use Rattle.layout.specs.OpCode.{opcodeOf, opcodes, smallOpCodes, byte, smallByte}
+use Rattle.layout.specs.Lists.{each, pick, firstWith}
+use Rattle.payload.proofs.Arms as arms
+use Prim.Native.Nat.{ℕ}
+use mathlib.Core.Path.{_≡_, refl, sym, ap, _∙_}
+use native.Mathlib.Omega.{arith}
+use Rattle.operands.proofs.Lists as lists
+use Rattle.payload.proofs.Steps as steps
+use Rattle.payload.proofs.Layings as lay
+use Rattle.payload.proofs.Tries as tries
+use borrow.Author.Needs.{needs}
+use Rattle.payload.proofs.scan_payload.Statement.{statement}
+use Rattle.payload.proofs.scan_payload.Tie as tie
+use Rattle.payload.proofs.scan_payload.Reads as reads
+use Rattle.payload.proofs.scan_payload.Lts as lts
+use Rattle.operands.proofs.scan_bytes.Reads as scan-bytes-reads
+use Rattle.operands.proofs.scan_label.Reads as scan-label-reads
+use Rattle.operands.proofs.scan_push.Reads as scan-push-reads
+use Rattle.operands.proofs.scan_string.Reads as scan-string-reads
+use Rattle.operands.proofs.scan_strings.Reads as scan-strings-reads
+use Rattle.payload.proofs.flat_payload.Reads as flat-payload-reads
+use Rattle.payload.proofs.long_payload.Reads as long-payload-reads
+use Rattle.payload.proofs.scan_function.Reads as scan-function-reads
+use Rattle.payload.proofs.scan_function2.Reads as scan-function2-reads
+use Rattle.payload.proofs.scan_get_url.Reads as scan-get-url-reads
+use Rattle.payload.proofs.scan_get_url2.Reads as scan-get-url2-reads
+use Rattle.payload.proofs.scan_goto_frame2.Reads as scan-goto-frame2-reads
+use Rattle.payload.proofs.scan_try.Reads as scan-try-reads
+use Rattle.payload.proofs.scan_wait_for_frame.Reads as scan-wait-for-frame-reads
+
+add-p : tie.Need-add-p
+add-p c = search needs
+
+add-t8 : tie.Need-add-t8
+add-t8 c = search needs
+
+add-t11 : tie.Need-add-t11
+add-t11 c = search needs
+
+scan-bytes-requires : tie.Need-scan-bytes-requires
+scan-bytes-requires c κs = search needs
+
+flat-payload-requires : tie.Need-flat-payload-requires
+flat-payload-requires c κs = search needs
+
+scan-get-url-requires : tie.Need-scan-get-url-requires
+scan-get-url-requires c κs = search needs
+
+long-payload-requires : tie.Need-long-payload-requires
+long-payload-requires c κs = (c .before .before .before .before .before .before .pre .2, lay.scanned-from-start _ _ _ _ _ (c .before .scan-get-url .ensures) (omega arith))
+
+add-t17 : tie.Need-add-t17
+add-t17 c = search needs
+
+scan-bytes-requires-2 : tie.Need-scan-bytes-requires-2
+scan-bytes-requires-2 c κs = search needs
+
+flat-payload-requires-2 : tie.Need-flat-payload-requires-2
+flat-payload-requires-2 c κs = search needs
+
+add-t20 : tie.Need-add-t20
+add-t20 c = search needs
+
+scan-strings-requires : tie.Need-scan-strings-requires
+scan-strings-requires c κs = search needs
+
+long-payload-requires-2 : tie.Need-long-payload-requires-2
+long-payload-requires-2 c κs = (c .before .before .before .before .before .before .before .pre .2, lay.scanned-from-start _ _ _ _ _ (c .before .scan-strings .ensures) (omega arith))
+
+scan-wait-for-frame-requires : tie.Need-scan-wait-for-frame-requires
+scan-wait-for-frame-requires c κs = search needs
+
+flat-payload-requires-3 : tie.Need-flat-payload-requires-3
+flat-payload-requires-3 c κs = search needs
+
+scan-string-requires : tie.Need-scan-string-requires
+scan-string-requires c κs = search needs
+
+long-payload-requires-3 : tie.Need-long-payload-requires-3
+long-payload-requires-3 c κs = (c .before .before .before .before .before .before .pre .2, lay.scanned-from-start _ _ _ _ _ (c .before .scan-string .ensures) (omega arith))
+
+scan-string-requires-2 : tie.Need-scan-string-requires-2
+scan-string-requires-2 c κs = search needs
+
+long-payload-requires-4 : tie.Need-long-payload-requires-4
+long-payload-requires-4 c κs = (c .before .before .before .before .before .before .pre .2, lay.scanned-from-start _ _ _ _ _ (c .before .scan-string2 .ensures) (omega arith))
+
+add-t32 : tie.Need-add-t32
+add-t32 c = search needs
+
+scan-bytes-requires-3 : tie.Need-scan-bytes-requires-3
+scan-bytes-requires-3 c κs = search needs
+
+flat-payload-requires-4 : tie.Need-flat-payload-requires-4
+flat-payload-requires-4 c κs = search needs
+
+scan-function2-requires : tie.Need-scan-function2-requires
+scan-function2-requires c κs = search needs
+
+long-payload-requires-5 : tie.Need-long-payload-requires-5
+long-payload-requires-5 c κs = (c .before .before .before .before .before .before .pre .2, lay.scanned-from-start _ _ _ _ _ (c .before .scan-function2 .ensures) (omega arith))
+
+scan-try-requires : tie.Need-scan-try-requires
+scan-try-requires c κs = search needs
+
+add-t39 : tie.Need-add-t39
+add-t39 c = search needs
+
+scan-push-requires : tie.Need-scan-push-requires
+scan-push-requires c κs = search needs
+
+long-payload-requires-6 : tie.Need-long-payload-requires-6
+long-payload-requires-6 c κs = (c .before .before .before .before .before .before .pre .2, lay.scanned-from-start _ _ _ _ _ (c .before .scan-push .ensures) (omega arith))
+
+add-t45 : tie.Need-add-t45
+add-t45 c = search needs
+
+scan-label-requires : tie.Need-scan-label-requires
+scan-label-requires c κs = search needs
+
+flat-payload-requires-5 : tie.Need-flat-payload-requires-5
+flat-payload-requires-5 c κs = search needs
+
+scan-get-url2-requires : tie.Need-scan-get-url2-requires
+scan-get-url2-requires c κs = search needs
+
+flat-payload-requires-6 : tie.Need-flat-payload-requires-6
+flat-payload-requires-6 c κs = search needs
+
+scan-function-requires : tie.Need-scan-function-requires
+scan-function-requires c κs = search needs
+
+long-payload-requires-7 : tie.Need-long-payload-requires-7
+long-payload-requires-7 c κs = (c .before .before .before .before .before .before .pre .2, lay.scanned-from-start _ _ _ _ _ (c .before .scan-function .ensures) (omega arith))
+
+add-t52 : tie.Need-add-t52
+add-t52 c = search needs
+
+scan-label-requires-2 : tie.Need-scan-label-requires-2
+scan-label-requires-2 c κs = search needs
+
+flat-payload-requires-7 : tie.Need-flat-payload-requires-7
+flat-payload-requires-7 c κs = search needs
+
+scan-goto-frame2-requires : tie.Need-scan-goto-frame2-requires
+scan-goto-frame2-requires c κs = search needs
+
+flat-payload-requires-8 : tie.Need-flat-payload-requires-8
+flat-payload-requires-8 c κs = search needs
+
+returns : tie.Need-returns
+returns c = arms.arm-goto-frame _ _ _ _ _ _ _ (c .before .before .before .match .keys1) (c .before .scan-bytes .ensures) (c .flat-payload .ensures)
+
+same-length : tie.Need-same-length
+same-length c = search needs
+
+returns-2 : tie.Need-returns-2
+returns-2 c = arms.arm-get-url _ _ _ _ _ _ _ _ (c .before .before .before .before .before .match .keys2) (c .before .before .before .before .scan-get-url .ensures) (c .before .before .long-payload .ensures .0) (c .before .before .long-payload .ensures .1)
+
+returns-3 : tie.Need-returns-3
+returns-3 c = arms.arm-store-register _ _ _ _ _ _ _ (c .before .before .before .match .keys3) (c .before .scan-bytes2 .ensures) (c .flat-payload2 .ensures)
+
+same-length-2 : tie.Need-same-length-2
+same-length-2 c = search needs
+
+returns-4 : tie.Need-returns-4
+returns-4 c = arms.arm-constant-pool _ _ _ _ _ _ _ _ (c .before .before .before .before .before .before .match .keys4) (c .before .before .before .before .scan-strings .ensures) (c .before .before .long-payload2 .ensures .0) (c .before .before .long-payload2 .ensures .1)
+
+returns-5 : tie.Need-returns-5
+returns-5 c = arms.arm-wait-for-frame _ _ _ _ _ _ _ (c .before .before .match .keys5) (c .before .scan-wait-for-frame .ensures) (c .flat-payload3 .ensures)
+
+same-length-3 : tie.Need-same-length-3
+same-length-3 c = search needs
+
+returns-6 : tie.Need-returns-6
+returns-6 c = arms.arm-set-target _ _ _ _ _ _ _ _ (c .before .before .before .before .before .match .keys6) (c .before .before .before .before .scan-string .ensures) (c .before .before .long-payload3 .ensures .0) (c .before .before .long-payload3 .ensures .1)
+
+same-length-4 : tie.Need-same-length-4
+same-length-4 c = search needs
+
+returns-7 : tie.Need-returns-7
+returns-7 c = arms.arm-goto-label _ _ _ _ _ _ _ _ (c .before .before .before .before .before .match .keys7) (c .before .before .before .before .scan-string2 .ensures) (c .before .before .long-payload4 .ensures .0) (c .before .before .long-payload4 .ensures .1)
+
+returns-8 : tie.Need-returns-8
+returns-8 c = arms.arm-wait-for-frame2 _ _ _ _ _ _ _ (c .before .before .before .match .keys8) (c .before .scan-bytes3 .ensures) (c .flat-payload4 .ensures)
+
+same-length-5 : tie.Need-same-length-5
+same-length-5 c = search needs
+
+returns-9 : tie.Need-returns-9
+returns-9 c = arms.arm-define-function2 _ _ _ _ _ _ _ (c .before .before .before .before .before .before .before .before .before .pre .3 .bytes) (omega arith) _ (c .before .before .before .before .before .match .keys9) (c .before .before .before .before .scan-function2 .ensures) (c .before .before .long-payload5 .ensures .0) (c .before .before .long-payload5 .ensures .1)
+
+same-length-6 : tie.Need-same-length-6
+same-length-6 c = search needs
+
+returns-10 : tie.Need-returns-10
+returns-10 c = arms.arm-try _ _ _ _ _ (c .before .before .before .before .before .before .before .before .pre .3 .bytes) (omega arith) _ _ (c .before .before .before .before .match .keys10) (c .before .before .scan-try .ensures)
+
+returns-11 : tie.Need-returns-11
+returns-11 c = arms.arm-with _ _ _ _ _ (c .before .match .keys11) (omega arith)
+
+same-length-7 : tie.Need-same-length-7
+same-length-7 c = search needs
+
+returns-12 : tie.Need-returns-12
+returns-12 c = arms.arm-push _ _ _ _ _ _ _ _ (c .before .before .before .before .before .match .keys12) (c .before .before .before .before .scan-push .ensures) (c .before .before .long-payload6 .ensures .0) (c .before .before .long-payload6 .ensures .1)
+
+returns-13 : tie.Need-returns-13
+returns-13 c = arms.arm-jump _ _ _ _ _ _ _ (c .before .before .before .match .keys13) (c .before .scan-label .ensures) (c .flat-payload5 .ensures)
+
+returns-14 : tie.Need-returns-14
+returns-14 c = arms.arm-get-url2 _ _ _ _ _ _ _ (c .before .before .match .keys14) (c .before .scan-get-url2 .ensures) (c .flat-payload6 .ensures)
+
+same-length-8 : tie.Need-same-length-8
+same-length-8 c = search needs
+
+returns-15 : tie.Need-returns-15
+returns-15 c = arms.arm-define-function _ _ _ _ _ _ _ (c .before .before .before .before .before .before .before .before .before .pre .3 .bytes) (omega arith) _ (c .before .before .before .before .before .match .keys15) (c .before .before .before .before .scan-function .ensures) (c .before .before .long-payload7 .ensures .0) (c .before .before .long-payload7 .ensures .1)
+
+returns-16 : tie.Need-returns-16
+returns-16 c = arms.arm-if _ _ _ _ _ _ _ (c .before .before .before .match .keys16) (c .before .scan-label2 .ensures) (c .flat-payload7 .ensures)
+
+returns-17 : tie.Need-returns-17
+returns-17 c = arms.arm-call _ _ _ _ _ (c .match .keys17)
+
+returns-18 : tie.Need-returns-18
+returns-18 c = arms.arm-goto-frame2 _ _ _ _ _ _ _ (c .before .before .match .keys18) (c .before .scan-goto-frame2 .ensures) (c .flat-payload8 .ensures)
+
+returns-19 : tie.Need-returns-19
+returns-19 c = let r = c .match .rest in arms.arm-unknown _ _ _ _ _ (arms.unlisted _ (c .before .before .before .before .pre .0) (omega arith) (r .0 .0 .0 .0 .0 .0 .0 .0 .0 .0 .0 .0 .0 .0 .0 .0 .0 .1, (r .0 .0 .0 .0 .0 .0 .0 .0 .0 .0 .0 .0 .0 .0 .0 .0 .1, (r .0 .0 .0 .0 .0 .0 .0 .0 .0 .0 .0 .0 .0 .0 .0 .1, (r .0 .0 .0 .0 .0 .0 .0 .0 .0 .0 .0 .0 .0 .0 .1, (r .0 .0 .0 .0 .0 .0 .0 .0 .0 .0 .0 .0 .0 .1, (r .0 .0 .0 .0 .0 .0 .0 .0 .0 .0 .0 .0 .1, (r .0 .0 .0 .0 .0 .0 .0 .0 .0 .0 .0 .1, (r .0 .0 .0 .0 .0 .0 .0 .0 .0 .0 .1, (r .0 .0 .0 .0 .0 .0 .0 .0 .0 .1, (r .0 .0 .0 .0 .0 .0 .0 .0 .1, (r .0 .0 .0 .0 .0 .0 .0 .1, (r .0 .0 .0 .0 .0 .0 .1, (r .0 .0 .0 .0 .0 .1, (r .0 .0 .0 .0 .1, (r .0 .0 .0 .1, (r .0 .0 .1, (r .0 .1, (r .1, tt)))))))))))))))))))
+
+pub scan-payload-spec : {M : Type 1} → statement M
+scan-payload-spec =
+    tie.close
+    (tie.spec
+    add-p
+    add-t8
+    add-t11
+    scan-bytes-requires
+    flat-payload-requires
+    scan-get-url-requires
+    long-payload-requires
+    add-t17
+    scan-bytes-requires-2
+    flat-payload-requires-2
+    add-t20
+    scan-strings-requires
+    long-payload-requires-2
+    scan-wait-for-frame-requires
+    flat-payload-requires-3
+    scan-string-requires
+    long-payload-requires-3
+    scan-string-requires-2
+    long-payload-requires-4
+    add-t32
+    scan-bytes-requires-3
+    flat-payload-requires-4
+    scan-function2-requires
+    long-payload-requires-5
+    scan-try-requires
+    add-t39
+    scan-push-requires
+    long-payload-requires-6
+    add-t45
+    scan-label-requires
+    flat-payload-requires-5
+    scan-get-url2-requires
+    flat-payload-requires-6
+    scan-function-requires
+    long-payload-requires-7
+    add-t52
+    scan-label-requires-2
+    flat-payload-requires-7
+    scan-goto-frame2-requires
+    flat-payload-requires-8
+    returns
+    same-length
+    returns-2
+    returns-3
+    same-length-2
+    returns-4
+    returns-5
+    same-length-3
+    returns-6
+    same-length-4
+    returns-7
+    returns-8
+    same-length-5
+    returns-9
+    same-length-6
+    returns-10
+    returns-11
+    same-length-7
+    returns-12
+    returns-13
+    returns-14
+    same-length-8
+    returns-15
+    returns-16
+    returns-17
+    returns-18
+    returns-19)

@@ -1,0 +1,66 @@
+use Rattle.payload.specs.Walk.{laidAs, notedFrom}
+use Rattle.payload.specs.Fields.{bodiesAfter}
+use Prim.Native.Nat.{ℕ}
+use mathlib.Core.Path.{_≡_, refl, sym, ap, _∙_}
+use native.Mathlib.Omega.{arith}
+use Rattle.operands.proofs.Lists as lists
+use Rattle.payload.proofs.Steps as steps
+use Rattle.payload.proofs.Layings as lay
+use Rattle.payload.proofs.Tries as tries
+use borrow.Author.Needs.{needs}
+use Rattle.payload.proofs.scan_try.Statement.{statement}
+use Rattle.payload.proofs.scan_try.Tie as tie
+use Rattle.payload.proofs.scan_try.Reads as reads
+use Rattle.payload.proofs.scan_try.Lts as lts
+use Rattle.payload.proofs.long_payload.Reads as long-payload-reads
+use Rattle.payload.proofs.scan_catch.Reads as scan-catch-reads
+
+scan-catch-requires : tie.Need-scan-catch-requires
+scan-catch-requires c κs = search needs
+
+enum-known-f : tie.Need-enum-known-f
+enum-known-f c = search needs
+
+enum-known-p : tie.Need-enum-known-p
+enum-known-p c = search needs
+
+shared-slice-read-shape : tie.Need-shared-slice-read-shape
+shared-slice-read-shape c = lay.caught-inside _ _ _ _ _ _ (c .before .before .before .before .scan-catch .ensures) (c .before .before .p .given .1)
+
+cast-shape : tie.Need-cast-shape
+cast-shape c = omega (arith, c .shared-slice-known2 .given (c .before .before .before .before .before .before .before .args .at))
+
+add-long-payload : tie.Need-add-long-payload
+add-long-payload c = search needs
+
+add-long-payload-2 : tie.Need-add-long-payload-2
+add-long-payload-2 c = search needs
+
+long-payload-requires : tie.Need-long-payload-requires
+long-payload-requires c κs = (c .before .before .before .before .before .before .before .before .pre .0, lay.scanned-from-is _ _ _ _ _ _ (c .before .before .before .before .before .scan-catch .ensures) (c .before .before .before .p .given .1))
+
+returns : tie.Need-returns
+returns c = let e = sym (c .before .before .before .scan-catch .ensures) ∙ (c .before .f .given .1) in record { is-laid = lay.laid-stops _ _ _ _ e; is-noted = lay.noted-stops _ _ _ _ _ e }
+
+same-length : tie.Need-same-length
+same-length c = search needs
+
+returns-2 : tie.Need-returns-2
+unfolding bodiesAfter
+returns-2 c = lay.tried _ _ _ _ _ _ _ (sym (c .before .before .before .before .before .before .p .given .1) ∙ (c .before .before .before .before .before .before .before .before .scan-catch .ensures)) (c .before .before .long-payload .ensures)
+
+pub scan-try-spec : {M : Type 1} → statement M
+scan-try-spec =
+    tie.close
+    (tie.spec
+    scan-catch-requires
+    enum-known-f
+    enum-known-p
+    shared-slice-read-shape
+    cast-shape
+    add-long-payload
+    add-long-payload-2
+    long-payload-requires
+    returns
+    same-length
+    returns-2)
