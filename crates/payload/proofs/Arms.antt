@@ -12,13 +12,13 @@ use Rattle.layout.specs.Lists.{each, pick, firstWith}
 use Rattle.layout.specs.OpCode.{OpCode, SmallOpCode, smallByte, byte, smallOpCodes, opcodes, opcodeOf}
 use Rattle.layout.specs.Tree.{FlatOf, Small, GotoFrame, GetUrl, StoreRegister, ConstantPool, WaitForFrame, SetTarget, GotoLabel, WaitForFrame2, Push, GetUrl2, GotoFrame2, OwnerOf, With, DefineFunction, DefineFunction2, Branch, Jump, If, PushValueOf, FunctionParamOf, ActionOf, flat, branch, owner, ActionsOf}
 use Rattle.layout.specs.Read.{Text, edition1, Place, Read, got, bad, Reader, chain, tested, repeat, ifWhole, readU8, readU16, readBytes, readFlag, readString, readCounted, readValue, readParam, readLabel, readFields, readFieldsIf}
-use Rattle.layout.specs.Strings.{mapFlat, mapValue, mapOwner, mapAction}
+use Rattle.layout.specs.Strings.{mapFlat, mapValue, mapParam, mapOwner, mapAction}
 use Rattle.layout.specs.Payload.{opcode, payload, headed, framed}
 use Rattle.layout.specs.Numbers.{le16}
 use Rattle.layout.specs.Write.{size, trace, payloadTest, eventIf}
-use Rattle.layout.specs.Lengths.{total, stringLength, pushLength, payloadLength, ownerLength, gotoFrame2Length}
+use Rattle.layout.specs.Lengths.{total, stringLength, paramLength, pushLength, payloadLength, ownerLength, gotoFrame2Length}
 use Rattle.layout.specs.Pack.{spelling}
-use Rattle.laws.specs.Fits.{Bytes}
+use Rattle.laws.specs.Fits.{Bytes, Clean, ParamFits}
 use Rattle.laws.specs.ReadFits.{Good, fine, good-then, good-as, good-got, u8-good, u16-good, tested-good, text-good, param-good, counted-good}
 use Rattle.laws.specs.Packed.{spells}
 use Rattle.operands.specs.Scanned.{placed, faultOf, scanned}
@@ -28,11 +28,11 @@ use Rattle.operands.proofs.Scans.{number-as}
 use Rattle.payload.specs.declared.Laid.{Laid}
 use Rattle.payload.specs.declared.Laid.the-variants as laid
 use Rattle.payload.specs.Fields.{readWaitForFrame, readGotoFrame2, readGetUrl2, readGetUrl, flatSize, readFunction, readFunction2, ownerSize, readCaught, caughtSize, bodiesAfter}
-use Rattle.payload.specs.Walk.{State, state, notedIf, noteAll, run, outcome, actionSize, actionTrace, bodyLength, bodiesEvents, Laying, laidAs, notedFrom, Tried}
+use Rattle.payload.specs.Walk.{State, state, notedIf, noteAll, run, outcome, actionSize, actionTrace, bodyLength, bodiesEvents, Onward, Laying, laidAs, notedFrom, Tried}
 use Rattle.payload.proofs.Runs.{noted-short, outcome-got}
 use Rattle.labels.specs.Table.{recordAll}
 use Rattle.operands.specs.declared.Fault.the-variants as fault
-use Rattle.payload.proofs.Steps.{strings-total, scanned-list, named-plain}
+use Rattle.payload.proofs.Steps.{total-each, strings-total, scanned-list, named-plain}
 use Rattle.payload.proofs.Tries.{lay-try}
 use Rattle.payload.proofs.Layings.{Long, lay-long, lay-flat, lay-branch, owner-outcome, lay-owner}
 
@@ -160,20 +160,25 @@ module _ (b : List ℕ) (p : Place) where
       go (bad f q) = refl
 
   -- their places lie within
-  function-good : (small : Bytes b) → p .at ≤ length b → Good (length b) (λ o q. p .at ≤ q .at) (readFunction b p)
-  unfolding readFunction
+  function-good : (small : Bytes b) → p .at ≤ length b → Good (length b) (λ o q. (ownerSize o + p .at ≤ q .at + 4) × (p .at ≤ q .at)) (readFunction b p)
+  unfolding readFunction ownerSize mapOwner ownerLength stringLength
   function-good small l =
       good-then (text-good edition1 b small spelling (Unit {0}) (spells b small edition1) p l)
-      (λ s q h m. good-then (counted-good edition1 b small spelling (Unit {0}) (spells b small edition1) (λ t. Unit {0}) (λ t. 0) (readString edition1 b) (λ u i. good-as (text-good edition1 b small spelling (Unit {0}) (spells b small edition1) u i) (λ t v j. (tt, (λ κ. omega (arith, j .2)), j .2))) q m)
-      (λ ps r g j. fine (omega (arith, h .2, g .3)) j))
+      (λ s q h m. good-then (counted-good edition1 b small spelling (Unit {0}) (spells b small edition1) (λ t. Clean (spelling t)) (λ t. stringLength (spelling t)) (readString edition1 b) (text-good edition1 b small spelling (Unit {0}) (spells b small edition1)) q m)
+      (λ ps r g j. fine {a = DefineFunction s ps} {p = r} (omega (arith, h .1 tt, g .2 tt, total-each spelling stringLength ps), omega (arith, h .2, g .3)) j))
 
-  function2-good : (small : Bytes b) → p .at ≤ length b → Good (length b) (λ o q. p .at ≤ q .at) (readFunction2 b p)
-  unfolding readFunction2
+  function2-good : (small : Bytes b) → p .at ≤ length b → Good (length b) (λ o q. (ownerSize o + p .at ≤ q .at + 4) × (p .at ≤ q .at)) (readFunction2 b p)
+  unfolding readFunction2 ownerSize mapOwner ownerLength stringLength
   function2-good small l =
       good-then (text-good edition1 b small spelling (Unit {0}) (spells b small edition1) p l)
-      (λ s p₁ h₁ l₁. good-then (counted-good edition1 b small spelling (Unit {0}) (spells b small edition1) (λ x. Unit {0}) (λ x. 0) (readParam edition1 b) (λ u i. good-as (param-good edition1 b small spelling (Unit {0}) (spells b small edition1) u i) (λ t v j. (tt, (λ κ. omega (arith, j .2)), j .2))) p₁ l₁)
+      (λ s p₁ h₁ l₁. good-then (counted-good edition1 b small spelling (Unit {0}) (spells b small edition1) (λ x. ParamFits (mapParam spelling x)) (λ x. paramLength (mapParam spelling x)) (readParam edition1 b) (param-good edition1 b small spelling (Unit {0}) (spells b small edition1)) p₁ l₁)
       (λ ps p₂ h₂ l₂. good-then (u8-good b small p₂ l₂) (λ k p₃ h₃ l₃. good-then (tested-good b small (λ f. ltb f 512) (readU16 b) p₃ l₃ (u16-good b small p₃ l₃))
-      (λ f p₄ h₄ l₄. fine (omega (arith, h₁ .2, h₂ .3, h₃ .1, h₄ .0 .1)) l₄))))
+      (λ f p₄ h₄ l₄. fine {a = DefineFunction2 s ps k f} {p = p₄} (omega (arith, h₁ .1 tt, h₂ .2 tt, h₃ .1, h₄ .0 .1, total-each (mapParam spelling) paramLength ps), omega (arith, h₁ .2, h₂ .3, h₃ .1, h₄ .0 .1)) l₄))))
+
+  -- so that a body after them lies onward
+  owner-onward : (at : ℕ) (o : OwnerOf Text) (q : Place) → ((ownerSize o + p .at ≤ q .at + 4) × (p .at ≤ q .at)) × (q .at ≤ length b) → p .at ≡ at + 1
+      → (pos : ℕ) → Onward at (length b) pos (q .at) (pos + 3 + ownerSize o)
+  owner-onward at o q g e pos = record { beyond = omega (arith, g .0 .1, e); within = g .1; written = omega (arith, g .0 .0, g .0 .1, e) }
 
 -- the opcodes of the match, by their bytes
 codes : (opcodeOf 0x81 ≡ some OpCode.GotoFrame)
@@ -202,14 +207,14 @@ codes = (refl, refl, refl, refl, refl, refl, refl, refl, refl, refl, refl, refl,
 module _ (b : List ℕ) (op at pos : ℕ) (over : List ℕ) (r : Scan) (l : Laid) where
   -- the fields of the opcode at a place
   abbrev Here : List ℕ → Type 0
-  Here o = Laying (λ inner. readFieldsIf edition1 b inner (opcodeOf op) (placed at) (placed (at + 1))) (length b) pos over o l
+  Here o = Laying (λ inner. readFieldsIf edition1 b inner (opcodeOf op) (placed at) (placed (at + 1))) at (length b) pos over o l
 
   abbrev fieldsOf : OpCode → Reader (ActionsOf Text ℕ) → Read (ActionOf Text ℕ)
   fieldsOf o inner = readFields edition1 b inner o (placed (at + 1))
 
   -- with the opcode's name
   abbrev Of : OpCode → List ℕ → Type 0
-  Of o v = Laying (λ inner. readFields edition1 b inner o (placed (at + 1))) (length b) pos over v l
+  Of o v = Laying (λ inner. readFields edition1 b inner o (placed (at + 1))) at (length b) pos over v l
 
   named : (n : ℕ) (o : OpCode) (v : List ℕ) → opcodeOf n ≡ some o → op ≡ n → Of o v → Here v
   unfolding readFieldsIf
@@ -218,49 +223,49 @@ module _ (b : List ℕ) (op at pos : ℕ) (over : List ℕ) (r : Scan) (l : Laid
   pub arm-goto-frame : op ≡ 0x81 → r ≡ scanned (λ _. 0) (pos + 3 + 2) (readBytes b 2 (placed (at + 1))) → l ≡ laidAs 0 r → Here over
   unfolding readFields readBytes readU16 flatSize mapFlat payloadLength opcode byte
   arm-goto-frame o e m =
-      named 0x81 OpCode.GotoFrame over (codes .0) o (lay-flat _ GotoFrame (length b) pos over (λ _. 0) (pos + 3 + 2) (λ a. omega arith) (readU16 b (placed (at + 1))) (λ inner. refl) (λ a q g. (refl, omega arith)) r l (e ∙ number-as _ _ _ _ _ _) m)
+      named 0x81 OpCode.GotoFrame over (codes .0) o (lay-flat _ GotoFrame at (length b) pos over (λ _. 0) (pos + 3 + 2) (λ a. omega arith) (readU16 b (placed (at + 1))) (λ inner. refl) (λ a q g. (refl, omega arith)) r l (e ∙ number-as _ _ _ _ _ _) m)
 
   pub arm-get-url : (over′ : List ℕ) → op ≡ 0x83 → r ≡ scanned flatSize (pos + 3) (readGetUrl b (placed (at + 1))) → l ≡ laidAs 0 r → over′ ≡ notedFrom (pos + 3) r over → Here over′
   arm-get-url over′ o e m n =
-      named 0x83 OpCode.GetUrl over′ (codes .1) o (lay-long (fieldsOf OpCode.GetUrl) (λ f. f) (length b) pos over flatSize (pos + 3) (λ a. refl) (readGetUrl b (placed (at + 1))) (url-fields b (placed (at + 1))) (url-long b (placed (at + 1))) over′ r l e m n)
+      named 0x83 OpCode.GetUrl over′ (codes .1) o (lay-long (fieldsOf OpCode.GetUrl) (λ f. f) at (length b) pos over flatSize (pos + 3) (λ a. refl) (readGetUrl b (placed (at + 1))) (url-fields b (placed (at + 1))) (url-long b (placed (at + 1))) over′ r l e m n)
 
   pub arm-store-register : op ≡ 0x87 → r ≡ scanned (λ _. 0) (pos + 3 + 1) (readBytes b 1 (placed (at + 1))) → l ≡ laidAs 0 r → Here over
   unfolding readFields readBytes readU8 flatSize mapFlat payloadLength opcode byte
   arm-store-register o e m =
-      named 0x87 OpCode.StoreRegister over (codes .2) o (lay-flat _ StoreRegister (length b) pos over (λ _. 0) (pos + 3 + 1) (λ a. omega arith) (readU8 b (placed (at + 1))) (λ inner. refl) (λ a q g. (refl, omega arith)) r l (e ∙ number-as _ _ _ _ _ _) m)
+      named 0x87 OpCode.StoreRegister over (codes .2) o (lay-flat _ StoreRegister at (length b) pos over (λ _. 0) (pos + 3 + 1) (λ a. omega arith) (readU8 b (placed (at + 1))) (λ inner. refl) (λ a q g. (refl, omega arith)) r l (e ∙ number-as _ _ _ _ _ _) m)
 
   pub arm-wait-for-frame2 : op ≡ 0x8D → r ≡ scanned (λ _. 0) (pos + 3 + 1) (readBytes b 1 (placed (at + 1))) → l ≡ laidAs 0 r → Here over
   unfolding readFields readBytes readU8 flatSize mapFlat payloadLength opcode byte
   arm-wait-for-frame2 o e m =
-      named 0x8D OpCode.WaitForFrame2 over (codes .7) o (lay-flat _ WaitForFrame2 (length b) pos over (λ _. 0) (pos + 3 + 1) (λ a. omega arith) (readU8 b (placed (at + 1))) (λ inner. refl) (λ a q g. (refl, omega arith)) r l (e ∙ number-as _ _ _ _ _ _) m)
+      named 0x8D OpCode.WaitForFrame2 over (codes .7) o (lay-flat _ WaitForFrame2 at (length b) pos over (λ _. 0) (pos + 3 + 1) (λ a. omega arith) (readU8 b (placed (at + 1))) (λ inner. refl) (λ a q g. (refl, omega arith)) r l (e ∙ number-as _ _ _ _ _ _) m)
 
   pub arm-wait-for-frame : op ≡ 0x8A → r ≡ scanned flatSize (pos + 3) (readWaitForFrame b (placed (at + 1))) → l ≡ laidAs 0 r → Here over
   arm-wait-for-frame o e m =
-      named 0x8A OpCode.WaitForFrame over (codes .4) o (lay-flat (fieldsOf OpCode.WaitForFrame) (λ f. f) (length b) pos over flatSize (pos + 3) (λ a. refl) (readWaitForFrame b (placed (at + 1))) (wait-fields b (placed (at + 1))) (wait-fixed b (placed (at + 1))) r l e m)
+      named 0x8A OpCode.WaitForFrame over (codes .4) o (lay-flat (fieldsOf OpCode.WaitForFrame) (λ f. f) at (length b) pos over flatSize (pos + 3) (λ a. refl) (readWaitForFrame b (placed (at + 1))) (wait-fields b (placed (at + 1))) (wait-fixed b (placed (at + 1))) r l e m)
 
   pub arm-goto-frame2 : op ≡ 0x9F → r ≡ scanned flatSize (pos + 3) (readGotoFrame2 b (placed (at + 1))) → l ≡ laidAs 0 r → Here over
   arm-goto-frame2 o e m =
-      named 0x9F OpCode.GotoFrame2 over (codes .17) o (lay-flat (fieldsOf OpCode.GotoFrame2) (λ f. f) (length b) pos over flatSize (pos + 3) (λ a. refl) (readGotoFrame2 b (placed (at + 1))) (goto-fields b (placed (at + 1))) (goto-fixed b (placed (at + 1))) r l e m)
+      named 0x9F OpCode.GotoFrame2 over (codes .17) o (lay-flat (fieldsOf OpCode.GotoFrame2) (λ f. f) at (length b) pos over flatSize (pos + 3) (λ a. refl) (readGotoFrame2 b (placed (at + 1))) (goto-fields b (placed (at + 1))) (goto-fixed b (placed (at + 1))) r l e m)
 
   pub arm-get-url2 : op ≡ 0x9A → r ≡ scanned flatSize (pos + 3) (readGetUrl2 b (placed (at + 1))) → l ≡ laidAs 0 r → Here over
   arm-get-url2 o e m =
-      named 0x9A OpCode.GetUrl2 over (codes .13) o (lay-flat (fieldsOf OpCode.GetUrl2) (λ f. f) (length b) pos over flatSize (pos + 3) (λ a. refl) (readGetUrl2 b (placed (at + 1))) (url2-fields b (placed (at + 1))) (url2-fixed b (placed (at + 1))) r l e m)
+      named 0x9A OpCode.GetUrl2 over (codes .13) o (lay-flat (fieldsOf OpCode.GetUrl2) (λ f. f) at (length b) pos over flatSize (pos + 3) (λ a. refl) (readGetUrl2 b (placed (at + 1))) (url2-fields b (placed (at + 1))) (url2-fixed b (placed (at + 1))) r l e m)
 
   pub arm-set-target : (over′ : List ℕ) → op ≡ 0x8B → r ≡ scanned stringSize (pos + 3) (readString edition1 b (placed (at + 1))) → l ≡ laidAs 0 r → over′ ≡ notedFrom (pos + 3) r over → Here over′
   unfolding readFields flatSize mapFlat payloadLength opcode byte stringSize stringLength
   arm-set-target over′ o e m n =
-      named 0x8B OpCode.SetTarget over′ (codes .5) o (lay-long (fieldsOf OpCode.SetTarget) SetTarget (length b) pos over stringSize (pos + 3) (λ a. omega arith) (readString edition1 b (placed (at + 1))) (λ inner. refl) (λ a q g. refl) over′ r l e m n)
+      named 0x8B OpCode.SetTarget over′ (codes .5) o (lay-long (fieldsOf OpCode.SetTarget) SetTarget at (length b) pos over stringSize (pos + 3) (λ a. omega arith) (readString edition1 b (placed (at + 1))) (λ inner. refl) (λ a q g. refl) over′ r l e m n)
 
   pub arm-goto-label : (over′ : List ℕ) → op ≡ 0x8C → r ≡ scanned stringSize (pos + 3) (readString edition1 b (placed (at + 1))) → l ≡ laidAs 0 r → over′ ≡ notedFrom (pos + 3) r over → Here over′
   unfolding readFields flatSize mapFlat payloadLength opcode byte stringSize stringLength
   arm-goto-label over′ o e m n =
-      named 0x8C OpCode.GotoLabel over′ (codes .6) o (lay-long (fieldsOf OpCode.GotoLabel) GotoLabel (length b) pos over stringSize (pos + 3) (λ a. omega arith) (readString edition1 b (placed (at + 1))) (λ inner. refl) (λ a q g. refl) over′ r l e m n)
+      named 0x8C OpCode.GotoLabel over′ (codes .6) o (lay-long (fieldsOf OpCode.GotoLabel) GotoLabel at (length b) pos over stringSize (pos + 3) (λ a. omega arith) (readString edition1 b (placed (at + 1))) (λ inner. refl) (λ a q g. refl) over′ r l e m n)
 
   pub arm-constant-pool : (over′ : List ℕ) → op ≡ 0x88 → r ≡ scanned (total (namedSize 0)) (pos + 3 + 2) (readCounted b (readNamed b 0) (placed (at + 1))) → l ≡ laidAs 0 r → over′ ≡ notedFrom (pos + 3) r over
       → Here over′
   unfolding readFields flatSize mapFlat payloadLength opcode byte
   arm-constant-pool over′ o e m n =
-      named 0x88 OpCode.ConstantPool over′ (codes .3) o (lay-long (fieldsOf OpCode.ConstantPool) ConstantPool (length b) pos over (total (λ s. namedSize 0 s)) (pos + 3 + 2) (λ ss. omega (arith, strings-total ss)) (readCounted b (readString edition1 b) (placed (at + 1))) (λ inner. refl) (λ a q g. refl) over′ r l
+      named 0x88 OpCode.ConstantPool over′ (codes .3) o (lay-long (fieldsOf OpCode.ConstantPool) ConstantPool at (length b) pos over (total (λ s. namedSize 0 s)) (pos + 3 + 2) (λ ss. omega (arith, strings-total ss)) (readCounted b (readString edition1 b) (placed (at + 1))) (λ inner. refl) (λ a q g. refl) over′ r l
       (e ∙ scanned-list (λ s. s) (readString edition1 b) (readNamed b 0) (named-plain b) b (namedSize 0) (pos + 3 + 2) (placed (at + 1))) m n)
 
   values-total : (vs : List (PushValueOf Text)) → total valueSize vs ≡ total pushLength (each (mapValue spelling) vs)
@@ -271,38 +276,38 @@ module _ (b : List ℕ) (op at pos : ℕ) (over : List ℕ) (r : Scan) (l : Laid
   pub arm-push : (over′ : List ℕ) → op ≡ 0x96 → r ≡ scanned (total valueSize) (pos + 3) (readCounted b (readValue edition1 b) (placed (at + 1))) → l ≡ laidAs 0 r → over′ ≡ notedFrom (pos + 3) r over → Here over′
   unfolding readFields flatSize mapFlat payloadLength opcode byte
   arm-push over′ o e m n =
-      named 0x96 OpCode.Push over′ (codes .11) o (lay-long (fieldsOf OpCode.Push) Push (length b) pos over (total valueSize) (pos + 3) (λ vs. omega (arith, values-total vs)) (readCounted b (readValue edition1 b) (placed (at + 1))) (λ inner. refl) (λ a q g. refl) over′ r l e m n)
+      named 0x96 OpCode.Push over′ (codes .11) o (lay-long (fieldsOf OpCode.Push) Push at (length b) pos over (total valueSize) (pos + 3) (λ vs. omega (arith, values-total vs)) (readCounted b (readValue edition1 b) (placed (at + 1))) (λ inner. refl) (λ a q g. refl) over′ r l e m n)
 
   pub arm-jump : op ≡ 0x99 → r ≡ scanned (λ _. 0) (pos + 3 + 2) (readLabel edition1 b 0 (placed (at + 1))) → l ≡ laidAs 0 r → Here over
   unfolding readFields
-  arm-jump o e m = named 0x99 OpCode.Jump over (codes .12) o (lay-branch (fieldsOf OpCode.Jump) Jump (readLabel edition1 b 0 (placed (at + 1))) (λ inner. refl) (length b) pos (pos + 3 + 2) over r l (omega arith) e m)
+  arm-jump o e m = named 0x99 OpCode.Jump over (codes .12) o (lay-branch (fieldsOf OpCode.Jump) Jump (readLabel edition1 b 0 (placed (at + 1))) (λ inner. refl) at (length b) pos (pos + 3 + 2) over r l (omega arith) e m)
 
   pub arm-if : op ≡ 0x9D → r ≡ scanned (λ _. 0) (pos + 3 + 2) (readLabel edition1 b 0 (placed (at + 1))) → l ≡ laidAs 0 r → Here over
   unfolding readFields
-  arm-if o e m = named 0x9D OpCode.If over (codes .15) o (lay-branch (fieldsOf OpCode.If) If (readLabel edition1 b 0 (placed (at + 1))) (λ inner. refl) (length b) pos (pos + 3 + 2) over r l (omega arith) e m)
+  arm-if o e m = named 0x9D OpCode.If over (codes .15) o (lay-branch (fieldsOf OpCode.If) If (readLabel edition1 b 0 (placed (at + 1))) (λ inner. refl) at (length b) pos (pos + 3 + 2) over r l (omega arith) e m)
 
   module _ (small : Bytes b) (inside : at + 1 ≤ length b) where
     pub arm-define-function : (over′ : List ℕ) → op ≡ 0x9B → r ≡ scanned ownerSize (pos + 3) (readFunction b (placed (at + 1))) → l ≡ laidAs 1 r → over′ ≡ notedFrom (pos + 3) r over → Here over′
     arm-define-function over′ o e m n =
-        named 0x9B OpCode.DefineFunction over′ (codes .14) o (lay-owner (fieldsOf OpCode.DefineFunction) (readFunction b (placed (at + 1))) (function-fields b (placed (at + 1))) (length b) pos (λ x q g. good-got x q (function-good b (placed (at + 1)) small inside) g .1) over over′ r l e m n)
+        named 0x9B OpCode.DefineFunction over′ (codes .14) o (lay-owner (fieldsOf OpCode.DefineFunction) (readFunction b (placed (at + 1))) (function-fields b (placed (at + 1))) at (length b) pos (λ x q g. owner-onward b (placed (at + 1)) at x q (good-got x q (function-good b (placed (at + 1)) small inside) g) refl pos) over over′ r l e m n)
 
     pub arm-define-function2 : (over′ : List ℕ) → op ≡ 0x8E → r ≡ scanned ownerSize (pos + 3) (readFunction2 b (placed (at + 1))) → l ≡ laidAs 1 r → over′ ≡ notedFrom (pos + 3) r over → Here over′
     arm-define-function2 over′ o e m n =
-        named 0x8E OpCode.DefineFunction2 over′ (codes .8) o (lay-owner (fieldsOf OpCode.DefineFunction2) (readFunction2 b (placed (at + 1))) (function2-fields b (placed (at + 1))) (length b) pos (λ x q g. good-got x q (function2-good b (placed (at + 1)) small inside) g .1) over over′ r l e m n)
+        named 0x8E OpCode.DefineFunction2 over′ (codes .8) o (lay-owner (fieldsOf OpCode.DefineFunction2) (readFunction2 b (placed (at + 1))) (function2-fields b (placed (at + 1))) at (length b) pos (λ x q g. owner-onward b (placed (at + 1)) at x q (good-got x q (function2-good b (placed (at + 1)) small inside) g) refl pos) over over′ r l e m n)
 
 -- ---- opcodes whose bodies follow at once, or that have no field
 
 module _ (b : List ℕ) (op at pos : ℕ) (over : List ℕ) where
   pub arm-try : Bytes b → at + 1 ≤ length b → (l : Laid) (over′ : List ℕ) → op ≡ 0x8F
       → Tried (scanned caughtSize (pos + 3) (readCaught b (placed (at + 1)))) (bodiesAfter (getD b (at + 1) 0)) (pos + 3) l over over′
-      → Laying (λ inner. readFieldsIf edition1 b inner (opcodeOf op) (placed at) (placed (at + 1))) (length b) pos over over′ l
+      → Laying (λ inner. readFieldsIf edition1 b inner (opcodeOf op) (placed at) (placed (at + 1))) at (length b) pos over over′ l
   unfolding readFieldsIf
-  arm-try small inside l over′ o h = rw (o, codes .9) (lay-try b small (at + 1) pos inside over over′ l h)
+  arm-try small inside l over′ o h = rw (o, codes .9) (lay-try b small at (at + 1) pos refl inside over over′ l h)
 
   pub arm-with : op ≡ 0x94 → at + 1 ≤ length b
-      → Laying (λ inner. readFieldsIf edition1 b inner (opcodeOf op) (placed at) (placed (at + 1))) (length b) pos over over (laid.Bodies (at + 1) (record { 0 = pos + 3 + 2 }) 1)
+      → Laying (λ inner. readFieldsIf edition1 b inner (opcodeOf op) (placed at) (placed (at + 1))) at (length b) pos over over (laid.Bodies (at + 1) (record { 0 = pos + 3 + 2 }) 1)
   unfolding readFieldsIf
-  arm-with o h = rw (o, codes .10) (Laying.bodies {q = at + 1} {n = 1} {w = record { 0 = pos + 3 + 2 }} h (λ inner tab. with-outcome inner tab))
+  arm-with o h = rw (o, codes .10) (Laying.bodies {q = at + 1} {n = 1} {w = record { 0 = pos + 3 + 2 }} (record { beyond = omega arith; within = h; written = omega arith }) (λ inner tab. with-outcome inner tab))
     where
       with-size : ownerSize With ≡ 2
       with-size = unfold ownerSize mapOwner ownerLength in refl
@@ -314,14 +319,14 @@ module _ (b : List ℕ) (op at pos : ℕ) (over : List ℕ) where
           ∙ ap (λ (v : List ℕ). outcome (total bodyLength) bodiesEvents (pos + 3 + 2) (state tab v) (repeat inner 1 (placed (at + 1)))) (ap (λ (n : ℕ). notedIf 8 n over) with-size ∙ sym (noted-short 8 2 over (omega arith)))
 
   pub arm-call : op ≡ 0x9E
-      → Laying (λ inner. readFieldsIf edition1 b inner (opcodeOf op) (placed at) (placed (at + 1))) (length b) pos over over (laid.Flat (at + 1) (record { 0 = pos + 3 }))
+      → Laying (λ inner. readFieldsIf edition1 b inner (opcodeOf op) (placed at) (placed (at + 1))) at (length b) pos over over (laid.Flat (at + 1) (record { 0 = pos + 3 }))
   unfolding readFieldsIf readFields
   arm-call o =
       rw (o, codes .16) (Laying.flat {q = at + 1} {w = record { 0 = pos + 3 }} (λ inner tab. outcome-got actionSize actionTrace pos (state tab over) refl
       (unfold size mapAction mapFlat opcode payload framed headed byte smallByte le16 in refl) (unfold trace mapAction mapFlat payload payloadTest eventIf run recordAll noteAll in refl)))
 
   pub arm-unknown : opcodeOf op ≡ none
-      → Laying (λ inner. readFieldsIf edition1 b inner (opcodeOf op) (placed at) (placed (at + 1))) (length b) pos over over (laid.Stops fault.UnknownCode at)
+      → Laying (λ inner. readFieldsIf edition1 b inner (opcodeOf op) (placed at) (placed (at + 1))) at (length b) pos over over (laid.Stops fault.UnknownCode at)
   unfolding readFieldsIf outcome faultOf
   arm-unknown o = rw o (Laying.stops {f = fault.UnknownCode} {q = at} (λ inner t. refl))
 

@@ -26,7 +26,7 @@ use Rattle.operands.specs.declared.Scan.the-variants as scan
 use Rattle.payload.specs.declared.Laid.{Laid}
 use Rattle.payload.specs.declared.Laid.the-variants as laid
 use Rattle.payload.specs.Fields.{flatSize, ownerSize, readCaught, caughtSize}
-use Rattle.payload.specs.Walk.{State, state, notedIf, noteAll, run, Outcome, done, fault, outcome, actionSize, actionTrace, bodyLength, bodyEvents, inBodies, bodyTests, bodiesEvents, Laying, laidAs, notedFrom, EndsFrom, Tried}
+use Rattle.payload.specs.Walk.{State, state, notedIf, noteAll, run, Outcome, done, fault, outcome, actionSize, actionTrace, bodyLength, bodyEvents, inBodies, bodyTests, bodiesEvents, Onward, Laying, laidAs, notedFrom, EndsFrom, Tried}
 use Rattle.payload.proofs.Steps.{caught-out}
 use Rattle.payload.proofs.Runs.{run-append, run-none, run-payload, run-body, noted-short, outcome-got}
 
@@ -44,55 +44,55 @@ flat-run f pos tab over = run-payload (length (payload (mapFlat spelling f))) _ 
 abbrev pub Long : FlatOf Text → Type 0
 Long f = ltb (byte (opcode (mapFlat spelling f))) 128 ≡ false
 
-module _ {A : Type 0} (read : Reader (ActionsOf Text ℕ) → Read (ActionOf Text ℕ)) (g : A → FlatOf Text) (end pos : ℕ) (over : List ℕ) (s : A → ℕ) (w : ℕ)
+module _ {A : Type 0} (read : Reader (ActionsOf Text ℕ) → Read (ActionOf Text ℕ)) (g : A → FlatOf Text) (at end pos : ℕ) (over : List ℕ) (s : A → ℕ) (w : ℕ)
     (is-size : (a : A) → w + s a ≡ pos + 3 + flatSize (g a)) where
   abbrev Reads : Read A → Type 0
   Reads x = (inner : Reader (ActionsOf Text ℕ)) → read inner ≡ chain x (λ a q. got (flat (g a)) q)
 
   long-got : (a : A) (q : Place) → Reads (got a q) → Long (g a)
-      → Laying read end pos over (notedFrom (pos + 3) (scanned s w (got a q)) over) (laidAs 0 (scanned s w (got a q)))
+      → Laying read at end pos over (notedFrom (pos + 3) (scanned s w (got a q)) over) (laidAs 0 (scanned s w (got a q)))
   unfolding scanned laidAs pick notedFrom
   long-got a q h l =
       Laying.flat {q = q .at} {w = record { 0 = w + s a }}
       (λ inner tab. outcome-got actionSize actionTrace pos (state tab over) (h inner) (omega (arith, is-size a, flat-size (g a) l))
       (ap (λ (n : ℕ). state tab (notedIf 8 n over)) (omega (arith, is-size a)) ∙ sym (flat-run (g a) pos tab over)))
 
-  flat-got : (a : A) (q : Place) → Reads (got a q) → Long (g a) → flatSize (g a) ≤ 65535 → Laying read end pos over over (laidAs 0 (scanned s w (got a q)))
+  flat-got : (a : A) (q : Place) → Reads (got a q) → Long (g a) → flatSize (g a) ≤ 65535 → Laying read at end pos over over (laidAs 0 (scanned s w (got a q)))
   unfolding scanned laidAs pick
   flat-got a q h l short =
       Laying.flat {q = q .at} {w = record { 0 = w + s a }}
       (λ inner tab. outcome-got actionSize actionTrace pos (state tab over) (h inner) (omega (arith, is-size a, flat-size (g a) l))
       (ap (state tab) (noted-short 8 (flatSize (g a)) over short) ∙ sym (flat-run (g a) pos tab over)))
 
-  flat-bad : (f : answers.Fault) (q : Place) (over′ : List ℕ) → Reads (bad f q) → Laying read end pos over over′ (laidAs 0 (scanned s w (bad f q)))
+  flat-bad : (f : answers.Fault) (q : Place) (over′ : List ℕ) → Reads (bad f q) → Laying read at end pos over over′ (laidAs 0 (scanned s w (bad f q)))
   unfolding scanned laidAs outcome
   flat-bad f q over′ h = Laying.stops {f = faultOf f} {q = q .at} (λ inner t. rw (h inner))
 
   -- its payload may be too long
   pub lay-long : (x : Read A) → Reads x → ((a : A) (q : Place) → x ≡ got a q → Long (g a)) → (over′ : List ℕ) (r : Scan) (l : Laid)
-      → r ≡ scanned s w x → l ≡ laidAs 0 r → over′ ≡ notedFrom (pos + 3) r over → Laying read end pos over over′ l
+      → r ≡ scanned s w x → l ≡ laidAs 0 r → over′ ≡ notedFrom (pos + 3) r over → Laying read at end pos over over′ l
   lay-long x h k over′ r l e m n = rw (m, n, e) (go x h k)
     where
-      go : (x : Read A) → Reads x → ((a : A) (q : Place) → x ≡ got a q → Long (g a)) → Laying read end pos over (notedFrom (pos + 3) (scanned s w x) over) (laidAs 0 (scanned s w x))
+      go : (x : Read A) → Reads x → ((a : A) (q : Place) → x ≡ got a q → Long (g a)) → Laying read at end pos over (notedFrom (pos + 3) (scanned s w x) over) (laidAs 0 (scanned s w x))
       go (got a q) h k = long-got a q h (k a q refl)
       go (bad f q) h k = flat-bad f q _ h
 
   -- it never is
   pub lay-flat : (x : Read A) → Reads x → ((a : A) (q : Place) → x ≡ got a q → Long (g a) × (flatSize (g a) ≤ 65535)) → (r : Scan) (l : Laid)
-      → r ≡ scanned s w x → l ≡ laidAs 0 r → Laying read end pos over over l
+      → r ≡ scanned s w x → l ≡ laidAs 0 r → Laying read at end pos over over l
   lay-flat x h k r l e m = rw (m, e) (go x h k)
     where
-      go : (x : Read A) → Reads x → ((a : A) (q : Place) → x ≡ got a q → Long (g a) × (flatSize (g a) ≤ 65535)) → Laying read end pos over over (laidAs 0 (scanned s w x))
+      go : (x : Read A) → Reads x → ((a : A) (q : Place) → x ≡ got a q → Long (g a) × (flatSize (g a) ≤ 65535)) → Laying read at end pos over over (laidAs 0 (scanned s w x))
       go (got a q) h k = flat-got a q h (k a q refl .0) (k a q refl .1)
       go (bad f q) h k = flat-bad f q over h
 
 -- ---- a branch
 
 module _ (read : Reader (ActionsOf Text ℕ) → Read (ActionOf Text ℕ)) (k : Branch) (x : Read ℕ) (is-read : (inner : Reader (ActionsOf Text ℕ)) → read inner ≡ chain x (λ l q. got (branch k l) q)) where
-  pub lay-branch : (end pos w : ℕ) (over : List ℕ) (r : Scan) (l : Laid) → w ≡ pos + 5 → r ≡ scanned (λ _. 0) w x → l ≡ laidAs 0 r → Laying read end pos over over l
-  lay-branch end pos w over r l f e m = rw (m, e, f) (go x is-read)
+  pub lay-branch : (at end pos w : ℕ) (over : List ℕ) (r : Scan) (l : Laid) → w ≡ pos + 5 → r ≡ scanned (λ _. 0) w x → l ≡ laidAs 0 r → Laying read at end pos over over l
+  lay-branch at end pos w over r l f e m = rw (m, e, f) (go x is-read)
     where
-      go : (x : Read ℕ) → ((inner : Reader (ActionsOf Text ℕ)) → read inner ≡ chain x (λ l q. got (branch k l) q)) → Laying read end pos over over (laidAs 0 (scanned (λ _. 0) (pos + 5) x))
+      go : (x : Read ℕ) → ((inner : Reader (ActionsOf Text ℕ)) → read inner ≡ chain x (λ l q. got (branch k l) q)) → Laying read at end pos over over (laidAs 0 (scanned (λ _. 0) (pos + 5) x))
       go (got n q) h =
           unfold scanned laidAs pick in
           Laying.flat {q = q .at} {w = record { 0 = pos + 5 + 0 }}
@@ -140,13 +140,13 @@ module _ (read : Reader (ActionsOf Text ℕ) → Read (ActionOf Text ℕ)) (o : 
 
 module _ (read : Reader (ActionsOf Text ℕ) → Read (ActionOf Text ℕ)) (x : Read (OwnerOf Text))
     (is-read : (inner : Reader (ActionsOf Text ℕ)) → read inner ≡ chain x (λ o q. chain (inner q) (λ y r. got (owner o y) r)))
-    (end pos : ℕ) (within : (o : OwnerOf Text) (q : Place) → x ≡ got o q → q .at ≤ end) where
-  pub lay-owner : (over over′ : List ℕ) (r : Scan) (l : Laid) → r ≡ scanned ownerSize (pos + 3) x → l ≡ laidAs 1 r → over′ ≡ notedFrom (pos + 3) r over → Laying read end pos over over′ l
-  lay-owner over over′ r l e m n = rw (m, n, e) (go x is-read within)
+    (at end pos : ℕ) (onward : (o : OwnerOf Text) (q : Place) → x ≡ got o q → Onward at end pos (q .at) (pos + 3 + ownerSize o)) where
+  pub lay-owner : (over over′ : List ℕ) (r : Scan) (l : Laid) → r ≡ scanned ownerSize (pos + 3) x → l ≡ laidAs 1 r → over′ ≡ notedFrom (pos + 3) r over → Laying read at end pos over over′ l
+  lay-owner over over′ r l e m n = rw (m, n, e) (go x is-read onward)
     where
       go : (x : Read (OwnerOf Text)) → ((inner : Reader (ActionsOf Text ℕ)) → read inner ≡ chain x (λ o q. chain (inner q) (λ y r. got (owner o y) r)))
-          → ((o : OwnerOf Text) (q : Place) → x ≡ got o q → q .at ≤ end)
-          → Laying read end pos over (notedFrom (pos + 3) (scanned ownerSize (pos + 3) x) over) (laidAs 1 (scanned ownerSize (pos + 3) x))
+          → ((o : OwnerOf Text) (q : Place) → x ≡ got o q → Onward at end pos (q .at) (pos + 3 + ownerSize o))
+          → Laying read at end pos over (notedFrom (pos + 3) (scanned ownerSize (pos + 3) x) over) (laidAs 1 (scanned ownerSize (pos + 3) x))
       go (got o q) h i =
           unfold scanned laidAs pick notedFrom in
           Laying.bodies {q = q .at} {n = 1} {w = record { 0 = pos + 3 + ownerSize o }} (i o q refl)

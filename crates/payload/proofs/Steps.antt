@@ -102,7 +102,7 @@ module _ (b : List ℕ) (pos : ℕ) where
 
 -- ---- lists of strings and of parameters, as the code scans them
 
-total-each : {A B : Type 0} (g : A → B) (v : B → ℕ) (l : List A) → total v (each g l) ≡ total (λ x. v (g x)) l
+pub total-each : {A B : Type 0} (g : A → B) (v : B → ℕ) (l : List A) → total v (each g l) ≡ total (λ x. v (g x)) l
 unfolding each total
 total-each g v [] = refl
 total-each g v (x ∷ l) = ap (λ n. v (g x) + n) (total-each g v l)

@@ -29,7 +29,7 @@ use Rattle.operands.specs.declared.Scan.the-variants as scan
 use Rattle.payload.specs.declared.Laid.{Laid}
 use Rattle.payload.specs.declared.Laid.the-variants as laid
 use Rattle.payload.specs.Fields.{readCaught, targetSize, caughtSize, bodiesAfter}
-use Rattle.payload.specs.Walk.{State, state, notedIf, run, Outcome, done, fault, outcome, actionSize, actionTrace, bodyLength, bodyEvents, inBodies, bodyTests, bodiesEvents, Laying, laidAs, notedFrom, Tried}
+use Rattle.payload.specs.Walk.{State, state, notedIf, run, Outcome, done, fault, outcome, actionSize, actionTrace, bodyLength, bodyEvents, inBodies, bodyTests, bodiesEvents, Onward, Laying, laidAs, notedFrom, Tried}
 use Rattle.payload.proofs.Runs.{run-append, run-none, run-payload, run-body, outcome-got}
 
 -- ---- a body's test, as a change of the state
@@ -240,27 +240,27 @@ module _ (b : List ℕ) (inner : Reader (ActionsOf Text ℕ)) (target : CatchTar
 
 module _ (b : List ℕ) (small : Bytes b) where
   -- the byte that was read
-  byte-read : (p : Place) → p .at ≤ length b → Good (length b) (λ n q. n ≡ getD b (p .at) 0) (readU8 b p)
+  byte-read : (p : Place) → p .at ≤ length b → Good (length b) (λ n q. (n ≡ getD b (p .at) 0) × (q .at ≡ p .at + 1)) (readU8 b p)
   unfolding readU8 ifWhole
   byte-read p l = go (leb (p .at + 1) (length b)) refl
     where
-      go : (t : Bool) → leb (p .at + 1) (length b) ≡ t → Good (length b) (λ n q. n ≡ getD b (p .at) 0) (ifWhole t p (getD b (p .at) 0) (ahead 1 p))
-      go true h = unfold ifWhole in fine {p = ahead 1 p} refl (leb-true (p .at + 1) (length b) h)
+      go : (t : Bool) → leb (p .at + 1) (length b) ≡ t → Good (length b) (λ n q. (n ≡ getD b (p .at) 0) × (q .at ≡ p .at + 1)) (ifWhole t p (getD b (p .at) 0) (ahead 1 p))
+      go true h = unfold ifWhole in fine {p = ahead 1 p} (refl, refl) (leb-true (p .at + 1) (length b) h)
       go false h = unfold ifWhole in refused l
 
   -- without a catch one zero byte stands for the name
-  one-byte : (c r : Bool) (p : Place) → p .at ≤ length b → Good (length b) (λ t q. c ≡ false → targetSize t ≡ 1) (readCatchTarget edition1 b c r p)
+  one-byte : (c r : Bool) (p : Place) → p .at ≤ length b → Good (length b) (λ t q. (c ≡ false → targetSize t ≡ 1) × (targetSize t + p .at ≤ q .at + 2) × (p .at ≤ q .at)) (readCatchTarget edition1 b c r p)
   unfolding readCatchTarget targetSize stringSize stringLength spelling
-  one-byte true true p l = good-then (u8-good b small p l) (λ n q h m. fine (λ e. absurd (false≢true (sym e))) m)
-  one-byte true false p l = good-then (text-good edition1 b small spelling (Unit {0}) (spells b small edition1) p l) (λ s q h m. fine (λ e. absurd (false≢true (sym e))) m)
-  one-byte false r p l = fine {a = Variable (plain [])} {p = p} (λ e. refl) l
+  one-byte true true p l = good-then (u8-good b small p l) (λ n q h m. fine ((λ e. absurd (false≢true (sym e))), omega (arith, h .1), omega (arith, h .1)) m)
+  one-byte true false p l = good-then (text-good edition1 b small spelling (Unit {0}) (spells b small edition1) p l) (λ s q h m. fine ((λ e. absurd (false≢true (sym e))), omega (arith, h .1 tt), h .2) m)
+  one-byte false r p l = fine {a = Variable (plain [])} {p = p} ((λ e. refl), omega arith, omega arith) l
 
   pub caught-good : (p : Place) → p .at ≤ length b
-      → Good (length b) (λ x q. (x .0 ≡ getD b (p .at) 0) × (hasCatch (x .0) ≡ false → targetSize (x .1) ≡ 1)) (readCaught b p)
+      → Good (length b) (λ x q. (x .0 ≡ getD b (p .at) 0) × (hasCatch (x .0) ≡ false → targetSize (x .1) ≡ 1) × (targetSize (x .1) + p .at ≤ q .at + 1) × (p .at ≤ q .at)) (readCaught b p)
   unfolding readCaught
   caught-good p l =
       good-then (tested-good b small isShape (readU8 b) p l (byte-read p l))
-      (λ n q h m. good-then (one-byte (hasCatch n) (hasRegister n) q m) (λ t r k o. fine {a = (n, t)} {p = r} (h .0, k) o))
+      (λ n q h m. good-then (one-byte (hasCatch n) (hasRegister n) q m) (λ t r k o. fine {a = (n, t)} {p = r} (h .0 .0, k .0, omega (arith, h .0 .1, k .1), omega (arith, h .0 .1, k .2)) o))
 
 -- a Try's fields are its shape, its target and its bodies
 try-fields : (b : List ℕ) (inner : Reader (ActionsOf Text ℕ)) (p : Place)
@@ -300,32 +300,37 @@ try-outcome b p pos over x q e inner tab h =
     no-name : nameLength (mapCatch spelling noCatch) ≡ 1
     no-name = unfold nameLength mapCatch in refl
 
-module _ (b : List ℕ) (small : Bytes b) (p pos : ℕ) (inside : p ≤ length b) (over over′ : List ℕ) (l : Laid) where
+module _ (b : List ℕ) (small : Bytes b) (at p pos : ℕ) (is-next : p ≡ at + 1) (inside : p ≤ length b) (over over′ : List ℕ) (l : Laid) where
+  onward : (x : ℕ × CatchTargetOf Text) (q : Place) → (x .0 ≡ getD b p 0) × (hasCatch (x .0) ≡ false → targetSize (x .1) ≡ 1) × (targetSize (x .1) + p ≤ q .at + 1) × (p ≤ q .at) → q .at ≤ length b
+      → Onward at (length b) pos (q .at) (pos + 3 + caughtSize x)
+  unfolding caughtSize
+  onward x q g o = record { beyond = omega (arith, is-next, g .3); within = o; written = omega (arith, is-next, g .2, g .3) }
+
   lay-caught : (x : ℕ × CatchTargetOf Text) (q : Place) → readCaught b (placed p) ≡ got x q
-      → (x .0 ≡ getD b p 0) × (hasCatch (x .0) ≡ false → targetSize (x .1) ≡ 1) → q .at ≤ length b
-      → Laying (λ inner. readFields edition1 b inner OpCode.Try (placed p)) (length b) pos over (notedFrom (pos + 3) (scanned caughtSize (pos + 3) (got x q)) over)
+      → (x .0 ≡ getD b p 0) × (hasCatch (x .0) ≡ false → targetSize (x .1) ≡ 1) × (targetSize (x .1) + p ≤ q .at + 1) × (p ≤ q .at) → q .at ≤ length b
+      → Laying (λ inner. readFields edition1 b inner OpCode.Try (placed p)) at (length b) pos over (notedFrom (pos + 3) (scanned caughtSize (pos + 3) (got x q)) over)
       (laidAs (bodiesAfter (getD b p 0)) (scanned caughtSize (pos + 3) (got x q)))
   unfolding scanned notedFrom
   lay-caught x q e g o =
       let k : count (hasCatch (x .0)) (hasFinally (x .0)) ≡ bodiesAfter (getD b p 0) = count-is (x .0) ∙ ap bodiesAfter (g .0) in
       let m : 7 + targetSize (x .1) ≡ pos + 3 + caughtSize x - (pos + 3) = unfold caughtSize in omega arith in
       rw (laid-some (bodiesAfter (getD b p 0)) (q .at) (record { 0 = pos + 3 + caughtSize x }) (after-some (getD b p 0)))
-      (Laying.bodies {q = q .at} {n = bodiesAfter (getD b p 0)} {w = record { 0 = pos + 3 + caughtSize x }} o
+      (Laying.bodies {q = q .at} {n = bodiesAfter (getD b p 0)} {w = record { 0 = pos + 3 + caughtSize x }} (onward x q g o)
       (λ inner tab. try-outcome b p pos over x q e inner tab (λ c. sym (g .1 c))
       ∙ ap₂ (λ (i j : ℕ). outcome (total bodyLength) bodiesEvents (pos + 3 + caughtSize x) (state tab (notedIf 8 i over)) (repeat inner j q)) m k))
 
   lay-uncaught : (f : answers.Fault) (q : Place) → readCaught b (placed p) ≡ bad f q
-      → Laying (λ inner. readFields edition1 b inner OpCode.Try (placed p)) (length b) pos over (notedFrom (pos + 3) (scanned caughtSize (pos + 3) (bad f q)) over)
+      → Laying (λ inner. readFields edition1 b inner OpCode.Try (placed p)) at (length b) pos over (notedFrom (pos + 3) (scanned caughtSize (pos + 3) (bad f q)) over)
       (laidAs (bodiesAfter (getD b p 0)) (scanned caughtSize (pos + 3) (bad f q)))
   unfolding scanned notedFrom laidAs outcome
   lay-uncaught f q e = Laying.stops {f = faultOf f} {q = q .at} (λ inner t. rw (try-fields b inner (placed p), e))
 
   pub lay-try : Tried (scanned caughtSize (pos + 3) (readCaught b (placed p))) (bodiesAfter (getD b p 0)) (pos + 3) l over over′
-      → Laying (λ inner. readFields edition1 b inner OpCode.Try (placed p)) (length b) pos over over′ l
+      → Laying (λ inner. readFields edition1 b inner OpCode.Try (placed p)) at (length b) pos over over′ l
   lay-try h = rw (h .is-laid, h .is-noted) (go (readCaught b (placed p)) refl)
     where
       go : (x : Read (ℕ × CatchTargetOf Text)) → readCaught b (placed p) ≡ x
-          → Laying (λ inner. readFields edition1 b inner OpCode.Try (placed p)) (length b) pos over (notedFrom (pos + 3) (scanned caughtSize (pos + 3) x) over) (laidAs (bodiesAfter (getD b p 0)) (scanned caughtSize (pos + 3) x))
+          → Laying (λ inner. readFields edition1 b inner OpCode.Try (placed p)) at (length b) pos over (notedFrom (pos + 3) (scanned caughtSize (pos + 3) x) over) (laidAs (bodiesAfter (getD b p 0)) (scanned caughtSize (pos + 3) x))
       go (got x q) e =
           let g = good-got x q (caught-good b small (placed p) inside) e in
           lay-caught x q e (g .0) (g .1)

@@ -1,7 +1,7 @@
 -- What one walk of a main body keeps while it reads and measures: the label table and the first overflow; and what it promises.
 -- Assumes nothing.
 use mathlib.Core.Path.{_≡_}
-use Prim.Native.Nat.{ℕ, _+_, _-_, _*_, _≤_}
+use Prim.Native.Nat.{ℕ, _+_, _-_, _*_, _≤_, _<_}
 use mathlib.Core.Bool.{Bool, true, false}
 use mathlib.Core.List.{List, [], _∷_, _++_}
 use lib.ListN.{length, getD, set}
@@ -90,18 +90,24 @@ bodyTests (x ∷ xs) p = bodyTest (bodyLength x) (record { at = p }) ++ bodyTest
 unfoldable pub bodiesEvents : List (ActionsOf Text ℕ) → ℕ → List Event
 bodiesEvents xs p = inBodies xs p ++ bodyTests xs p
 
+-- from place `at` and position pos on: q lies beyond and within, and each byte read on the way is written in at most 65,536
+pub record Onward (at end pos q w : ℕ) : Type 0 where
+  pub beyond : at < q
+  pub within : q ≤ end
+  pub written : w + 65536 * at ≤ pos + 65536 * q
+
 -- ---- what a payload's answer says of an action, whose bodies `inner` reads: nothing is known of them yet
 
-pub data Laying (read : Reader (ActionsOf Text ℕ) → Read (ActionOf Text ℕ)) (end pos : ℕ) (over over′ : List ℕ) : Laid → Type 0 where
+pub data Laying (read : Reader (ActionsOf Text ℕ) → Read (ActionOf Text ℕ)) (at end pos : ℕ) (over over′ : List ℕ) : Laid → Type 0 where
   flat : {q : ℕ} {w : BytePosition}
       → ((inner : Reader (ActionsOf Text ℕ)) (tab : List ℕ) → outcome actionSize actionTrace pos (state tab over) (read inner) ≡ done q (w .0) (state tab over′))
-      → Laying read end pos over over′ (laid.Flat q w)
-  bodies : {q n : ℕ} {w : BytePosition} → q ≤ end
+      → Laying read at end pos over over′ (laid.Flat q w)
+  bodies : {q n : ℕ} {w : BytePosition} → Onward at end pos q (w .0)
       → ((inner : Reader (ActionsOf Text ℕ)) (tab : List ℕ)
       → outcome actionSize actionTrace pos (state tab over) (read inner) ≡ outcome (total bodyLength) bodiesEvents (w .0) (state tab over′) (repeat inner n (placed q)))
-      → Laying read end pos over over′ (laid.Bodies q w n)
+      → Laying read at end pos over over′ (laid.Bodies q w n)
   stops : {f : Fault} {q : ℕ}
-      → ((inner : Reader (ActionsOf Text ℕ)) (s : State) → outcome actionSize actionTrace pos s (read inner) ≡ fault f q) → Laying read end pos over over′ (laid.Stops f q)
+      → ((inner : Reader (ActionsOf Text ℕ)) (s : State) → outcome actionSize actionTrace pos s (read inner) ≡ fault f q) → Laying read at end pos over over′ (laid.Stops f q)
 
 -- ---- what the scan of a payload is made into, where n bodies follow it
 

@@ -205,7 +205,7 @@ fn scan_try(b: &[u8], at: usize, pos: BytePosition, over: &mut [usize]) -> Laid
 // The payload of an opcode from 80 on, which stands at a place; `pos` is the action's position.
 pub fn scan_payload(b: &[u8], op: u8, at: usize, pos: BytePosition, over: &mut [usize]) -> Laid
     requires { ⌜ (128 ≤ op) × (at < length (now b)) × (length (now over) ≡ 2) × Roomy (now b) at pos ⌝ }
-    ensures { λ l. ⌜ Laying (λ inner. readFieldsIf edition1 (now (b .entry)) inner (opcodeOf op) (placed at) (placed (at + 1))) (length (now (b .entry))) (pos .0) (now (over .entry)) (now (over .exit)) l ⌝ }
+    ensures { λ l. ⌜ Laying (λ inner. readFieldsIf edition1 (now (b .entry)) inner (opcodeOf op) (placed at) (placed (at + 1))) at (length (now (b .entry))) (pos .0) (now (over .entry)) (now (over .exit)) l ⌝ }
 {
     let p = at + 1;
     let w = BytePosition(pos.0 + 3);
