@@ -1,2 +1,3 @@
 pub mod Fronts
 pub mod Walks
+pub mod Mains

@@ -159,7 +159,7 @@ module _ (b : List ℕ) (d at : ℕ) where
               absurd (omega arith)
 
       module _ (l : Laid) (over′ : List ℕ)
-        (y : Laying (λ inner. readFieldsIf edition1 b inner (opcodeOf (getD b at 0)) (placed at) (placed (at + 1))) at (length b) (pos .0) over over′ l) where
+          (y : Laying (λ inner. readFieldsIf edition1 b inner (opcodeOf (getD b at 0)) (placed at) (placed (at + 1))) at (length b) (pos .0) over over′ l) where
         abbrev Here : Laid → Type 0
         Here l = Laying (λ inner. readFieldsIf edition1 b inner (opcodeOf (getD b at 0)) (placed at) (placed (at + 1))) at (length b) (pos .0) over over′ l
 
@@ -345,7 +345,7 @@ module _ (b : List ℕ) (at d : ℕ) (pos : BytePosition) (end n count : ℕ) (t
       }
 
   module _ (next i p : ℕ) (w : BytePosition) (tab over tab₁ : List ℕ) (g : Going b at d (pos .0) (state tab₀ over₀) n count next i p w tab over)
-    (m : tab₁ ≡ recordAll (labelsAt (entriesAt b n (at + 2)) (record { index = i }) (record { at = w .0 })) tab) where
+      (m : tab₁ ≡ recordAll (labelsAt (entriesAt b n (at + 2)) (record { index = i }) (record { at = w .0 })) tab) where
     marked : state tab₁ over ≡ run (labelsAt (entriesAt b n (at + 2)) (record { index = i }) (record { at = w .0 })) (state tab over)
     unfolding run
     marked = ap₂ state m (sym (labels-quiet (entriesAt b n (at + 2)) (record { index = i }) (record { at = w .0 }) over))
@@ -485,7 +485,7 @@ module _ (d : ℕ) (b : List ℕ) (n at : ℕ) (pos : BytePosition) (tab₀ over
           next-same t f i j (got xs u) m =
               let l : x .0 + total bodyLength xs ≡ w .0 + (bodyLength t + total bodyLength xs) = omega arith in
               let v : (bodyEvents t (w .0) ++ inBodies xs (w .0 + bodyLength t)) ++ (g .waiting ++ (bodyTest (bodyLength t) (record { at = pos .0 }) ++ bodyTests xs (pos .0)))
-                      ≡ bodyEvents t (w .0) ++ (inBodies xs (w .0 + bodyLength t) ++ ((g .waiting ++ bodyTest (bodyLength t) (record { at = pos .0 })) ++ bodyTests xs (pos .0))) = simp append-assoc in
+              ≡ bodyEvents t (w .0) ++ (inBodies xs (w .0 + bodyLength t) ++ ((g .waiting ++ bodyTest (bodyLength t) (record { at = pos .0 })) ++ bodyTests xs (pos .0))) = simp append-assoc in
               rw (repeat-more (readBody edition1 b d) left p h, f, m, l, j, i, v, run-append (bodyEvents t (w .0)) (inBodies xs (w .0 + bodyLength t) ++ ((g .waiting ++ bodyTest (bodyLength t) (record { at = pos .0 })) ++ bodyTests xs (pos .0))) (state tab over))
           next-same t f i j (bad k u) m = rw (repeat-more (readBody edition1 b d) left p h, f, m)
 

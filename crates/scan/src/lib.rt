@@ -9,16 +9,16 @@ ghost use Rattle.operands.specs.Scanned.{placed, scanned};
 ghost use Rattle.payload.specs.Walk.{state, outcome, Ran, actionSize, actionTrace, bodyLength, bodyEvents, bodiesEvents};
 ghost use Rattle.scan.specs.Bodies.{readFront, Fronted, Ready, firstLong, Empty, MainScanned};
 use fields::u16_at;
-use labels::due_entry;
-use labels::record_labels;
 use labels::ActionIndex;
 use labels::BytePosition;
-use operands::scan_bytes;
+use labels::due_entry;
+use labels::record_labels;
 use operands::Fault;
 use operands::Scan;
+use operands::scan_bytes;
+use payload::Laid;
 use payload::note_long;
 use payload::scan_payload;
-use payload::Laid;
 use pcode::OpCode;
 
 // n label entries: label numbers in range and strictly rising.
@@ -195,5 +195,21 @@ fn scan_action(
         Laid::Stops(f, p) => Scan::Stops(f, p),
         Laid::Flat(p, w) => Scan::Ends(p, w),
         Laid::Bodies(p, w, n) => scan_bodies(b, p, depth, w, n, tab, over),
+    }
+}
+
+// A whole main body: no byte of it is left over.
+pub fn scan_main(b: &[u8], tab: &mut [usize], over: &mut [usize]) -> Scan
+    requires { ⌜ (length (now b) ≤ 1048576) × Empty (now tab) (now over) ⌝ }
+    ensures { λ r. ⌜ MainScanned (now (tab .exit)) (now (over .exit)) (readMain edition1 (now (b .entry)) deepest) r ⌝ }
+{
+    match scan_body(b, 0, 16, BytePosition(0), tab, over) {
+        Scan::Stops(f, p) => Scan::Stops(f, p),
+        Scan::Ends(p, w) => {
+            if p < b.len() {
+                return Scan::Stops(Fault::LeftOver, p);
+            }
+            Scan::Ends(p, w)
+        }
     }
 }

@@ -4,15 +4,12 @@ use Rattle.scan.proofs.first_long.Tie as tie
 use Rattle.scan.proofs.first_long.Reads as reads
 use Rattle.scan.proofs.first_long.Lts as lts
 
--- src/lib.rt:72:9
 returns : tie.Need-returns
 returns c = first-had _ _ (c .if1 .taken)
 
--- src/lib.rt:75:9
 returns-2 : tie.Need-returns-2
 returns-2 c = first-now _ _ (c .before .if1 .left) (c .if2 .taken)
 
--- src/lib.rt:68:1
 returns-3 : tie.Need-returns-3
 returns-3 c = first-none _ _ (c .before .if1 .left) (c .if2 .left)
 

@@ -18,67 +18,52 @@ Inv-loop b at n pos left₀ p₀ least₀ left p least =
 abbrev μ-loop : tie.MeasureT-loop
 μ-loop b at n pos left₀ p₀ least₀ left p least = left
 
--- src/lib.rt:32:5
 loop-holds : tie.Need-loop-holds Inv-loop μ-loop
 loop-holds c = (refl, omega arith, omega arith)
 
--- src/lib.rt:33:12
 sub-if1 : tie.Need-sub-if1 Inv-loop μ-loop
 sub-if1 c = omega arith
 
--- src/lib.rt:34:13
 returns : tie.Need-returns Inv-loop μ-loop
 unfolding faultOf
 returns c = entries-cut _ _ _ _ _ (c .before .loop-test .taken) (omega arith) ∙ c .before .before .loop .inv .0
 
--- src/lib.rt:36:13
 u16-at-requires : tie.Need-u16-at-requires Inv-loop μ-loop
 u16-at-requires c κs = omega arith
 
--- src/lib.rt:38:13
 returns-2 : tie.Need-returns-2 Inv-loop μ-loop
 unfolding faultOf
 returns-2 c = entries-big _ _ _ _ _ (c .before .before .before .loop-test .taken) (omega arith) _ (c .before .u16-at .ensures .0) (c .if2 .taken) ∙ c .before .before .before .before .loop .inv .0
 
--- src/lib.rt:41:13
 returns-3 : tie.Need-returns-3 Inv-loop μ-loop
 unfolding faultOf
 returns-3 c = entries-low _ _ _ _ _ (c .before .before .before .before .loop-test .taken) (omega arith) _ (c .before .before .u16-at .ensures .0) (omega arith) (omega arith) ∙ c .before .before .before .before .before .loop .inv .0
 
--- src/lib.rt:43:12
 sub-if4 : tie.Need-sub-if4 Inv-loop μ-loop
 sub-if4 c = omega arith
 
--- src/lib.rt:44:49
 add-t16 : tie.Need-add-t16 Inv-loop μ-loop
 add-t16 c = omega arith
 
--- src/lib.rt:44:13
 returns-4 : tie.Need-returns-4 Inv-loop μ-loop
 unfolding faultOf
 returns-4 c = entries-half _ _ _ _ _ (c .before .before .before .before .before .loop-test .taken) (omega arith) _ (c .before .before .before .u16-at .ensures .0) (omega arith) (omega arith) (omega arith) ∙ c .before .before .before .before .before .before .loop .inv .0
 
--- src/lib.rt:46:17
 add-least : tie.Need-add-least Inv-loop μ-loop
 add-least c = omega arith
 
--- src/lib.rt:47:9
 add-p : tie.Need-add-p Inv-loop μ-loop
 add-p c = omega arith
 
--- src/lib.rt:48:9
 sub-left : tie.Need-sub-left Inv-loop μ-loop
 sub-left c = omega arith
 
--- src/lib.rt:32:5
 loop-less : tie.Need-loop-less Inv-loop μ-loop
 loop-less c = omega arith
 
--- src/lib.rt:32:5
 loop-again : tie.Need-loop-again Inv-loop μ-loop
 loop-again c = (entries-more _ _ _ _ _ (c .before .before .before .before .before .loop-test .taken) (omega arith) _ (c .before .before .before .u16-at .ensures .0) (omega arith) (omega arith) (omega arith) ∙ c .before .before .before .before .before .before .loop .inv .0, omega arith, omega arith)
 
--- src/lib.rt:25:1
 returns-5 : tie.Need-returns-5 Inv-loop μ-loop
 returns-5 c = entries-end _ _ _ _ _ (c .loop-test .left) ∙ c .before .loop .inv .0
 

@@ -10,44 +10,34 @@ use Rattle.fields.proofs.u16_at.Reads as u16-at-reads
 use Rattle.operands.proofs.scan_bytes.Reads as scan-bytes-reads
 use Rattle.scan.proofs.scan_entries.Reads as scan-entries-reads
 
--- src/lib.rt:58:8
 sub-if1 : tie.Need-sub-if1
 sub-if1 c = search needs
 
--- src/lib.rt:59:9
 returns : tie.Need-returns
 unfolding faultOf
 returns c = front-cut _ _ _ (omega arith)
 
--- src/lib.rt:61:27
 add-scan-entries : tie.Need-add-scan-entries
 add-scan-entries c = search needs
 
--- src/lib.rt:61:35
 u16-at-requires : tie.Need-u16-at-requires
 u16-at-requires c κs = search needs
 
--- src/lib.rt:61:11
 scan-entries-requires : tie.Need-scan-entries-requires
 scan-entries-requires c κs = search needs
 
--- src/lib.rt:62:21
 enum-known-f : tie.Need-enum-known-f
 enum-known-f c = search needs
 
--- src/lib.rt:63:20
 enum-known-p : tie.Need-enum-known-p
 enum-known-p c = search needs
 
--- src/lib.rt:63:29
 scan-bytes-requires : tie.Need-scan-bytes-requires
 scan-bytes-requires c κs = front-place _ _ _ (omega arith) _ (c .before .before .before .before .u16-at .ensures .0) _ (c .before .before .before .scan-entries .ensures) _ _ (c .before .p .given .1)
 
--- src/lib.rt:54:1
 returns-2 : tie.Need-returns-2
 returns-2 c = front-stops _ _ _ (omega arith) _ (c .before .before .before .before .u16-at .ensures .0) _ (c .before .before .before .scan-entries .ensures) _ _ (c .before .f .given .1)
 
--- src/lib.rt:54:1
 returns-3 : tie.Need-returns-3
 returns-3 c = front-ends _ _ _ (omega arith) _ (c .before .before .before .before .before .u16-at .ensures .0) _ (c .before .before .before .before .scan-entries .ensures) _ _ _ (c .before .before .p .given .1) (c .scan-bytes .ensures)
 

@@ -1,0 +1,123 @@
+-- Laws of a whole main body: from what the walk leaves to the final table and the first overflow. Assumes nothing.
+use mathlib.Core.Path.{_≡_, refl, sym, ap, _∙_}
+use Prim.Native.Nat.{ℕ, zero, suc, _+_, _-_, _*_, _≤_, _<_}
+use native.Mathlib.Omega.{arith}
+use mathlib.Core.Bool.{Bool, true, false}
+use mathlib.Core.Option.{Option, none, some}
+use mathlib.Core.List.{List, [], _∷_}
+use lib.ListN.{length, getD, set, length-set}
+use lib.Seq.{getD-set-same, getD-set-other}
+use lib.Dec.{eqb}
+use borrow.Author.Tests.{eq-eqb, ne-eqb}
+use Rattle.layout.specs.Lists.{pick}
+use Rattle.layout.specs.Answers.{Refusal, LeftOver}
+use Rattle.layout.specs.Answers as answers
+use Rattle.layout.specs.Tree.{ActionsOf}
+use Rattle.layout.specs.Read.{Text, edition1, deepest, Place, Read, got, bad, ifNothingLeft, readBody, readMain}
+use Rattle.layout.specs.Strings.{mapBody}
+use Rattle.layout.specs.Write.{Event, labelAt, branchAt, payloadTooLong, bodyTooLong, events, bodySize}
+use Rattle.layout.specs.Judge.{tooLong}
+use Rattle.layout.specs.Pack.{spelling}
+use Rattle.laws.specs.Fits.{Bytes}
+use Rattle.laws.specs.ReadFits.{good-got, body-good}
+use Rattle.laws.specs.Packed.{spells}
+use Rattle.labels.specs.Table.{recordAll, TableHolds}
+use Rattle.labels.proofs.Labels.{length-recordAll, table-holds}
+use Rattle.labels.specs.declared.BytePosition.{BytePosition}
+use Rattle.operands.specs.declared.Scan.{Scan}
+use Rattle.operands.specs.declared.Scan.the-variants as scan
+use Rattle.operands.specs.declared.Fault.{Fault}
+use Rattle.operands.specs.Scanned.{placed, faultOf, Roomy}
+use Rattle.payload.specs.Walk.{State, state, noted, noteAll, run, Outcome, done, fault, outcome, Ran, bodyLength, bodyEvents}
+use Rattle.scan.specs.Bodies.{Ready, Empty, overflow, MainScanned, whole, stopped}
+use Rattle.scan.proofs.Walks.{ran-is, ran-bad, outcome-is}
+
+-- ---- every element of a slice of bytes is one
+
+pub all-bytes : (b : List ℕ) → ((i : ℕ) → i < length b → getD b i 0 < 256) → Bytes b
+all-bytes [] h = tt
+all-bytes (x ∷ b) h = (h 0 (omega arith), all-bytes b (λ i l. h (suc i) (omega arith)))
+
+-- ---- the first overflow is kept
+
+noted-kept : (number n : ℕ) (over : List ℕ) → (getD over 0 0 ≡ 0 → ⊥) → noted number n over ≡ over
+unfolding noted pick
+noted-kept number n over h = rw (ne-eqb (getD over 0 0) 0 h)
+
+all-kept : (es : List Event) (over : List ℕ) → (getD over 0 0 ≡ 0 → ⊥) → noteAll es over ≡ over
+unfolding noteAll
+all-kept [] over h = refl
+all-kept (labelAt l s ∷ es) over h = all-kept es over h
+all-kept (branchAt l s ∷ es) over h = all-kept es over h
+all-kept (payloadTooLong n s ∷ es) over h = ap (noteAll es) (noted-kept 8 n over h) ∙ all-kept es over h
+all-kept (bodyTooLong n s ∷ es) over h = ap (noteAll es) (noted-kept 9 n over h) ∙ all-kept es over h
+
+module _ (over : List ℕ) (two : length over ≡ 2) (number n : ℕ) where
+  zeroth : getD (set (set over 0 number) 1 n) 0 0 ≡ number
+  zeroth = getD-set-other (set over 0 number) 1 0 n 0 (λ z. omega arith) ∙ getD-set-same over 0 number 0 (omega arith)
+
+  oneth : getD (set (set over 0 number) 1 n) 1 0 ≡ n
+  oneth = getD-set-same (set over 0 number) 1 n 0 (simp length-set (omega arith))
+
+  noted-first : getD over 0 0 ≡ 0 → noted number n over ≡ set (set over 0 number) 1 n
+  unfolding noted pick
+  noted-first e = rw (eq-eqb (getD over 0 0) 0 e)
+
+  -- the refusal stays that of the first
+  kept-first : (es : List Event) → 0 < number → getD over 0 0 ≡ 0 → noteAll es (noted number n over) ≡ set (set over 0 number) 1 n
+  kept-first es l e = ap (noteAll es) (noted-first e) ∙ all-kept es (set (set over 0 number) 1 n) (λ z. omega (arith, zeroth))
+
+pub first-overflow : (es : List Event) (over : List ℕ) → length over ≡ 2 → getD over 0 0 ≡ 0 → overflow (noteAll es over) ≡ tooLong es
+unfolding noteAll tooLong overflow pick
+first-overflow [] over l e = rw e
+first-overflow (labelAt m s ∷ es) over l e = first-overflow es over l e
+first-overflow (branchAt m s ∷ es) over l e = first-overflow es over l e
+first-overflow (payloadTooLong n s ∷ es) over l e = ap overflow (kept-first over l 8 n es (omega arith) e) ∙ rw (zeroth over l 8 n, oneth over l 8 n)
+first-overflow (bodyTooLong n s ∷ es) over l e = ap overflow (kept-first over l 9 n es (omega arith) e) ∙ rw (zeroth over l 9 n, oneth over l 9 n)
+
+-- ---- what scan_main answers
+
+module _ (b tab over : List ℕ) (small : Bytes b) (e : Empty tab over) where
+  pub ready : length b ≤ 1048576 → Ready b 0 (record { 0 = 0 }) tab over
+  ready h = record { roomy = record { bytes = small; inside = omega arith; room = omega arith }; full = e .full; two = e .two }
+
+  module _ (r : Scan) (tab′ over′ : List ℕ) (o : Ran (outcome bodyLength bodyEvents 0 (state tab over) (readBody edition1 b 16 (placed 0))) r (state tab′ over′)) where
+    pub main-stops : (f : Fault) (p : ℕ) → r ≡ scan.Stops f p → MainScanned tab′ over′ (readMain edition1 b deepest) (scan.Stops f p)
+    unfolding readMain outcome
+    main-stops f p k = go (readBody edition1 b 16 (placed 0)) refl (ran-bad o k)
+      where
+        fault-is : (g : answers.Fault) (q : Place) → fault (faultOf g) (q .at) ≡ fault f p → readBody edition1 b 16 (placed 0) ≡ bad g q → MainScanned tab′ over′ (readMain edition1 b deepest) (scan.Stops f p)
+        fault-is g q z x =
+            let y : scan.Stops f p ≡ scan.Stops (faultOf g) (q .at) = cc in
+            rw (x, y) stopped
+
+        go : (x : Read (ActionsOf Text ℕ)) → readBody edition1 b 16 (placed 0) ≡ x → outcome bodyLength bodyEvents 0 (state tab over) x ≡ fault f p → MainScanned tab′ over′ (readMain edition1 b deepest) (scan.Stops f p)
+        go (got t q) x z =
+            let y : _≡_ {A = ℕ} 0 1 = cc in
+            absurd (omega arith)
+        go (bad g q) x z = fault-is g q z x
+
+    module _ (q : ℕ) (w : BytePosition) (k : r ≡ scan.Ends q w) where
+      pub main-left : q < length b → MainScanned tab′ over′ (readMain edition1 b deepest) (scan.Stops (faultOf LeftOver) q)
+      unfolding readMain ifNothingLeft
+      main-left h = let z = outcome-is bodyLength bodyEvents 0 _ (readBody edition1 b 16 (placed 0)) (ran-is o k) in go (z .0) (z .1)
+        where
+          go : (t : ActionsOf Text ℕ) → readBody edition1 b 16 (placed 0) ≡ got t (placed q) → MainScanned tab′ over′ (readMain edition1 b deepest) (scan.Stops (faultOf LeftOver) q)
+          go t x = rw (x, ne-eqb q (length b) (λ z. omega arith)) stopped
+
+      pub main-whole : length b ≤ q → MainScanned tab′ over′ (readMain edition1 b deepest) (scan.Ends q w)
+      unfolding readMain ifNothingLeft run events
+      main-whole h = let z = outcome-is bodyLength bodyEvents 0 _ (readBody edition1 b 16 (placed 0)) (ran-is o k) in go (z .0) (z .1) (z .2) (z .3)
+        where
+          go : (t : ActionsOf Text ℕ) → readBody edition1 b 16 (placed 0) ≡ got t (placed q) → w .0 ≡ 0 + bodyLength t → state tab′ over′ ≡ run (bodyEvents t 0) (state tab over)
+              → MainScanned tab′ over′ (readMain edition1 b deepest) (scan.Ends q w)
+          go t x y s =
+              let g = good-got t (placed q) (body-good edition1 b small spelling (Unit {0}) (spells b small edition1) 16 (placed 0) (omega arith)) x in
+              let a : tab′ ≡ recordAll (bodyEvents t 0) tab = ap (λ (v : State). v .table) s in
+              let c : over′ ≡ noteAll (bodyEvents t 0) over = ap (λ (v : State). v .over) s in
+              rw (x, eq-eqb q (length b) (omega (arith, g .1))) (whole {x = t} {p = placed q} {w = w} (omega arith)
+              (record {
+                slots = ap length a ∙ length-recordAll (bodyEvents t 0) tab ∙ e .full;
+                holds = λ l i. ap (λ v. getD v l 0) a ∙ table-holds l (bodyEvents t 0) tab (omega (arith, e .full)) (e .zeros l i);
+              })
+              (ap overflow c ∙ first-overflow (bodyEvents t 0) over (e .two) (e .zero)))
