@@ -1,0 +1,102 @@
+-- Laws of the reading of a sheet. Assumes nothing.
+use mathlib.Core.Path.{_≡_, refl, sym, ap, _∙_}
+use Prim.Native.Nat.{ℕ, _+_, _-_, _≤_}
+use native.Mathlib.Omega.{arith}
+use mathlib.Core.Option.{Option, none, some}
+use mathlib.Core.List.{List}
+use lib.ListN.{length, take, drop}
+use Rattle.layout.specs.Answers.{ReadingFault}
+use Rattle.layout.specs.Answers as answers
+use Rattle.layout.specs.Tree.{ActionsOf}
+use Rattle.layout.specs.Read.{Text, edition1, deepest, Place, Read, got, bad, readMain}
+use Rattle.layout.specs.Pack.{spelling}
+use Rattle.layout.specs.Cut.{Cut, main, uncut, cut}
+use Rattle.laws.specs.Fits.{Bytes}
+use Rattle.laws.specs.ReadFits.{good-bad, main-good}
+use Rattle.laws.specs.Packed.{spells, IsMain, is-main}
+use Rattle.labels.specs.declared.BytePosition.{BytePosition}
+use Rattle.operands.specs.declared.Fault.{Fault}
+use Rattle.operands.specs.declared.Fault.the-variants as fault
+use Rattle.operands.specs.declared.Scan.{Scan}
+use Rattle.operands.specs.declared.Scan.the-variants as scan
+use Rattle.operands.specs.Scanned.{faultOf}
+use Rattle.scan.specs.Bodies.{MainScanned, whole, stopped}
+use Rattle.cut.specs.Cuts as cuts
+use Rattle.cut.specs.declared.CutMain.{CutMain}
+use Rattle.cut.specs.declared.CutMain.the-variants as cutMain
+use Rattle.sheet.specs.Readings.{faultIn, faultOfCut, readSheet, meant, said}
+use Rattle.sheet.specs.declared.Reading.{Reading}
+use Rattle.sheet.specs.declared.Reading.the-variants as reading
+
+meant-back : (f : answers.Fault) → meant (faultOf f) ≡ f
+unfolding meant faultOf
+meant-back answers.CutShort = refl
+meant-back answers.UnknownCode = refl
+meant-back answers.BadField = refl
+meant-back answers.TooDeep = refl
+meant-back answers.LeftOver = refl
+
+-- ---- the main body
+
+module _ (tab over : List ℕ) (start : ℕ) (x : Read (ActionsOf Text ℕ)) (r : Scan) (m : MainScanned tab over x r) where
+  pub main-whole : (q : ℕ) (w : BytePosition) → r ≡ scan.Ends q w → said reading.Whole ≡ faultIn start x
+  unfolding said faultIn
+  main-whole q w e = go m e
+    where
+      go : {x : Read (ActionsOf Text ℕ)} {r : Scan} → MainScanned tab over x r → r ≡ scan.Ends q w → none ≡ faultIn start x
+      go (whole a b c) e = refl
+      go stopped e =
+          let z : _≡_ {A = ℕ} 0 1 = cc in
+          absurd (omega arith)
+
+  pub main-stops : (f : Fault) (p : ℕ) → r ≡ scan.Stops f p → said (reading.Stops f (start + p)) ≡ faultIn start x
+  unfolding said faultIn
+  main-stops f p e = go m e
+    where
+      go : {x : Read (ActionsOf Text ℕ)} {r : Scan} → MainScanned tab over x r → r ≡ scan.Stops f p → some (ReadingFault (meant f) (start + p)) ≡ faultIn start x
+      go (whole a b c) e =
+          let z : _≡_ {A = ℕ} 0 1 = cc in
+          absurd (omega arith)
+      go (stopped {f = g} {p = q}) e =
+          let i : f ≡ faultOf g = cc in
+          let j : p ≡ q .at = cc in
+          rw (i, j, meant-back g)
+
+-- the place of a fault lies in the main body
+pub main-place : (b tab over : List ℕ) (r : Scan) → Bytes b → MainScanned tab over (readMain edition1 b deepest) r → (f : Fault) (p : ℕ) → r ≡ scan.Stops f p → p ≤ length b
+main-place b tab over r small m f p e = go (readMain edition1 b deepest) refl m e
+  where
+    go : (x : Read (ActionsOf Text ℕ)) {r : Scan} → readMain edition1 b deepest ≡ x → MainScanned tab over x r → r ≡ scan.Stops f p → p ≤ length b
+    go (got t q) k (whole u v w) e =
+        let z : _≡_ {A = ℕ} 0 1 = cc in
+        absurd (omega arith)
+    go (bad g q) k stopped e =
+        let j : p ≡ q .at = cc in
+        omega (arith, good-bad g q (main-good edition1 b small spelling (Unit {0}) (spells b small edition1) deepest) k)
+
+-- ---- the sheet
+
+module _ (s : List ℕ) (c : CutMain) (e : cuts.said s c ≡ cut s) where
+  pub cut-long : (n : ℕ) → c ≡ cutMain.SheetTooLong n → said (reading.SheetTooLong n) ≡ readSheet s
+  unfolding said readSheet faultOfCut cuts.said
+  cut-long n k = rw (← e, k)
+
+  pub cut-bad : c ≡ cutMain.BadTrailer → said reading.BadTrailer ≡ readSheet s
+  unfolding said readSheet faultOfCut cuts.said
+  cut-bad k = rw (← e, k)
+
+  module _ (start end : ℕ) (k : c ≡ cutMain.Main start end) where
+    is-cut : cut s ≡ main start (take (end - start) (drop start s))
+    unfolding cuts.said
+    is-cut = sym e ∙ rw k
+
+    -- the main body and its start are within the limit
+    pub cut-limits : (length (take (end - start) (drop start s)) ≤ 1048576) × (start ≤ 1048576)
+    cut-limits = let m = is-main s start (take (end - start) (drop start s)) is-cut in (omega (arith, m .is-long, m .is-limited), omega (arith, m .is-long, m .is-limited))
+
+    pub cut-main : (r : Reading) → said r ≡ faultIn start (readMain edition1 (take (end - start) (drop start s)) deepest) → said r ≡ readSheet s
+    unfolding readSheet faultOfCut
+    cut-main r h = h ∙ sym (rw is-cut)
+
+    pub cut-within : cuts.Within s c → (start ≤ end) × (end ≤ length s)
+    cut-within w = rw k at w
