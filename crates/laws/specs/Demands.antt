@@ -216,9 +216,9 @@ body-same : (t t′ : Actions) → blockBytes t ≡ blockBytes t′ → bodyByte
 unfolding blockBytes
 body-same t t′ e = snoc-same (bodyBytes (branchBits t) t 0) (bodyBytes (branchBits t′) t′ 0) 0 e
 
--- "Two accepted sheets that give the same bytes hold the same actions, order, nesting and operands (floats by their bits),
--- each branch with the same distance. Only label numbers, label entries, notes and the upper six bits of a GetUrl2 method
--- may differ"
+-- Demand 3: two accepted sheets that give the same bytes hold the same actions, order, nesting and operands, floats by their
+-- bits, each branch with the same distance. Only label numbers, label entries, notes and the upper six bits of a GetUrl2
+-- method may differ
 pub same-meaning : (s s′ : List ℕ) (room room′ : ℕ) (q : List ℕ) (t t′ : Actions) → Bytes s → Bytes s′ → ReadsAs s t → ReadsAs s′ t′
     → pack s room ≡ Done q → pack s′ room′ ≡ Done q → meaning t ≡ meaning t′
 same-meaning s s′ room room′ q t t′ small small′ h h′ e e′ =
@@ -229,7 +229,7 @@ same-meaning s s′ room room′ q t t′ small small′ h h′ e e′ =
     (tree-fits s t small h (k .is-short)) (tree-fits s′ t′ small′ h′ (k′ .is-short)) (body-same t t′ (k .is-block ∙ sym (k′ .is-block))))
     ∙ sym (meaning-told t′ (k′ .is-near))
 
--- ---- "A Done length is at most 3 x D - 11"
+-- ---- the bound, in document 01's words: "A Done length is at most 3 x D - 11"
 
 pub length-done : (s : List ℕ) (room : ℕ) (q : List ℕ) → Bytes s → pack s room ≡ Done q → length q + 11 ≤ 3 * sheetDistance s
 unfolding blockSize
@@ -244,7 +244,8 @@ length-done s room q small e =
       is-main s (h .start) (h .bytes) (h .is-cut) .is-distance,
     )
 
--- ---- "the bytes of the note change nothing, so two sheets that differ only there, at equal length, get equal answers and output"
+-- ---- the note, in document 01's words: "the bytes of the note change nothing, so two sheets that differ only there, at equal
+-- length, get equal answers and output"
 
 -- how many bytes stand before the main body, by the trailer
 unfoldable pub noteLength : List ℕ → ℕ

@@ -431,7 +431,7 @@ module _ (bits : ℕ → ℕ → ℕ) (small : (l p : ℕ) → bits l p < 65536)
   pub unpack-back : (t : Actions) → BodyFits t → body [] (unpack (length (bodyBytes bits t 0)) (bodyBytes bits t 0)) ≡ toldBody bits t 0
   unpack-back t h = unpack-body t 0 (length (bodyBytes bits t 0)) h (omega (arith, length-body bits t 0))
 
--- equal bytes tell the same
+-- of blocks: equal bytes tell the same tree (layout has a same-told of its own, which is about what is told of an answer)
 pub same-told : (w w′ : ℕ → ℕ → ℕ) → ((l p : ℕ) → w l p < 65536) → ((l p : ℕ) → w′ l p < 65536) → (t t′ : Actions) → BodyFits t → BodyFits t′
     → bodyBytes w t 0 ≡ bodyBytes w′ t′ 0 → toldBody w t 0 ≡ toldBody w′ t′ 0
 same-told w w′ hw hw′ t t′ h h′ e =

@@ -1,25 +1,22 @@
--- The order of the answers, one allowed outcome for each input, and the value of an answer read back from its eight bytes.
--- Assumes nothing.
-use mathlib.Core.Path.{_≡_, refl, sym, ap, ap₂, _∙_}
+-- The order of the answers, one allowed outcome for each input, and any number that an i64 holds read back from its eight
+-- bytes. Assumes nothing.
+use mathlib.Core.Path.{_≡_, sym, ap, _∙_}
 use Prim.Native.Nat.{ℕ, _+_, _-_, _*_, _/_, _%_, _≤_, _<_}
 use native.Mathlib.Omega.{arith}
-use mathlib.Core.Bool.{Bool, true, false}
-use mathlib.Core.Option.{Option, none, some}
-use mathlib.Core.List.{List, [], _∷_, _++_}
-use lib.ListN.{length, getD}
+use mathlib.Core.Option.{none, some}
+use mathlib.Core.List.{List}
 use lib.IntN.{ℤ, pos, negsuc}
-use lib.Dec.{leb, ltb}
+use lib.Dec.{ltb}
 use borrow.Author.Tests.{le-leb, lt-leb, lt-ltb, le-ltb}
 use Rattle.layout.specs.Lists.{pick}
 use Rattle.layout.specs.Numbers.{le16, le32, le64, bits64, i64Bytes, u64At}
-use Rattle.layout.specs.Answers.{Refusal, ReadingFault, NoRoom, Answer, Done, Refused, Told, number, value, lengthOf, valueBytes, Fault}
-use Rattle.layout.specs.Tree.{Actions, ActionsOf}
-use Rattle.layout.specs.Read.{Text, edition1, deepest, Place, Read, got, bad, readMain}
-use Rattle.layout.specs.Strings.{mapBody}
+use Rattle.layout.specs.Answers.{Refusal, ReadingFault, NoRoom, Answer, Done, Refused, Told, Fault}
+use Rattle.layout.specs.Tree.{Actions}
+use Rattle.layout.specs.Read.{edition1, deepest, Place, bad, readMain}
 use Rattle.layout.specs.Write.{events, blockBytes, blockSize}
 use Rattle.layout.specs.Judge.{tooLong, tooFar, orElse, judge}
-use Rattle.layout.specs.Cut.{Cut, main, uncut, cut}
-use Rattle.layout.specs.Pack.{unless, ifRoom, packTree, spelling, packRead, packCut, pack, Outcome, ReadsAs}
+use Rattle.layout.specs.Cut.{main, uncut, cut}
+use Rattle.layout.specs.Pack.{unless, ifRoom, packTree, packRead, packCut, pack, Outcome, ReadsAs}
 
 -- ---- 1, 2; then 3 to 7; then 8 and 9; then 10; then 11
 
@@ -61,9 +58,11 @@ module _ (t : Actions) (room : ℕ) where
 
 -- ---- any two outcomes allowed for one input are equal
 
+-- of an answer: one number and one value are told of it (laws has a same-told of its own, which is about equal bytes)
 pub same-told : {A : Type 0} {done : A → ℤ} {a : Answer A} {n n′ : ℕ} {v v′ : ℤ} → Told done a n v → Told done a n′ v′ → (n ≡ n′) × (v ≡ v′)
 same-told h h′ = (h .is-number ∙ sym (h′ .is-number), h .is-value ∙ sym (h′ .is-value))
 
+-- of a call: number, value and every byte of the output
 pub same-outcome : {s o : List ℕ} {n n′ : ℕ} {v v′ : ℤ} {after after′ : List ℕ} → Outcome s o n v after → Outcome s o n′ v′ after′
     → (n ≡ n′) × (v ≡ v′) × (after ≡ after′)
 same-outcome h h′ =

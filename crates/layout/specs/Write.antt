@@ -45,7 +45,9 @@ pub record Position : Type 0 where
 unfoldable pub moved : ℕ → Position → Position
 moved n s = record { at = s .at + n }
 
--- a label recorded where the writer stands; a branch, its operand standing there; a payload or a body that is too long
+-- A label recorded where the writer stands; a branch, its operand standing there; a payload or a body that is too long. The
+-- last two have the position of the action whose payload it is or that owns the body: it says which action is meant, and no
+-- answer of the base uses it
 pub data Event : Type 0 where
   labelAt : (label : ℕ) (position : Position) → Event
   branchAt : (label : ℕ) (operand : Position) → Event
