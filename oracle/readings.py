@@ -1,0 +1,124 @@
+#!/usr/bin/env python3
+"""Writes crates/read_sheets/stdin, sheets that meet 2 to 7 at every kind of place, and stdout, what the oracle's reader says of each.
+
+Run in the checkout after the oracle is built: python3 oracle/readings.py
+"""
+import struct
+import subprocess
+
+CRATE = "crates/read_sheets"
+ORACLE = "oracle/target/release/oracle"
+
+
+def u16(n):
+    return struct.pack("<H", n)
+
+
+def string(s):
+    return u16(len(s)) + s
+
+
+def body(*actions, labels=()):
+    return u16(len(labels)) + b"".join(u16(l) + u16(i) for l, i in labels) + u16(len(actions)) + b"".join(actions)
+
+
+def sheet(main, note=b"", distance=None):
+    return note + main + struct.pack("<IH", len(main) if distance is None else distance, 1) + b"A1"
+
+
+def function2(flags):
+    return b"\x8e" + string(b"f") + u16(1) + b"\x02" + string(b"p") + b"\x05" + u16(flags) + body()
+
+
+def nested(depth):
+    """A main body in which bodies stand to this depth, the main body counted."""
+    return body() if depth == 1 else body(b"\x94" + nested(depth - 1))
+
+
+def attempt(shape, target=b""):
+    bodies = 1 + shape % 2 + shape // 2 % 2
+    return b"\x8f" + bytes([shape]) + target + body(b"\x17") * bodies
+
+
+GOOD = body(
+    b"\x96" + u16(4) + b"\x00" + string(b"abc") + b"\x05\x01" + b"\x06" + bytes(8) + b"\x08" + u16(300),
+    b"\x9d" + u16(3),
+    attempt(3, string(b"e")),
+    function2(511),
+    b"\x9a\x01\x00\xff",
+    labels=[(3, 1), (1023, 5)],
+)
+
+
+def sheets():
+    # a good sheet, after a note, cut at every byte of its main body; and its trailer cut
+    for n in range(len(GOOD) + 1):
+        yield sheet(GOOD[:n], note=b"note")
+    whole = sheet(GOOD)
+    for n in range(1, 9):
+        yield whole[:-n]
+    # D too large, 0 and too small; another edition; another mark
+    for d in (len(GOOD) + 1, 4294967295, 0, 1, len(GOOD) - 1):
+        yield sheet(GOOD, distance=d)
+    yield whole[:-4] + b"\x02\x00A1"
+    yield whole[:-2] + b"A2"
+    yield whole[:-2] + b"B1"
+    # left over
+    yield sheet(GOOD + b"\x00")
+    yield sheet(body() + body())
+    # a NUL first, in the middle and last; a string cut at its length and at its bytes
+    for s in (b"\x00bc", b"a\x00c", b"ab\x00", b"\x00\x00\x00", b"", b"\xff\xfe\x80"):
+        yield sheet(body(b"\x8b" + string(s)))
+    yield sheet(body(b"\x8b" + b"\x03"))
+    yield sheet(body(b"\x8b" + u16(3) + b"ab"))
+    # label numbers 1,023 and 1,024, equal and falling ones, in entries and in branches
+    for labels in ([(1023, 0)], [(1024, 0)], [(5, 0), (5, 1)], [(5, 0), (4, 0)], [(0, 65535), (1, 0)], [(7, 0), (65535, 0)]):
+        yield sheet(body(b"\x17", labels=labels))
+    for label in (0, 1023, 1024, 65535):
+        yield sheet(body(b"\x99" + u16(label)))
+        yield sheet(body(b"\x9d" + u16(label)))
+    # depth 16 and 17, and a chain cut right at the body of depth 17
+    yield sheet(nested(16))
+    yield sheet(nested(17))
+    yield sheet(nested(17)[: nested(17).rindex(b"\x94") + 1])
+    yield sheet(nested(40))
+    # every byte as the first action's opcode, alone and with bytes after it
+    for op in range(256):
+        yield sheet(body(bytes([op])))
+        yield sheet(body(bytes([op]) + bytes(6)))
+    # every push kind, and a boolean of 2
+    for kind in range(256):
+        yield sheet(body(b"\x96" + u16(1) + bytes([kind]) + bytes(2)))
+    for flag in (0, 1, 2, 255):
+        yield sheet(body(b"\x96" + u16(1) + b"\x05" + bytes([flag])))
+        yield sheet(body(b"\x9a" + bytes([flag]) + b"\x00\x00"))
+        yield sheet(body(b"\x9a\x01" + bytes([flag]) + b"\x00"))
+        yield sheet(body(b"\x9f" + u16(1) + bytes([flag])))
+    # every Try shape, with a name and with a register
+    for shape in range(256):
+        yield sheet(body(attempt(shape, string(b"e"))))
+    for shape in range(8):
+        yield sheet(body(attempt(shape, b"\x03")))
+        yield sheet(body(attempt(shape)))
+    # flags up to bit 8, and from bit 9 on
+    for flags in (0, 511, 512, 1023, 32768, 65535):
+        yield sheet(body(function2(flags)))
+
+
+def main():
+    questions = [struct.pack("<I", len(s)) + s + struct.pack("<I", 1 << 20) for s in sheets()]
+    stream = b"".join(questions)
+    assert len(stream) <= 65536, len(stream)
+    answers = subprocess.run([ORACLE, "stream"], input=stream, stdout=subprocess.PIPE, check=True).stdout
+    lines, at = [], 0
+    while at < len(answers):
+        number, value, length = struct.unpack_from("<BqI", answers, at)
+        at += 13 + length
+        lines.append(f"{number} {value}\n" if 1 <= number <= 7 else "0 0\n")
+    assert len(lines) == len(questions)
+    open(f"{CRATE}/stdin", "wb").write(stream)
+    open(f"{CRATE}/stdout", "w").write("".join(lines))
+
+
+if __name__ == "__main__":
+    main()
