@@ -1,0 +1,82 @@
+use borrow.Author.Needs.{needs}
+use Rattle.encode.proofs.write_catch_target.Statement.{statement}
+use Rattle.encode.proofs.write_catch_target.Tie as tie
+use Rattle.encode.proofs.write_catch_target.Reads as reads
+use Rattle.encode.proofs.write_catch_target.Lts as lts
+use Rattle.encode.proofs.write_kind.Reads as write-kind-reads
+use Rattle.fields.proofs.write_string.Reads as write-string-reads
+
+-- src/lib.rt:377:44
+enum-told : tie.Need-enum-told
+enum-told c = search needs
+
+-- src/lib.rt:377:33
+write-kind-requires : tie.Need-write-kind-requires
+write-kind-requires c κs = ?
+
+-- src/lib.rt:378:31
+enum-known-t : tie.Need-enum-known-t
+enum-known-t c = search needs
+
+-- src/lib.rt:379:13
+write-string-requires : tie.Need-write-string-requires
+write-string-requires c κs = ?
+
+-- src/lib.rt:382:22
+add-t14 : tie.Need-add-t14
+add-t14 c = ?
+
+-- src/lib.rt:382:22
+add-t15 : tie.Need-add-t15
+add-t15 c = ?
+
+-- src/lib.rt:385:31
+enum-known-t-2 : tie.Need-enum-known-t-2
+enum-known-t-2 c = search needs
+
+-- src/lib.rt:385:37
+write-kind-requires-2 : tie.Need-write-kind-requires-2
+write-kind-requires-2 c κs = ?
+
+-- src/lib.rt:372:1
+same-length : tie.Need-same-length
+same-length c = search needs
+
+-- src/lib.rt:372:1
+returns : tie.Need-returns
+returns c = ?
+
+-- src/lib.rt:372:1
+same-length-2 : tie.Need-same-length-2
+same-length-2 c = search needs
+
+-- src/lib.rt:372:1
+returns-2 : tie.Need-returns-2
+returns-2 c = ?
+
+-- src/lib.rt:372:1
+same-length-3 : tie.Need-same-length-3
+same-length-3 c = search needs
+
+-- src/lib.rt:372:1
+returns-3 : tie.Need-returns-3
+returns-3 c = ?
+
+pub write-catch-target-spec : {M : Type 1} → statement M
+write-catch-target-spec =
+    tie.close
+    (tie.spec
+    enum-told
+    write-kind-requires
+    enum-known-t
+    write-string-requires
+    add-t14
+    add-t15
+    enum-known-t-2
+    write-kind-requires-2
+    same-length
+    returns
+    same-length-2
+    returns-2
+    same-length-3
+    returns-3)

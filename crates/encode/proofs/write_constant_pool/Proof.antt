@@ -1,0 +1,58 @@
+use borrow.Author.Needs.{needs}
+use Rattle.encode.proofs.write_constant_pool.Statement.{statement}
+use Rattle.encode.proofs.write_constant_pool.Tie as tie
+use Rattle.encode.proofs.write_constant_pool.Reads as reads
+use Rattle.encode.proofs.write_constant_pool.Lts as lts
+use Rattle.encode.proofs.write_strings.Reads as write-strings-reads
+use Rattle.fields.proofs.write_u16.Reads as write-u16-reads
+use Rattle.writer.proofs.write_action_header.Reads as write-action-header-reads
+
+-- src/lib.rt:324:20
+add-write-u16 : tie.Need-add-write-u16
+add-write-u16 c = search needs
+
+-- src/lib.rt:324:5
+write-u16-requires : tie.Need-write-u16-requires
+write-u16-requires c κs = ?
+
+-- src/lib.rt:325:32
+add-write-strings : tie.Need-add-write-strings
+add-write-strings c = search needs
+
+-- src/lib.rt:325:9
+write-strings-requires : tie.Need-write-strings-requires
+write-strings-requires c κs = ?
+
+-- src/lib.rt:326:67
+add-write-action-header : tie.Need-add-write-action-header
+add-write-action-header c = search needs
+
+-- src/lib.rt:326:58
+sub-write-action-header : tie.Need-sub-write-action-header
+sub-write-action-header c = search needs
+
+-- src/lib.rt:326:5
+write-action-header-requires : tie.Need-write-action-header-requires
+write-action-header-requires c κs = ?
+
+-- src/lib.rt:320:1
+same-length : tie.Need-same-length
+same-length c = search needs
+
+-- src/lib.rt:320:1
+returns : tie.Need-returns
+returns c = ?
+
+pub write-constant-pool-spec : {M : Type 1} → statement M
+write-constant-pool-spec =
+    tie.close
+    (tie.spec
+    add-write-u16
+    write-u16-requires
+    add-write-strings
+    write-strings-requires
+    add-write-action-header
+    sub-write-action-header
+    write-action-header-requires
+    same-length
+    returns)

@@ -1,0 +1,47 @@
+use borrow.Author.Needs.{needs}
+use Rattle.encode.proofs.write_push.Statement.{statement}
+use Rattle.encode.proofs.write_push.Tie as tie
+use Rattle.encode.proofs.write_push.Reads as reads
+use Rattle.encode.proofs.write_push.Lts as lts
+use Rattle.encode.proofs.write_push_values.Reads as write-push-values-reads
+use Rattle.writer.proofs.write_action_header.Reads as write-action-header-reads
+
+-- src/lib.rt:311:36
+add-write-push-values : tie.Need-add-write-push-values
+add-write-push-values c = search needs
+
+-- src/lib.rt:311:9
+write-push-values-requires : tie.Need-write-push-values-requires
+write-push-values-requires c κs = ?
+
+-- src/lib.rt:312:58
+add-write-action-header : tie.Need-add-write-action-header
+add-write-action-header c = search needs
+
+-- src/lib.rt:312:49
+sub-write-action-header : tie.Need-sub-write-action-header
+sub-write-action-header c = search needs
+
+-- src/lib.rt:312:5
+write-action-header-requires : tie.Need-write-action-header-requires
+write-action-header-requires c κs = ?
+
+-- src/lib.rt:307:1
+same-length : tie.Need-same-length
+same-length c = search needs
+
+-- src/lib.rt:307:1
+returns : tie.Need-returns
+returns c = ?
+
+pub write-push-spec : {M : Type 1} → statement M
+write-push-spec =
+    tie.close
+    (tie.spec
+    add-write-push-values
+    write-push-values-requires
+    add-write-action-header
+    sub-write-action-header
+    write-action-header-requires
+    same-length
+    returns)

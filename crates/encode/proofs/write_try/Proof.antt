@@ -1,0 +1,89 @@
+use borrow.Author.Needs.{needs}
+use Rattle.encode.proofs.write_try.Statement.{statement}
+use Rattle.encode.proofs.write_try.Tie as tie
+use Rattle.encode.proofs.write_try.Reads as reads
+use Rattle.encode.proofs.write_try.Lts as lts
+use Rattle.encode.proofs.write_catch_target.Reads as write-catch-target-reads
+use Rattle.fields.proofs.write_u16.Reads as write-u16-reads
+use Rattle.fields.proofs.write_u8.Reads as write-u8-reads
+use Rattle.writer.proofs.write_action_header.Reads as write-action-header-reads
+
+-- src/lib.rt:394:19
+add-write-u8 : tie.Need-add-write-u8
+add-write-u8 c = search needs
+
+-- src/lib.rt:394:5
+write-u8-requires : tie.Need-write-u8-requires
+write-u8-requires c κs = ?
+
+-- src/lib.rt:395:20
+add-write-u16 : tie.Need-add-write-u16
+add-write-u16 c = search needs
+
+-- src/lib.rt:395:5
+write-u16-requires : tie.Need-write-u16-requires
+write-u16-requires c κs = ?
+
+-- src/lib.rt:396:20
+add-write-u16-2 : tie.Need-add-write-u16-2
+add-write-u16-2 c = search needs
+
+-- src/lib.rt:396:5
+write-u16-requires-2 : tie.Need-write-u16-requires-2
+write-u16-requires-2 c κs = ?
+
+-- src/lib.rt:397:20
+add-write-u16-3 : tie.Need-add-write-u16-3
+add-write-u16-3 c = search needs
+
+-- src/lib.rt:397:5
+write-u16-requires-3 : tie.Need-write-u16-requires-3
+write-u16-requires-3 c κs = ?
+
+-- src/lib.rt:398:37
+add-write-catch-target : tie.Need-add-write-catch-target
+add-write-catch-target c = search needs
+
+-- src/lib.rt:398:9
+write-catch-target-requires : tie.Need-write-catch-target-requires
+write-catch-target-requires c κs = ?
+
+-- src/lib.rt:399:57
+add-write-action-header : tie.Need-add-write-action-header
+add-write-action-header c = search needs
+
+-- src/lib.rt:399:48
+sub-write-action-header : tie.Need-sub-write-action-header
+sub-write-action-header c = search needs
+
+-- src/lib.rt:399:5
+write-action-header-requires : tie.Need-write-action-header-requires
+write-action-header-requires c κs = ?
+
+-- src/lib.rt:390:1
+same-length : tie.Need-same-length
+same-length c = search needs
+
+-- src/lib.rt:390:1
+returns : tie.Need-returns
+returns c = ?
+
+pub write-try-spec : {M : Type 1} → statement M
+write-try-spec =
+    tie.close
+    (tie.spec
+    add-write-u8
+    write-u8-requires
+    add-write-u16
+    write-u16-requires
+    add-write-u16-2
+    write-u16-requires-2
+    add-write-u16-3
+    write-u16-requires-3
+    add-write-catch-target
+    write-catch-target-requires
+    add-write-action-header
+    sub-write-action-header
+    write-action-header-requires
+    same-length
+    returns)

@@ -1,0 +1,145 @@
+-- Pieces of the block: bytes to write, and the place where reading goes on. Assumes nothing.
+use mathlib.Core.Path.{_≡_}
+use Prim.Native.Nat.{ℕ, _+_, _≤_}
+use mathlib.Core.Bool.{false}
+use mathlib.Core.List.{List, [], _∷_, _++_}
+use lib.ListN.{length, getD}
+use lib.Seq.{sets}
+use Rattle.layout.specs.Numbers.{u16At, le16}
+use Rattle.layout.specs.Tree.{Flat, PushValueOf, FunctionParamOf, functionParam}
+use Rattle.layout.specs.Read.{Text, edition1, Place, ahead, Read, got, bad, Reader, repeat, readString, readParam, readValue}
+use Rattle.layout.specs.Payload.{zeroEnded, pushBytes, opcode, payload, headed, framed}
+use Rattle.layout.specs.Strings.{mapValue}
+use Rattle.layout.specs.Pack.{spelling}
+use Rattle.fields.specs.Runs.{part}
+use Rattle.pcode.specs.declared.Span.{Span}
+use Rattle.pcode.specs.declared.Function.{Function}
+use Rattle.pcode.specs.declared.CatchTarget.{CatchTarget}
+use Rattle.pcode.specs.declared.CatchTarget.the-variants as target
+use Rattle.pcode.specs.Shown.{place, after}
+use Rattle.encode.specs.declared.Ends.{Ends}
+
+-- ---- what is to be written
+
+-- bytes, and the place in the main body after what they stand for
+abbrev pub Piece : Type 0
+Piece = Read (List ℕ)
+
+-- these bytes, and this place
+abbrev pub piece : List ℕ → ℕ → Piece
+piece s next = got s (place next)
+
+-- a header and a payload
+abbrev pub action : ℕ → List ℕ → ℕ → Piece
+action op q next = piece (headed false op q) next
+
+-- an action without a body, as the definitions write it
+abbrev pub flatPiece : Flat → ℕ → Piece
+flatPiece f next = piece (framed (opcode f) (payload f)) next
+
+abbrev pub bytesOf : Piece → List ℕ
+bytesOf (got s q) = s
+bytesOf (bad f q) = []
+
+abbrev pub nextOf : Piece → ℕ
+nextOf (got s q) = q .at
+nextOf (bad f q) = 0
+
+-- what was read, as bytes
+abbrev pub written : {A : Type 0} → (A → List ℕ) → Read A → Piece
+written f (got a q) = got (f a) q
+written f (bad e q) = bad e q
+
+-- a reading that gave something
+abbrev pub Reads : {A : Type 0} → Read A → Type 0
+Reads (got a q) = Unit {0}
+Reads (bad f q) = ⊥
+
+-- what the writing of a piece asks: its bytes are known, they have room at a position, and the sums fit
+pub record Room (x : Piece) (pos : ℕ) (out : List ℕ) : Type 0 where
+  pub known : Reads x
+  pub room : pos + length (bytesOf x) ≤ length out
+  pub sums : length out ≤ 1099511627776
+
+-- what it leaves: the bytes from the position on, and r, which holds the place and the position after them
+pub record Put (x : Piece) (pos : ℕ) (out out′ : List ℕ) (r : Ends) : Type 0 where
+  pub wrote : out′ ≡ sets out pos (bytesOf x)
+  pub end : r .pos ≡ pos + length (bytesOf x)
+  pub next : r .next ≡ nextOf x
+
+-- ---- the elements of lists
+
+-- a string
+unfoldable pub stringBytes : Text → List ℕ
+stringBytes s = zeroEnded (spelling s)
+
+-- a parameter of a DefineFunction2
+unfoldable pub paramBytes : FunctionParamOf Text → List ℕ
+paramBytes (functionParam r s) = r ∷ zeroEnded (spelling s)
+
+-- a push value
+unfoldable pub valueBytes : PushValueOf Text → List ℕ
+valueBytes v = pushBytes (mapValue spelling v)
+
+-- the bytes of each element, one after the other
+unfoldable pub joined : {A : Type 0} → (A → List ℕ) → List A → List ℕ
+joined f [] = []
+joined f (a ∷ xs) = f a ++ joined f xs
+
+-- the payloads of a DefineFunction and a DefineFunction2 whose parameters are these bytes, the body's length still 0
+unfoldable pub functionPayload : List ℕ → ℕ → List ℕ → List ℕ
+functionPayload name count params = (zeroEnded name ++ (le16 count ++ params)) ++ le16 0
+
+unfoldable pub function2Payload : List ℕ → ℕ → ℕ → ℕ → List ℕ → List ℕ
+function2Payload name count registers flags params = (zeroEnded name ++ (le16 count ++ (registers ∷ (le16 flags ++ params)))) ++ le16 0
+
+module _ (b : List ℕ) where
+  -- the string, the parameter and the push value at p
+  abbrev pub stringAt : ℕ → Piece
+  stringAt p = written stringBytes (readString edition1 b (place p))
+
+  abbrev pub paramAt : ℕ → Piece
+  paramAt p = written paramBytes (readParam edition1 b (place p))
+
+  abbrev pub valueAt : ℕ → Piece
+  valueAt p = written valueBytes (readValue edition1 b (place p))
+
+  -- n of them from p on
+  abbrev pub stringsAt : ℕ → ℕ → Piece
+  stringsAt n p = written (joined stringBytes) (repeat (readString edition1 b) n (place p))
+
+  abbrev pub paramsAt : ℕ → ℕ → Piece
+  paramsAt n p = written (joined paramBytes) (repeat (readParam edition1 b) n (place p))
+
+  abbrev pub valuesAt : ℕ → ℕ → Piece
+  valuesAt n p = written (joined valueBytes) (repeat (readValue edition1 b) n (place p))
+
+  -- ---- what else an action holds
+
+  -- a span's bytes
+  abbrev pub spanOf : Span → List ℕ
+  spanOf s = part b (s .at) (s .len)
+
+  -- a catch target
+  unfoldable pub targetBytes : CatchTarget → List ℕ
+  targetBytes target.Nothing = 0 ∷ []
+  targetBytes (target.Variable s) = zeroEnded (spanOf s)
+  targetBytes (target.Register r) = r ∷ []
+
+  -- its name, if it has one, lies within b
+  unfoldable pub TargetWithin : CatchTarget → Type 0
+  TargetWithin target.Nothing = Unit {0}
+  TargetWithin (target.Variable s) = after s ≤ length b
+  TargetWithin (target.Register r) = Unit {0}
+
+  -- a DefineFunction, whose body's length is still 0
+  abbrev pub function : Function → Piece
+  function f = written (λ q. headed false 0x9B (functionPayload (spanOf (f .name)) (f .count) q)) (stringsAt (f .count) (f .at))
+
+  -- a DefineFunction2 with its parameters: the byte and the u16 behind them come before them, and then reading goes on
+  abbrev pub function2Of : Function → Piece → Piece
+  function2Of f (got q r) = got (headed false 0x8E (function2Payload (spanOf (f .name)) (f .count) (getD b (r .at) 0) (u16At b (r .at + 1)) q)) (ahead 3 r)
+  function2Of f (bad e r) = bad e r
+
+  abbrev pub function2 : Function → Piece
+  function2 f = function2Of f (paramsAt (f .count) (f .at))
