@@ -11,7 +11,8 @@ use lib.Seq.{sets, set-comm, length-sets}
 use lib.Dec.{leb, ltb, eqb}
 use borrow.Author.Tests.{lt-ltb, le-ltb, ltb-true, ltb-false, leb-true}
 use Rattle.layout.specs.Numbers.{le16, bits64, bit}
-use Rattle.layout.specs.OpCode.{OpCode, byte}
+use Rattle.layout.specs.Read.{got, bad}
+use Rattle.layout.specs.OpCode.{byte}
 use Rattle.layout.specs.Tree.{GetUrl, WaitForFrame, GetUrl2, GotoFrame2}
 use Rattle.layout.specs.Payload.{zeroEnded, constantBytes, opcode, payload, getUrl2Bits, gotoFrame2Bytes, headed, framed}
 use Rattle.layout.specs.Lengths.{length-le16, length-zeroEnded}
@@ -44,6 +45,10 @@ sets-before l (x ∷ a) b i =
 pub before-then : {m n : List ℕ} (l : List ℕ) (i : ℕ) (a b : List ℕ) (w : ℕ) → length a ≡ w → m ≡ sets l (i + w) b → n ≡ sets m i a → n ≡ sets l i (a ++ b)
 before-then l i a b w k e f = f ∙ rw (e, ← k) (sets-before l a b i)
 
+-- one run after another, stored from place `at` on
+pub run-then : {m n : List ℕ} (l : List ℕ) (i : ℕ) (a b : List ℕ) (at : ℕ) → at ≡ i + length a → m ≡ sets l i a → n ≡ sets m at b → n ≡ sets l i (a ++ b)
+run-then l i a b at h e f = sets-then l i a b (length a) refl e (rw h at f)
+
 -- ---- lengths
 
 -- a header has three bytes
@@ -54,6 +59,21 @@ length-action op q = omega arith
 -- a span within b, with its zero byte
 pub length-span : (b : List ℕ) (s : Span) → after s ≤ length b → length (zeroEnded (spanOf b s)) ≡ s .len + 1
 length-span b s h = length-zeroEnded (spanOf b s) ∙ ap (λ (n : ℕ). n + 1) (length-part b (s .at) (s .len) h)
+
+-- ---- what a piece gives that is made of another
+
+module _ (f : List ℕ → List ℕ) where
+  pub written-known : (x : Piece) → Reads (written f x) → Reads x
+  written-known (got s q) k = tt
+  written-known (bad e q) k = absurd k
+
+  pub written-bytes : (x : Piece) → Reads (written f x) → bytesOf (written f x) ≡ f (bytesOf x)
+  written-bytes (got s q) k = refl
+  written-bytes (bad e q) k = absurd k
+
+  pub written-next : (x : Piece) → nextOf (written f x) ≡ nextOf x
+  written-next (got s q) = refl
+  written-next (bad e q) = refl
 
 -- ---- a header and a payload
 
@@ -80,7 +100,7 @@ module _ (op : ℕ) (q : List ℕ) {next pos : ℕ} {out : List ℕ} where
 pub action-two : (op : ℕ) (a b : List ℕ) {next pos end : ℕ} {out m n out′ : List ℕ} (at len : ℕ) → at ≡ pos + 3 + length a → len ≡ length (a ++ b)
     → m ≡ sets out pos (op ∷ le16 len) → n ≡ sets m (pos + 3) a → out′ ≡ sets n at b → end ≡ pos + 3 + length (a ++ b)
     → Put (action op (a ++ b) next) pos out out′ (record { next = next; pos = end })
-action-two op a b {pos = pos} {m = m} at len h k e f g i = action-put op (a ++ b) len k e (sets-then m (pos + 3) a b (length a) refl f (rw h at g)) i
+action-two op a b {pos = pos} {m = m} at len h k e f g i = action-put op (a ++ b) len k e (run-then m (pos + 3) a b at h f g) i
 
 -- a byte, and then the rest
 pub byte-put : {x : ℕ} {s : List ℕ} {next pos end : ℕ} {out m out′ : List ℕ} → m ≡ sets out pos (x ∷ []) → out′ ≡ sets m (pos + 1) s → end ≡ pos + 1 + length s

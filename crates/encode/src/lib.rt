@@ -336,7 +336,7 @@ fn write_define_function(out: &mut [u8], pos: usize, b: &[u8], f: Function) -> E
     ensures { λ r. ⌜ Put (function (now (b .entry)) f) pos (now (out .entry)) (now (out .exit)) r ⌝ }
 {
     let name = f.name;
-    let w = pos + 3 + name.len + 1;
+    let w = pos + 3 + (name.len + 1);
     write_string(out, pos + 3, b, name.at, name.len);
     write_u16(out, w, f.count);
     let e = write_strings(out, w + 2, b, f.count, f.at);
@@ -354,17 +354,18 @@ fn write_define_function_2(out: &mut [u8], pos: usize, b: &[u8], f: Function) ->
     ensures { λ r. ⌜ Put (function2 (now (b .entry)) f) pos (now (out .entry)) (now (out .exit)) r ⌝ }
 {
     let name = f.name;
-    let w = pos + 3 + name.len + 1;
+    let w = pos + 3 + (name.len + 1);
     write_string(out, pos + 3, b, name.at, name.len);
     write_u16(out, w, f.count);
     let e = write_params(out, w + 5, b, f.count, f.at);
-    let next = e.next;
-    write_u8(out, w + 2, b[next]);
-    write_u16(out, w + 3, u16_at(b, next + 1));
+    let registers = e.next;
+    let body = registers + 3;
+    write_u8(out, w + 2, b[registers]);
+    write_u16(out, w + 3, u16_at(b, registers + 1));
     write_u16(out, e.pos, 0);
     write_action_header(out, pos, OpCode::DEFINE_FUNCTION2, e.pos + 2 - (pos + 3));
     Ends {
-        next: next + 3,
+        next: body,
         pos: e.pos + 2,
     }
 }

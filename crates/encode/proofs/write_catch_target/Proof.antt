@@ -1,3 +1,8 @@
+use Rattle.encode.specs.Pieces.{targetBytes, TargetWithin}
+use denote.Ref.{now}
+use mathlib.Core.Path.{refl}
+use Rattle.encode.proofs.Puts as puts
+use native.Mathlib.Omega.{arith}
 use borrow.Author.Needs.{needs}
 use Rattle.encode.proofs.write_catch_target.Statement.{statement}
 use Rattle.encode.proofs.write_catch_target.Tie as tie
@@ -12,7 +17,8 @@ enum-told c = search needs
 
 -- src/lib.rt:377:33
 write-kind-requires : tie.Need-write-kind-requires
-write-kind-requires c κs = ?
+unfolding targetBytes
+write-kind-requires c κs = rw (c .before .enum-told .given .1) at (c .before .before .before .before .before .pre .1)
 
 -- src/lib.rt:378:31
 enum-known-t : tie.Need-enum-known-t
@@ -20,15 +26,24 @@ enum-known-t c = search needs
 
 -- src/lib.rt:379:13
 write-string-requires : tie.Need-write-string-requires
-write-string-requires c κs = ?
+unfolding targetBytes TargetWithin
+write-string-requires c κs = let p = rw (c .before .before .t .given .1) at (c .before .before .before .before .before .before .pre) in
+    let l = puts.length-span (now (c .before .before .before .before .before .before .args .b)) (c .before .before .t .given .0 .0) (p .0) in
+    (omega (arith, p .1 .room), omega (arith, p .0))
 
 -- src/lib.rt:382:22
 add-t14 : tie.Need-add-t14
-add-t14 c = ?
+unfolding targetBytes TargetWithin
+add-t14 c = let p = rw (c .before .before .before .before .before .before .t .given .1) at (c .before .before .before .before .before .before .before .before .before .before .pre) in
+    let l = puts.length-span (now (c .before .before .before .before .before .before .before .before .before .before .args .b)) (c .before .before .before .before .before .before .t .given .0 .0) (p .0) in
+    omega (arith, p .1 .room, p .1 .sums)
 
 -- src/lib.rt:382:22
 add-t15 : tie.Need-add-t15
-add-t15 c = ?
+unfolding targetBytes TargetWithin
+add-t15 c = let p = rw (c .before .before .before .before .before .before .t .given .1) at (c .before .before .before .before .before .before .before .before .before .before .pre) in
+    let l = puts.length-span (now (c .before .before .before .before .before .before .before .before .before .before .args .b)) (c .before .before .before .before .before .before .t .given .0 .0) (p .0) in
+    omega (arith, p .1 .room, p .1 .sums)
 
 -- src/lib.rt:385:31
 enum-known-t-2 : tie.Need-enum-known-t-2
@@ -36,7 +51,8 @@ enum-known-t-2 c = search needs
 
 -- src/lib.rt:385:37
 write-kind-requires-2 : tie.Need-write-kind-requires-2
-write-kind-requires-2 c κs = ?
+unfolding targetBytes
+write-kind-requires-2 c κs = rw (c .before .before .t2 .given .1) at (c .before .before .before .before .before .before .pre .1)
 
 -- src/lib.rt:372:1
 same-length : tie.Need-same-length
@@ -44,7 +60,8 @@ same-length c = search needs
 
 -- src/lib.rt:372:1
 returns : tie.Need-returns
-returns c = ?
+unfolding targetBytes
+returns c = rw (c .before .before .before .before .enum-told .given .1) (c .before .before .write-kind .ensures)
 
 -- src/lib.rt:372:1
 same-length-2 : tie.Need-same-length-2
@@ -52,7 +69,10 @@ same-length-2 c = search needs
 
 -- src/lib.rt:372:1
 returns-2 : tie.Need-returns-2
-returns-2 c = ?
+unfolding targetBytes TargetWithin
+returns-2 c = let p = rw (c .before .before .before .before .before .before .t .given .1) at (c .before .before .before .before .before .before .before .before .before .before .pre) in
+    let l = puts.length-span (now (c .before .before .before .before .before .before .before .before .before .before .args .b)) (c .before .before .before .before .before .before .t .given .0 .0) (p .0) in
+    rw (c .before .before .before .before .before .before .t .given .1) (record { wrote = c .before .before .before .write-string .ensures; end = omega arith; next = refl })
 
 -- src/lib.rt:372:1
 same-length-3 : tie.Need-same-length-3
@@ -60,7 +80,8 @@ same-length-3 c = search needs
 
 -- src/lib.rt:372:1
 returns-3 : tie.Need-returns-3
-returns-3 c = ?
+unfolding targetBytes
+returns-3 c = rw (c .before .before .before .before .before .t2 .given .1) (c .before .before .write-kind2 .ensures)
 
 pub write-catch-target-spec : {M : Type 1} → statement M
 write-catch-target-spec =

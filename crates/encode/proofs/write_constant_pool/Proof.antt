@@ -1,3 +1,8 @@
+use Rattle.encode.specs.Pieces.{stringsAt}
+use denote.Ref.{now}
+use mathlib.Core.Path.{refl}
+use Rattle.encode.proofs.Wholes as wholes
+use native.Mathlib.Omega.{arith}
 use borrow.Author.Needs.{needs}
 use Rattle.encode.proofs.write_constant_pool.Statement.{statement}
 use Rattle.encode.proofs.write_constant_pool.Tie as tie
@@ -13,7 +18,7 @@ add-write-u16 c = search needs
 
 -- src/lib.rt:324:5
 write-u16-requires : tie.Need-write-u16-requires
-write-u16-requires c κs = ?
+write-u16-requires c κs = let a = c .before .before .before .args in omega (arith, wholes.pool-room _ (stringsAt (now (a .b)) (a .n) (a .at)) (c .before .before .before .pre) {m = now (a .out)} refl .room)
 
 -- src/lib.rt:325:32
 add-write-strings : tie.Need-add-write-strings
@@ -21,7 +26,7 @@ add-write-strings c = search needs
 
 -- src/lib.rt:325:9
 write-strings-requires : tie.Need-write-strings-requires
-write-strings-requires c κs = ?
+write-strings-requires c κs = wholes.pool-room _ _ (c .before .before .before .before .before .before .before .pre) (c .before .before .before .write-u16 .kept .0)
 
 -- src/lib.rt:326:67
 add-write-action-header : tie.Need-add-write-action-header
@@ -33,7 +38,7 @@ sub-write-action-header c = search needs
 
 -- src/lib.rt:326:5
 write-action-header-requires : tie.Need-write-action-header-requires
-write-action-header-requires c κs = ?
+write-action-header-requires c κs = let a = c .before .before .before .before .before .before .before .before .before .before .before .before .args in omega (arith, wholes.pool-room _ (stringsAt (now (a .b)) (a .n) (a .at)) (c .before .before .before .before .before .before .before .before .before .before .before .before .pre) {m = now (a .out)} refl .room, c .before .before .before .before .before .before .before .before .write-u16 .kept .0, c .before .before .before .before .write-strings .kept .0)
 
 -- src/lib.rt:320:1
 same-length : tie.Need-same-length
@@ -41,7 +46,7 @@ same-length c = search needs
 
 -- src/lib.rt:320:1
 returns : tie.Need-returns
-returns c = ?
+returns c = wholes.pool-put _ _ (c .before .before .before .before .before .before .before .before .before .before .before .before .before .before .before .pre) (c .before .before .before .before .before .before .before .before .before .before .before .write-u16 .ensures) (c .before .before .before .before .before .before .before .write-strings .ensures) (c .before .before .write-action-header .ensures)
 
 pub write-constant-pool-spec : {M : Type 1} → statement M
 write-constant-pool-spec =

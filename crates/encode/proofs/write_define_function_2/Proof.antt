@@ -1,3 +1,7 @@
+use denote.Ref.{now}
+use mathlib.Core.Path.{_∙_}
+use Rattle.encode.proofs.Wholes as wholes
+use native.Mathlib.Omega.{arith}
 use borrow.Author.Needs.{needs}
 use Rattle.encode.proofs.write_define_function_2.Statement.{statement}
 use Rattle.encode.proofs.write_define_function_2.Tie as tie
@@ -14,7 +18,7 @@ use Rattle.writer.proofs.write_action_header.Reads as write-action-header-reads
 add-w : tie.Need-add-w
 add-w c = search needs
 
--- src/lib.rt:357:13
+-- src/lib.rt:357:24
 add-w-2 : tie.Need-add-w-2
 add-w-2 c = search needs
 
@@ -28,11 +32,11 @@ add-write-string c = search needs
 
 -- src/lib.rt:358:5
 write-string-requires : tie.Need-write-string-requires
-write-string-requires c κs = ?
+write-string-requires c κs = let a = c .before .before .before .before .before .args in let p = c .before .before .before .before .before .pre in let h = wholes.function2-space (now (a .b)) (a .f) (p .0) (p .2) in (omega arith, omega arith)
 
 -- src/lib.rt:359:5
 write-u16-requires : tie.Need-write-u16-requires
-write-u16-requires c κs = ?
+write-u16-requires c κs = let a = c .before .before .before .before .before .before .before .before .before .args in let p = c .before .before .before .before .before .before .before .before .before .pre in let h = wholes.function2-space (now (a .b)) (a .f) (p .0) (p .2) in omega (arith, c .before .before .before .write-string .kept .0)
 
 -- src/lib.rt:360:31
 add-write-params : tie.Need-add-write-params
@@ -40,71 +44,71 @@ add-write-params c = search needs
 
 -- src/lib.rt:360:9
 write-params-requires : tie.Need-write-params-requires
-write-params-requires c κs = ?
+write-params-requires c κs = let p = c .before .before .before .before .before .before .before .before .before .before .before .before .before .pre in wholes.function2-room _ _ (p .0) (p .2) (c .before .before .before .write-u16 .kept .0 ∙ c .before .before .before .before .before .before .before .write-string .kept .0)
 
--- src/lib.rt:362:19
+-- src/lib.rt:362:16
+add-body : tie.Need-add-body
+add-body c = let a = c .before .before .before .before .before .before .before .before .before .before .before .before .before .before .before .before .args in let p = c .before .before .before .before .before .before .before .before .before .before .before .before .before .before .before .before .pre in let h = wholes.function2-inside (now (a .b)) (a .f) (p .0) (p .2) (p .1) in omega (arith, c .before .before .write-params .ensures .next)
+
+-- src/lib.rt:363:19
 add-write-u8 : tie.Need-add-write-u8
 add-write-u8 c = search needs
 
--- src/lib.rt:362:26
+-- src/lib.rt:363:26
 shared-slice-read-write-u8 : tie.Need-shared-slice-read-write-u8
-shared-slice-read-write-u8 c = ?
+shared-slice-read-write-u8 c = let a = c .before .before .before .before .before .before .before .before .before .before .before .before .before .before .before .before .before .before .args in let p = c .before .before .before .before .before .before .before .before .before .before .before .before .before .before .before .before .before .before .pre in let h = wholes.function2-inside (now (a .b)) (a .f) (p .0) (p .2) (p .1) in omega (arith, c .before .before .before .before .write-params .ensures .next)
 
--- src/lib.rt:362:5
+-- src/lib.rt:363:5
 write-u8-requires : tie.Need-write-u8-requires
-write-u8-requires c κs = ?
+write-u8-requires c κs = let a = c .before .before .before .before .before .before .before .before .before .before .before .before .before .before .before .before .before .before .args in let p = c .before .before .before .before .before .before .before .before .before .before .before .before .before .before .before .before .before .before .pre in let h = wholes.function2-space (now (a .b)) (a .f) (p .0) (p .2) in omega (arith, c .before .before .before .before .write-params .kept .0, c .before .before .before .before .before .before .before .before .write-u16 .kept .0, c .before .before .before .before .before .before .before .before .before .before .before .before .write-string .kept .0)
 
--- src/lib.rt:363:20
+-- src/lib.rt:364:20
 add-write-u16 : tie.Need-add-write-u16
 add-write-u16 c = search needs
 
--- src/lib.rt:363:37
+-- src/lib.rt:364:37
 add-u16-at : tie.Need-add-u16-at
-add-u16-at c = ?
+add-u16-at c = let a = c .before .before .before .before .before .before .before .before .before .before .before .before .before .before .before .before .before .before .before .before .before .before .args in let p = c .before .before .before .before .before .before .before .before .before .before .before .before .before .before .before .before .before .before .before .before .before .before .pre in let h = wholes.function2-inside (now (a .b)) (a .f) (p .0) (p .2) (p .1) in omega (arith, c .before .before .before .before .before .before .before .before .write-params .ensures .next)
 
--- src/lib.rt:363:27
+-- src/lib.rt:364:27
 u16-at-requires : tie.Need-u16-at-requires
-u16-at-requires c κs = ?
-
--- src/lib.rt:363:5
-write-u16-requires-2 : tie.Need-write-u16-requires-2
-write-u16-requires-2 c κs = ?
+u16-at-requires c κs = let a = c .before .before .before .before .before .before .before .before .before .before .before .before .before .before .before .before .before .before .before .before .before .before .args in let p = c .before .before .before .before .before .before .before .before .before .before .before .before .before .before .before .before .before .before .before .before .before .before .pre in let h = wholes.function2-inside (now (a .b)) (a .f) (p .0) (p .2) (p .1) in omega (arith, c .before .before .before .before .before .before .before .before .write-params .ensures .next)
 
 -- src/lib.rt:364:5
+write-u16-requires-2 : tie.Need-write-u16-requires-2
+write-u16-requires-2 c κs = let a = c .before .before .before .before .before .before .before .before .before .before .before .before .before .before .before .before .before .before .before .before .before .before .before .args in let p = c .before .before .before .before .before .before .before .before .before .before .before .before .before .before .before .before .before .before .before .before .before .before .before .pre in let h = wholes.function2-space (now (a .b)) (a .f) (p .0) (p .2) in omega (arith, c .before .before .before .before .write-u8 .kept .0, c .before .before .before .before .before .before .before .before .before .write-params .kept .0, c .before .before .before .before .before .before .before .before .before .before .before .before .before .write-u16 .kept .0, c .before .before .before .before .before .before .before .before .before .before .before .before .before .before .before .before .before .write-string .kept .0)
+
+-- src/lib.rt:365:5
 write-u16-requires-3 : tie.Need-write-u16-requires-3
-write-u16-requires-3 c κs = ?
+write-u16-requires-3 c κs = let a = c .before .before .before .before .before .before .before .before .before .before .before .before .before .before .before .before .before .before .before .before .before .before .before .before .before .before .before .args in let p = c .before .before .before .before .before .before .before .before .before .before .before .before .before .before .before .before .before .before .before .before .before .before .before .before .before .before .before .pre in let h = wholes.function2-space (now (a .b)) (a .f) (p .0) (p .2) in omega (arith, c .before .before .before .before .before .before .before .before .before .before .before .before .before .write-params .ensures .end, c .before .before .before .write-u162 .kept .0, c .before .before .before .before .before .before .before .before .write-u8 .kept .0, c .before .before .before .before .before .before .before .before .before .before .before .before .before .write-params .kept .0, c .before .before .before .before .before .before .before .before .before .before .before .before .before .before .before .before .before .write-u16 .kept .0, c .before .before .before .before .before .before .before .before .before .before .before .before .before .before .before .before .before .before .before .before .before .write-string .kept .0)
 
--- src/lib.rt:365:61
+-- src/lib.rt:366:61
 add-write-action-header : tie.Need-add-write-action-header
-add-write-action-header c = ?
+add-write-action-header c = let a = c .before .before .before .before .before .before .before .before .before .before .before .before .before .before .before .before .before .before .before .before .before .before .before .before .before .before .before .before .before .before .before .before .args in let p = c .before .before .before .before .before .before .before .before .before .before .before .before .before .before .before .before .before .before .before .before .before .before .before .before .before .before .before .before .before .before .before .before .pre in let h = wholes.function2-space (now (a .b)) (a .f) (p .0) (p .2) in omega (arith, c .before .before .before .before .before .before .before .before .before .before .before .before .before .before .before .before .before .before .write-params .ensures .end)
 
--- src/lib.rt:365:74
+-- src/lib.rt:366:74
 add-write-action-header-2 : tie.Need-add-write-action-header-2
 add-write-action-header-2 c = search needs
 
--- src/lib.rt:365:61
+-- src/lib.rt:366:61
 sub-write-action-header : tie.Need-sub-write-action-header
 sub-write-action-header c = search needs
 
--- src/lib.rt:365:5
+-- src/lib.rt:366:5
 write-action-header-requires : tie.Need-write-action-header-requires
-write-action-header-requires c κs = ?
+write-action-header-requires c κs = let a = c .before .before .before .before .before .before .before .before .before .before .before .before .before .before .before .before .before .before .before .before .before .before .before .before .before .before .before .before .before .before .before .before .args in let p = c .before .before .before .before .before .before .before .before .before .before .before .before .before .before .before .before .before .before .before .before .before .before .before .before .before .before .before .before .before .before .before .before .pre in let h = wholes.function2-space (now (a .b)) (a .f) (p .0) (p .2) in omega (arith, c .before .before .before .before .write-u163 .kept .0, c .before .before .before .before .before .before .before .before .write-u162 .kept .0, c .before .before .before .before .before .before .before .before .before .before .before .before .before .write-u8 .kept .0, c .before .before .before .before .before .before .before .before .before .before .before .before .before .before .before .before .before .before .write-params .kept .0, c .before .before .before .before .before .before .before .before .before .before .before .before .before .before .before .before .before .before .before .before .before .before .write-u16 .kept .0, c .before .before .before .before .before .before .before .before .before .before .before .before .before .before .before .before .before .before .before .before .before .before .before .before .before .before .write-string .kept .0)
 
--- src/lib.rt:367:15
-add-t24 : tie.Need-add-t24
-add-t24 c = ?
-
--- src/lib.rt:368:14
-add-t9 : tie.Need-add-t9
-add-t9 c = ?
+-- src/lib.rt:369:14
+add-t25 : tie.Need-add-t25
+add-t25 c = let a = c .before .before .before .before .before .before .before .before .before .before .before .before .before .before .before .before .before .before .before .before .before .before .before .before .before .before .before .before .before .before .before .before .before .before .before .before .args in let p = c .before .before .before .before .before .before .before .before .before .before .before .before .before .before .before .before .before .before .before .before .before .before .before .before .before .before .before .before .before .before .before .before .before .before .before .before .pre in let h = wholes.function2-space (now (a .b)) (a .f) (p .0) (p .2) in omega (arith, c .before .before .before .before .before .before .before .before .before .before .before .before .before .before .before .before .before .before .before .before .before .before .write-params .ensures .end)
 
 -- src/lib.rt:352:1
 same-length : tie.Need-same-length
-same-length c = ?
+same-length c = c .before .before .before .write-action-header .kept .0 ∙ c .before .before .before .before .before .before .before .before .write-u163 .kept .0 ∙ c .before .before .before .before .before .before .before .before .before .before .before .before .write-u162 .kept .0 ∙ c .before .before .before .before .before .before .before .before .before .before .before .before .before .before .before .before .before .write-u8 .kept .0 ∙ c .before .before .before .before .before .before .before .before .before .before .before .before .before .before .before .before .before .before .before .before .before .before .write-params .kept .0 ∙ c .before .before .before .before .before .before .before .before .before .before .before .before .before .before .before .before .before .before .before .before .before .before .before .before .before .before .write-u16 .kept .0 ∙ c .before .before .before .before .before .before .before .before .before .before .before .before .before .before .before .before .before .before .before .before .before .before .before .before .before .before .before .before .before .before .write-string .kept .0
 
 -- src/lib.rt:352:1
 returns : tie.Need-returns
-returns c = ?
+returns c = let p = c .before .before .before .before .before .before .before .before .before .before .before .before .before .before .before .before .before .before .before .before .before .before .before .before .before .before .before .before .before .before .before .before .before .before .before .before .pre in wholes.function2-put _ _ (p .0) (p .2) (c .before .before .before .before .before .before .before .before .before .before .before .before .before .before .before .before .before .before .before .before .before .before .before .before .before .before .before .before .before .before .write-string .ensures) (c .before .before .before .before .before .before .before .before .before .before .before .before .before .before .before .before .before .before .before .before .before .before .before .before .before .before .write-u16 .ensures) (c .before .before .before .before .before .before .before .before .before .before .before .before .before .before .before .before .before .before .before .before .before .before .write-params .ensures) (c .before .before .before .before .before .before .before .before .before .before .before .before .before .before .before .before .before .write-u8 .ensures) (c .before .before .before .before .before .before .before .before .before .before .before .before .before .u16-at .ensures .0) (c .before .before .before .before .before .before .before .before .before .before .before .before .write-u162 .ensures) (c .before .before .before .before .before .before .before .before .write-u163 .ensures) (c .before .before .before .write-action-header .ensures)
 
 pub write-define-function-2-spec : {M : Type 1} → statement M
 write-define-function-2-spec =
@@ -118,6 +122,7 @@ write-define-function-2-spec =
     write-u16-requires
     add-write-params
     write-params-requires
+    add-body
     add-write-u8
     shared-slice-read-write-u8
     write-u8-requires
@@ -130,7 +135,6 @@ write-define-function-2-spec =
     add-write-action-header-2
     sub-write-action-header
     write-action-header-requires
-    add-t24
-    add-t9
+    add-t25
     same-length
     returns)

@@ -1,3 +1,7 @@
+use Rattle.encode.specs.Pieces.{valuesAt}
+use denote.Ref.{now}
+use Rattle.encode.proofs.Wholes as wholes
+use native.Mathlib.Omega.{arith}
 use borrow.Author.Needs.{needs}
 use Rattle.encode.proofs.write_push.Statement.{statement}
 use Rattle.encode.proofs.write_push.Tie as tie
@@ -12,7 +16,7 @@ add-write-push-values c = search needs
 
 -- src/lib.rt:311:9
 write-push-values-requires : tie.Need-write-push-values-requires
-write-push-values-requires c κs = ?
+write-push-values-requires c κs = wholes.push-room _ (c .before .before .before .pre)
 
 -- src/lib.rt:312:58
 add-write-action-header : tie.Need-add-write-action-header
@@ -24,7 +28,7 @@ sub-write-action-header c = search needs
 
 -- src/lib.rt:312:5
 write-action-header-requires : tie.Need-write-action-header-requires
-write-action-header-requires c κs = ?
+write-action-header-requires c κs = let a = c .before .before .before .before .before .before .before .before .args in omega (arith, wholes.push-room (valuesAt (now (a .b)) (a .n) (a .at)) (c .before .before .before .before .before .before .before .before .pre) .room, c .before .before .before .before .write-push-values .kept .0)
 
 -- src/lib.rt:307:1
 same-length : tie.Need-same-length
@@ -32,7 +36,7 @@ same-length c = search needs
 
 -- src/lib.rt:307:1
 returns : tie.Need-returns
-returns c = ?
+returns c = wholes.push-put _ (c .before .before .before .before .before .before .before .before .before .before .before .pre) (c .before .before .before .before .before .before .before .write-push-values .ensures) (c .before .before .write-action-header .ensures)
 
 pub write-push-spec : {M : Type 1} → statement M
 write-push-spec =
