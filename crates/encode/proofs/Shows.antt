@@ -80,6 +80,14 @@ shape-bits shape e = go (ltb shape 8) (hasRegister shape) (hasCatch shape) refl 
         let z : _≡_ {A = ℕ} 0 1 = cc in
         absurd (omega arith)
 
+-- its three bits make it up
+shape-sum : (shape : ℕ) → shape < 8 → shape ≡ shape % 2 + 4 * (shape / 4 % 2) + 2 * (shape / 2 % 2)
+shape-sum shape h =
+    let e : shape / 4 ≡ shape / 2 / 2 = omega arith in
+    let f : shape / 4 % 2 ≡ shape / 4 = omega arith in
+    let g : shape / 2 ≡ 2 * (shape / 2 / 2) + shape / 2 % 2 = omega arith in
+    omega arith
+
 catch-bit : (shape : ℕ) (t : Bool) → hasCatch shape ≡ t → shape % 2 ≡ bit t
 unfolding hasCatch bit
 catch-bit shape true h = eqb-true (shape % 2) 1 h
@@ -119,7 +127,7 @@ module _ (b : List ℕ) (inner : Reader (ActionsOf Text ℕ)) where
       let m = catch-bit shape true h in
       let n = register-bit shape false j in
       rw (k .2) (k .1, refl, omega arith)
-  catch-shown {shape} r s c i (register {n} h j) e =
+  catch-shown {shape} r s c i (register {r = n} h j) e =
       let k = caught (Register n) r s c (rw h at e) in
       let m = catch-bit shape true h in
       let o = register-bit shape true j in
@@ -141,3 +149,124 @@ module _ (b : List ℕ) (inner : Reader (ActionsOf Text ℕ)) where
           let g : f ≡ noFinally = cc in
           let i : q ≡ s = cc in
           rw g (i, omega (arith, eqb-false (shape / 2 % 2) 1 h))
+
+-- ---- the cases
+
+module _ (b tab : List ℕ) (at pos : ℕ) where
+  -- what the code writes for a case, and where it reads on
+  abbrev coded : Action → Piece
+  coded (code.Small n) = piece (headed (ltb n 128) n []) (at + 1)
+  coded (code.GotoFrame n) = action 0x81 (le16 n) (at + 1 + 2)
+  coded (code.GetUrl u t) = flatPiece (GetUrl (spanOf b u) (spanOf b t)) (after t)
+  coded (code.StoreRegister r) = action 0x87 (r ∷ []) (at + 1 + 1)
+  coded (code.ConstantPool n i) = written (λ q. headed false 0x88 (le16 n ++ q)) (stringsAt b n i)
+  coded (code.WaitForFrame n k) = flatPiece (WaitForFrame n k) (at + 1 + 3)
+  coded (code.SetTarget s) = action 0x8B (zeroEnded (spanOf b s)) (after s)
+  coded (code.GotoLabel s) = action 0x8C (zeroEnded (spanOf b s)) (after s)
+  coded (code.WaitForFrame2 k) = action 0x8D (k ∷ []) (at + 1 + 1)
+  coded (code.DefineFunction2 f) = function2 b f
+  coded (code.Try shape t i) = action 0x8F (tryPayload shape 0 0 0 (targetBytes b t)) i
+  coded (code.With i) = action 0x94 (le16 0) i
+  coded (code.Push n i) = written (λ q. headed false 0x96 q) (valuesAt b n i)
+  coded (code.Jump l) = action 0x99 (le16 (tableBits tab l (pos + 5))) (at + 1 + 2)
+  coded (code.GetUrl2 v t m) = flatPiece (GetUrl2 (eqb v 1) (eqb t 1) m) (at + 1 + 3)
+  coded (code.DefineFunction f) = function b f
+  coded (code.If l) = action 0x9D (le16 (tableBits tab l (pos + 5))) (at + 1 + 2)
+  coded (code.GotoFrame2 n k) = flatPiece (GotoFrame2 n (eqb k 1)) (at + 1 + 3)
+
+  -- a branch to label l has a slot, and does not go too far
+  abbrev Reaches : ℕ → Type 0
+  Reaches l = (l < length tab) × (judged (recordOf (getD tab l 0)) (pos + 5) ≡ none)
+
+  -- what is asked of a case besides the room
+  abbrev Within : Action → Type 0
+  Within (code.Small n) = Unit {0}
+  Within (code.GotoFrame n) = Unit {0}
+  Within (code.GetUrl u t) = (after u ≤ length b) × (after t ≤ length b)
+  Within (code.StoreRegister r) = Unit {0}
+  Within (code.ConstantPool n i) = Unit {0}
+  Within (code.WaitForFrame n k) = Unit {0}
+  Within (code.SetTarget s) = after s ≤ length b
+  Within (code.GotoLabel s) = after s ≤ length b
+  Within (code.WaitForFrame2 k) = Unit {0}
+  Within (code.DefineFunction2 f) = (after (f .name) ≤ length b) × (nextOf (function2 b f) ≤ length b)
+  Within (code.Try shape t i) = TargetWithin b t
+  Within (code.With i) = Unit {0}
+  Within (code.Push n i) = Unit {0}
+  Within (code.Jump l) = Reaches l
+  Within (code.GetUrl2 v t m) = (v < 2) × (t < 2)
+  Within (code.DefineFunction f) = after (f .name) ≤ length b
+  Within (code.If l) = Reaches l
+  Within (code.GotoFrame2 n k) = k < 2
+
+  -- it holds of a case that shows an action
+  is-within : {inner : Reader (ActionsOf Text ℕ)} {a : Action} {x : ActionOf Text ℕ} {q : Place} → Shown edition1 b inner (at + 1) a x q → length tab ≡ 1024 → NotFar tab x pos → Within a
+  unfolding TargetWithin edition1
+  is-within (small e) k n = tt
+  is-within gotoFrame k n = tt
+  is-within (getUrl (isText h) (isText i)) k n = (h, i)
+  is-within storeRegister k n = tt
+  is-within (constantPool e) k n = tt
+  is-within waitForFrame k n = tt
+  is-within (setTarget (isText h)) k n = h
+  is-within (gotoLabel (isText h)) k n = h
+  is-within waitForFrame2 k n = tt
+  is-within (defineFunction2 (isText h) e i j f) k n = (h, rw e i)
+  is-within (try i (nothing h) e f g) k n = tt
+  is-within (try i (variable h j (isText l)) e f g) k n = l
+  is-within (try i (register h j) e f g) k n = tt
+  is-within (with e) k n = tt
+  is-within (push e) k n = tt
+  is-within (jump h) k n = (omega arith, n)
+  is-within (getUrl2 h i) k n = (h, i)
+  is-within (defineFunction (isText h) e f) k n = h
+  is-within (if h) k n = (omega arith, n)
+  is-within (gotoFrame2 h) k n = h
+
+  -- a case is written as the action that it shows, and reads on where that action's bodies stand
+  abbrev Heads : Reader (ActionsOf Text ℕ) → Action → ActionOf Text ℕ → Place → Type 0
+  Heads inner a x q = (n : ℕ) × (coded a ≡ got (headOf tab x pos) (place n)) × BodiesFrom inner n x q
+
+  is-head : {inner : Reader (ActionsOf Text ℕ)} {a : Action} {x : ActionOf Text ℕ} {q : Place} → Shown edition1 b inner (at + 1) a x q → Heads inner a x q
+  unfolding headOf headBytes mapAction mapFlat mapOwner opcode payload framed byte branchOpCode ownerOpCode ownerFields ownerPayload functionPayload function2Payload spelling
+  is-head (small e) = (at + 1, ap (λ (k : ℕ). piece (headed (ltb k 128) k []) (at + 1)) (sym e), refl)
+  is-head gotoFrame = (at + 1 + 2, refl, refl)
+  is-head (getUrl {t = t} (isText h) (isText i)) = (after t, refl, refl)
+  is-head storeRegister = (at + 1 + 1, refl, refl)
+  is-head (constantPool {n} {i} {xs} {q} e) =
+      (q .at, rw (e, strings-joined xs, length-each spelling xs, count-is (readString edition1 b) n (place i) q xs e), refl)
+  is-head waitForFrame = (at + 1 + 3, refl, refl)
+  is-head (setTarget {s} (isText h)) = (after s, refl, refl)
+  is-head (gotoLabel {s} (isText h)) = (after s, refl, refl)
+  is-head waitForFrame2 = (at + 1 + 1, refl, refl)
+  is-head (defineFunction2 {f} {ps = ps} {r = r} (isText h) e i j g) =
+      (r .at + 3, rw (e, params-joined ps, length-each (mapParam spelling) ps, count-is (readParam edition1 b) (f .count) (place (f .at)) r ps e), g)
+  is-head {inner} (try {shape} {i} {t} {c = c} {f = f} {r = r} {s = s} {q = q} h target e g k) =
+      let l = catch-shown b inner r s c h target g in
+      let m = finally-shown b inner shape s q f k in
+      let n : shape ≡ catchShape (mapCatch spelling c) + finallyShape (mapFinally spelling f) = shape-sum shape (shape-bits shape h .0) ∙ ap₂ (λ (i j : ℕ). i + j) (sym (l .2)) (sym (m .1)) in
+      (i, rw (← n, l .1), (r, s, e, l .0, m .0))
+  is-head (with {i} e) = (i, refl, e)
+  is-head (push {n} {i} {xs} {q} e) = (q .at, rw (e, values-joined xs), refl)
+  is-head (jump h) = (at + 1 + 2, refl, refl)
+  is-head (getUrl2 h i) = (at + 1 + 3, refl, refl)
+  is-head (defineFunction {f} {ps = ps} {r = r} (isText h) e g) =
+      (r .at, rw (e, strings-joined ps, length-each spelling ps, count-is (readString edition1 b) (f .count) (place (f .at)) r ps e), g)
+  is-head (if h) = (at + 1 + 2, refl, refl)
+  is-head (gotoFrame2 h) = (at + 1 + 3, refl, refl)
+
+  module _ {a a′ : Action} {out : List ℕ} where
+    -- what a case asks, where the action may be written
+    pub case-room : Writable b at a pos tab out → a ≡ a′ → Within a′ × Room (coded a′) pos out
+    case-room w e =
+        let h = is-head (w .shown) in
+        let r : Room (coded a) pos out = rw (h .1) (record { known = tt; room = w .room; sums = w .sums }) in
+        (rw e at (is-within (w .shown) (w .slots) (w .near)), rw e at r)
+
+    -- what it leaves
+    pub case-put : {out′ : List ℕ} {r : Ends} → a ≡ a′ → Put (coded a′) pos out out′ r → WroteHead b at a pos tab out out′ (r .next) (r .pos)
+    case-put {out′} {r} e p = record { wrote = λ inner x q s. go inner x q (is-head s) (rw (← e) at p) }
+      where
+        go : (inner : Reader (ActionsOf Text ℕ)) (x : ActionOf Text ℕ) (q : Place) → Heads inner a x q → Put (coded a) pos out out′ r
+            → (out′ ≡ sets out pos (headOf tab x pos)) × (r .pos ≡ pos + length (headOf tab x pos)) × BodiesFrom inner (r .next) x q
+        go inner x q (n, f, g) p = (rw f at (p .wrote), rw f at (p .end), rw (rw f at (p .next)) g)
