@@ -1,6 +1,3 @@
-pub mod Lists
-pub mod Puts
+pub mod Actions
 pub mod Shows
-pub mod Texts
-pub mod Values
 pub mod Wholes

@@ -25,9 +25,10 @@ use Rattle.pcode.specs.declared.CatchTarget.the-variants as target
 use Rattle.pcode.specs.declared.Action.{Action}
 use Rattle.pcode.specs.declared.Action.the-variants as code
 use Rattle.pcode.specs.Shown.{place, after, IsText, isText, ShownTarget, nothing, variable, register, Shown, small, gotoFrame, getUrl, storeRegister, constantPool, waitForFrame, setTarget, gotoLabel, waitForFrame2, defineFunction2, try, with, push, jump, getUrl2, defineFunction, if, gotoFrame2}
-use Rattle.encode.specs.declared.Ends.{Ends}
+use Rattle.encode_values.specs.declared.Ends.{Ends}
 use Rattle.encode.specs.Heads.{tableBits, headBytes, headOf, CatchFrom, FinallyFrom, BodiesFrom, NotFar, Writable, WroteHead}
-use Rattle.encode.specs.Pieces.{Piece, piece, action, flatPiece, written, bytesOf, nextOf, Reads, spanOf, targetBytes, TargetWithin, stringBytes, paramBytes, valueBytes, joined, stringsAt, paramsAt, valuesAt, functionPayload, function2Payload, function, function2, function2Of, Room, Put}
+use Rattle.encode_values.specs.Pieces.{Piece, piece, written, bytesOf, nextOf, Reads, spanOf, stringBytes, paramBytes, valueBytes, joined, stringsAt, paramsAt, valuesAt, Room, Put}
+use Rattle.encode.specs.Payloads.{action, flatPiece, targetBytes, TargetWithin, functionPayload, function2Payload, function, function2, function2Of}
 
 -- ---- lists
 

@@ -12,9 +12,11 @@ use Rattle.layout.specs.Payload.{zeroEnded, tryPayload, headed}
 use Rattle.layout.specs.Lengths.{length-le16, length-tryPayload}
 use Rattle.pcode.specs.declared.Function.{Function}
 use Rattle.pcode.specs.Shown.{after}
-use Rattle.encode.specs.declared.Ends.{Ends}
-use Rattle.encode.specs.Pieces.{Piece, piece, action, written, bytesOf, nextOf, Reads, spanOf, functionPayload, function2Payload, function, function2, function2Of, stringsAt, paramsAt, Room, Put}
-use Rattle.encode.proofs.Puts.{run-then, before-then, length-action, length-span, written-known, written-bytes, written-next, action-last}
+use Rattle.encode_values.specs.declared.Ends.{Ends}
+use Rattle.encode_values.specs.Pieces.{Piece, piece, written, bytesOf, nextOf, Reads, spanOf, stringsAt, paramsAt, Room, Put}
+use Rattle.encode.specs.Payloads.{action, functionPayload, function2Payload, function, function2, function2Of}
+use Rattle.encode_values.proofs.Puts.{length-span}
+use Rattle.encode.proofs.Actions.{run-then, before-then, length-action, written-known, written-bytes, written-next, action-last}
 
 -- ---- the payloads in their runs
 

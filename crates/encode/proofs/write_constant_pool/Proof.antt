@@ -1,4 +1,5 @@
-use Rattle.encode.specs.Pieces.{stringsAt}
+use Rattle.encode_values.proofs.Puts as values
+use Rattle.encode_values.specs.Pieces.{stringsAt}
 use denote.Ref.{now}
 use mathlib.Core.Path.{refl}
 use Rattle.encode.proofs.Wholes as wholes
@@ -8,7 +9,7 @@ use Rattle.encode.proofs.write_constant_pool.Statement.{statement}
 use Rattle.encode.proofs.write_constant_pool.Tie as tie
 use Rattle.encode.proofs.write_constant_pool.Reads as reads
 use Rattle.encode.proofs.write_constant_pool.Lts as lts
-use Rattle.encode.proofs.write_strings.Reads as write-strings-reads
+use Rattle.encode_values.proofs.write_strings.Reads as write-strings-reads
 use Rattle.fields.proofs.write_u16.Reads as write-u16-reads
 use Rattle.writer.proofs.write_action_header.Reads as write-action-header-reads
 

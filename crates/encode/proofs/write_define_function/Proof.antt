@@ -1,3 +1,4 @@
+use Rattle.encode_values.proofs.Puts as values
 use denote.Ref.{now}
 use mathlib.Core.Path.{_∙_}
 use Rattle.encode.proofs.Wholes as wholes
@@ -7,7 +8,7 @@ use Rattle.encode.proofs.write_define_function.Statement.{statement}
 use Rattle.encode.proofs.write_define_function.Tie as tie
 use Rattle.encode.proofs.write_define_function.Reads as reads
 use Rattle.encode.proofs.write_define_function.Lts as lts
-use Rattle.encode.proofs.write_strings.Reads as write-strings-reads
+use Rattle.encode_values.proofs.write_strings.Reads as write-strings-reads
 use Rattle.fields.proofs.write_string.Reads as write-string-reads
 use Rattle.fields.proofs.write_u16.Reads as write-u16-reads
 use Rattle.writer.proofs.write_action_header.Reads as write-action-header-reads

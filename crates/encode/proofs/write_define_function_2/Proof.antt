@@ -1,3 +1,4 @@
+use Rattle.encode_values.proofs.Puts as values
 use denote.Ref.{now}
 use mathlib.Core.Path.{_∙_}
 use Rattle.encode.proofs.Wholes as wholes
@@ -7,7 +8,7 @@ use Rattle.encode.proofs.write_define_function_2.Statement.{statement}
 use Rattle.encode.proofs.write_define_function_2.Tie as tie
 use Rattle.encode.proofs.write_define_function_2.Reads as reads
 use Rattle.encode.proofs.write_define_function_2.Lts as lts
-use Rattle.encode.proofs.write_params.Reads as write-params-reads
+use Rattle.encode_values.proofs.write_params.Reads as write-params-reads
 use Rattle.fields.proofs.u16_at.Reads as u16-at-reads
 use Rattle.fields.proofs.write_string.Reads as write-string-reads
 use Rattle.fields.proofs.write_u16.Reads as write-u16-reads

@@ -1,10 +1,11 @@
-use Rattle.encode.specs.Pieces.{spanOf}
+use Rattle.encode_values.proofs.Puts as values
+use Rattle.encode_values.specs.Pieces.{spanOf}
 use Rattle.layout.specs.Payload.{zeroEnded, opcode, payload, framed}
 use Prim.Native.Nat.{_+_}
 use lib.ListN.{length-append}
 use denote.Ref.{now}
 use Rattle.layout.specs.OpCode.{byte}
-use Rattle.encode.proofs.Puts as puts
+use Rattle.encode.proofs.Actions as actions
 use native.Mathlib.Omega.{arith}
 use borrow.Author.Needs.{needs}
 use Rattle.encode.proofs.write_get_url.Statement.{statement}
@@ -20,11 +21,11 @@ add-write-action-header c = search needs
 
 -- src/lib.rt:263:52
 add-write-action-header-2 : tie.Need-add-write-action-header-2
-add-write-action-header-2 c = let a = c .before .before .before .before .before .args in let p = c .before .before .before .before .before .pre in let h = puts.get-url-room (now (a .b)) (a .url) (a .target) (p .0) (p .1) (p .2) in omega arith
+add-write-action-header-2 c = let a = c .before .before .before .before .before .args in let p = c .before .before .before .before .before .pre in let h = actions.get-url-room (now (a .b)) (a .url) (a .target) (p .0) (p .1) (p .2) in omega arith
 
 -- src/lib.rt:263:5
 write-action-header-requires : tie.Need-write-action-header-requires
-write-action-header-requires c κs = let a = c .before .before .before .before .before .args in let p = c .before .before .before .before .before .pre in let h = puts.get-url-room (now (a .b)) (a .url) (a .target) (p .0) (p .1) (p .2) in omega arith
+write-action-header-requires c κs = let a = c .before .before .before .before .before .args in let p = c .before .before .before .before .before .pre in let h = actions.get-url-room (now (a .b)) (a .url) (a .target) (p .0) (p .1) (p .2) in omega arith
 
 -- src/lib.rt:264:23
 add-write-string : tie.Need-add-write-string
@@ -32,7 +33,7 @@ add-write-string c = search needs
 
 -- src/lib.rt:264:5
 write-string-requires : tie.Need-write-string-requires
-write-string-requires c κs = let a = c .before .before .before .before .before .before .before .before .before .args in let p = c .before .before .before .before .before .before .before .before .before .pre in let h = puts.get-url-room (now (a .b)) (a .url) (a .target) (p .0) (p .1) (p .2) in (omega (arith, c .before .before .before .write-action-header .kept .0), omega arith)
+write-string-requires c κs = let a = c .before .before .before .before .before .before .before .before .before .args in let p = c .before .before .before .before .before .before .before .before .before .pre in let h = actions.get-url-room (now (a .b)) (a .url) (a .target) (p .0) (p .1) (p .2) in (omega (arith, c .before .before .before .write-action-header .kept .0), omega arith)
 
 -- src/lib.rt:265:13
 add-w : tie.Need-add-w
@@ -48,7 +49,7 @@ add-w-3 c = search needs
 
 -- src/lib.rt:266:5
 write-string-requires-2 : tie.Need-write-string-requires-2
-write-string-requires-2 c κs = let a = c .before .before .before .before .before .before .before .before .before .before .before .before .before .before .args in let p = c .before .before .before .before .before .before .before .before .before .before .before .before .before .before .pre in let h = puts.get-url-room (now (a .b)) (a .url) (a .target) (p .0) (p .1) (p .2) in (omega (arith, c .before .before .before .before .before .before .before .before .write-action-header .kept .0, c .before .before .before .before .write-string .kept .0), omega arith)
+write-string-requires-2 c κs = let a = c .before .before .before .before .before .before .before .before .before .before .before .before .before .before .args in let p = c .before .before .before .before .before .before .before .before .before .before .before .before .before .before .pre in let h = actions.get-url-room (now (a .b)) (a .url) (a .target) (p .0) (p .1) (p .2) in (omega (arith, c .before .before .before .before .before .before .before .before .write-action-header .kept .0, c .before .before .before .before .write-string .kept .0), omega arith)
 
 -- src/lib.rt:268:15
 add-t11 : tie.Need-add-t11
@@ -56,11 +57,11 @@ add-t11 c = search needs
 
 -- src/lib.rt:269:14
 add-t10 : tie.Need-add-t10
-add-t10 c = let a = c .before .before .before .before .before .before .before .before .before .before .before .before .before .before .before .before .before .before .before .args in let p = c .before .before .before .before .before .before .before .before .before .before .before .before .before .before .before .before .before .before .before .pre in let h = puts.get-url-room (now (a .b)) (a .url) (a .target) (p .0) (p .1) (p .2) in omega arith
+add-t10 c = let a = c .before .before .before .before .before .before .before .before .before .before .before .before .before .before .before .before .before .before .before .args in let p = c .before .before .before .before .before .before .before .before .before .before .before .before .before .before .before .before .before .before .before .pre in let h = actions.get-url-room (now (a .b)) (a .url) (a .target) (p .0) (p .1) (p .2) in omega arith
 
 -- src/lib.rt:269:14
 add-t16 : tie.Need-add-t16
-add-t16 c = let a = c .before .before .before .before .before .before .before .before .before .before .before .before .before .before .before .before .before .before .before .args in let p = c .before .before .before .before .before .before .before .before .before .before .before .before .before .before .before .before .before .before .before .pre in let h = puts.get-url-room (now (a .b)) (a .url) (a .target) (p .0) (p .1) (p .2) in omega arith
+add-t16 c = let a = c .before .before .before .before .before .before .before .before .before .before .before .before .before .before .before .before .before .before .before .args in let p = c .before .before .before .before .before .before .before .before .before .before .before .before .before .before .before .before .before .before .before .pre in let h = actions.get-url-room (now (a .b)) (a .url) (a .target) (p .0) (p .1) (p .2) in omega arith
 
 -- src/lib.rt:259:1
 same-length : tie.Need-same-length
@@ -72,10 +73,10 @@ unfolding framed byte opcode payload
 returns c = let a = c .before .before .before .before .before .before .before .before .before .before .before .before .before .before .before .before .before .before .before .args in let p = c .before .before .before .before .before .before .before .before .before .before .before .before .before .before .before .before .before .before .before .pre in
     let x = zeroEnded (spanOf (now (a .b)) (a .url)) in
     let y = zeroEnded (spanOf (now (a .b)) (a .target)) in
-    let i = puts.length-span (now (a .b)) (a .url) (p .0) in
-    let j = puts.length-span (now (a .b)) (a .target) (p .1) in
+    let i = values.length-span (now (a .b)) (a .url) (p .0) in
+    let j = values.length-span (now (a .b)) (a .target) (p .1) in
     let k = length-append x y in
-    puts.action-two _ x y (a .pos + 3 + (a .url .len + 1)) (a .url .len + a .target .len + 2) (omega arith) (omega arith) (c .before .before .before .before .before .before .before .before .before .before .before .before .before .write-action-header .ensures) (c .before .before .before .before .before .before .before .before .before .write-string .ensures) (c .before .before .before .before .write-string2 .ensures) (omega arith)
+    actions.action-two _ x y (a .pos + 3 + (a .url .len + 1)) (a .url .len + a .target .len + 2) (omega arith) (omega arith) (c .before .before .before .before .before .before .before .before .before .before .before .before .before .write-action-header .ensures) (c .before .before .before .before .before .before .before .before .before .write-string .ensures) (c .before .before .before .before .write-string2 .ensures) (omega arith)
 
 pub write-get-url-spec : {M : Type 1} → statement M
 write-get-url-spec =

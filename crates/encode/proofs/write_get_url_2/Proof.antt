@@ -1,6 +1,6 @@
 use Rattle.layout.specs.Payload.{opcode, framed}
 use Rattle.layout.specs.OpCode.{byte}
-use Rattle.encode.proofs.Puts as puts
+use Rattle.encode.proofs.Actions as actions
 use borrow.Author.Needs.{needs}
 use Rattle.encode.proofs.write_get_url_2.Statement.{statement}
 use Rattle.encode.proofs.write_get_url_2.Tie as tie
@@ -27,7 +27,7 @@ add-bits-2 c = search needs
 -- src/lib.rt:279:5
 write-u8-action-requires : tie.Need-write-u8-action-requires
 unfolding framed byte opcode
-write-u8-action-requires c κs = let p = c .before .before .pre in rw (puts.get-url-2-bits _ _ _ (p .0) (p .1)) at (p .2)
+write-u8-action-requires c κs = let p = c .before .before .pre in rw (actions.get-url-2-bits _ _ _ (p .0) (p .1)) at (p .2)
 
 -- src/lib.rt:274:1
 same-length : tie.Need-same-length
@@ -36,7 +36,7 @@ same-length c = search needs
 -- src/lib.rt:274:1
 returns : tie.Need-returns
 unfolding framed byte opcode
-returns c = let p = c .before .before .before .before .before .pre in rw (puts.get-url-2-bits _ _ _ (p .0) (p .1)) (c .before .before .write-u8-action .ensures)
+returns c = let p = c .before .before .before .before .before .pre in rw (actions.get-url-2-bits _ _ _ (p .0) (p .1)) (c .before .before .write-u8-action .ensures)
 
 pub write-get-url-2-spec : {M : Type 1} → statement M
 write-get-url-2-spec =

@@ -1,4 +1,5 @@
-use Rattle.encode.specs.Pieces.{valuesAt}
+use Rattle.encode_values.proofs.Puts as values
+use Rattle.encode_values.specs.Pieces.{valuesAt}
 use denote.Ref.{now}
 use Rattle.encode.proofs.Wholes as wholes
 use native.Mathlib.Omega.{arith}
@@ -7,7 +8,7 @@ use Rattle.encode.proofs.write_push.Statement.{statement}
 use Rattle.encode.proofs.write_push.Tie as tie
 use Rattle.encode.proofs.write_push.Reads as reads
 use Rattle.encode.proofs.write_push.Lts as lts
-use Rattle.encode.proofs.write_push_values.Reads as write-push-values-reads
+use Rattle.encode_values.proofs.write_push_values.Reads as write-push-values-reads
 use Rattle.writer.proofs.write_action_header.Reads as write-action-header-reads
 
 -- src/lib.rt:311:36

@@ -1,6 +1,6 @@
 use mathlib.Core.Path.{refl}
 use Rattle.layout.specs.Numbers.{le16}
-use Rattle.encode.proofs.Puts as puts
+use Rattle.encode.proofs.Actions as actions
 use native.Mathlib.Omega.{arith}
 use borrow.Author.Needs.{needs}
 use Rattle.encode.proofs.write_small_action.Statement.{statement}
@@ -12,7 +12,7 @@ use Rattle.writer.proofs.write_action_header.Reads as write-action-header-reads
 
 -- src/lib.rt:210:9
 write-u8-requires : tie.Need-write-u8-requires
-write-u8-requires c κs = let h = rw (puts.short-action _ (c .before .if1 .taken)) at (c .before .before .before .pre) in omega (arith, h .room)
+write-u8-requires c κs = let h = rw (actions.short-action _ (c .before .if1 .taken)) at (c .before .before .before .pre) in omega (arith, h .room)
 
 -- src/lib.rt:211:34
 add-t9 : tie.Need-add-t9
@@ -24,12 +24,12 @@ same-length c = search needs
 
 -- src/lib.rt:211:9
 returns : tie.Need-returns
-returns c = rw (puts.short-action _ (c .before .before .before .before .if1 .taken)) (record { wrote = c .before .before .write-u8 .ensures; end = omega arith; next = refl })
+returns c = rw (actions.short-action _ (c .before .before .before .before .if1 .taken)) (record { wrote = c .before .before .write-u8 .ensures; end = omega arith; next = refl })
 
 -- src/lib.rt:213:5
 write-action-header-requires : tie.Need-write-action-header-requires
 unfolding le16
-write-action-header-requires c κs = let h = rw (puts.long-action _ (c .before .if1 .left)) at (c .before .before .before .pre) in omega (arith, h .room)
+write-action-header-requires c κs = let h = rw (actions.long-action _ (c .before .if1 .left)) at (c .before .before .before .pre) in omega (arith, h .room)
 
 -- src/lib.rt:214:23
 add-t13 : tie.Need-add-t13
@@ -42,7 +42,7 @@ same-length-2 c = search needs
 -- src/lib.rt:205:1
 returns-2 : tie.Need-returns-2
 unfolding le16
-returns-2 c = rw (puts.long-action _ (c .before .before .before .before .if1 .left)) (record { wrote = c .before .before .write-action-header .ensures; end = omega arith; next = refl })
+returns-2 c = rw (actions.long-action _ (c .before .before .before .before .if1 .left)) (record { wrote = c .before .before .write-action-header .ensures; end = omega arith; next = refl })
 
 pub write-small-action-spec : {M : Type 1} → statement M
 write-small-action-spec =

@@ -1,5 +1,6 @@
+use Rattle.encode_values.proofs.Puts as values
 use denote.Ref.{now}
-use Rattle.encode.proofs.Puts as puts
+use Rattle.encode.proofs.Actions as actions
 use native.Mathlib.Omega.{arith}
 use borrow.Author.Needs.{needs}
 use Rattle.encode.proofs.write_string_action.Statement.{statement}
@@ -15,7 +16,7 @@ add-write-action-header c = search needs
 
 -- src/lib.rt:251:5
 write-action-header-requires : tie.Need-write-action-header-requires
-write-action-header-requires c κs = let a = c .before .before .before .before .args in let h = puts.string-action-room _ (now (a .b)) (a .s) (c .before .before .before .before .pre .0) (c .before .before .before .before .pre .1) in omega arith
+write-action-header-requires c κs = let a = c .before .before .before .before .args in let h = actions.string-action-room _ (now (a .b)) (a .s) (c .before .before .before .before .pre .0) (c .before .before .before .before .pre .1) in omega arith
 
 -- src/lib.rt:252:23
 add-write-string : tie.Need-add-write-string
@@ -23,7 +24,7 @@ add-write-string c = search needs
 
 -- src/lib.rt:252:5
 write-string-requires : tie.Need-write-string-requires
-write-string-requires c κs = let a = c .before .before .before .before .before .before .before .before .args in let h = puts.string-action-room _ (now (a .b)) (a .s) (c .before .before .before .before .before .before .before .before .pre .0) (c .before .before .before .before .before .before .before .before .pre .1) in (omega (arith, c .before .before .before .write-action-header .kept .0), omega arith)
+write-string-requires c κs = let a = c .before .before .before .before .before .before .before .before .args in let h = actions.string-action-room _ (now (a .b)) (a .s) (c .before .before .before .before .before .before .before .before .pre .0) (c .before .before .before .before .before .before .before .before .pre .1) in (omega (arith, c .before .before .before .write-action-header .kept .0), omega arith)
 
 -- src/lib.rt:254:15
 add-t9 : tie.Need-add-t9
@@ -47,7 +48,7 @@ same-length c = search needs
 
 -- src/lib.rt:247:1
 returns : tie.Need-returns
-returns c = let a = c .before .before .before .before .before .before .before .before .before .before .before .before .before .args in let l = puts.length-span (now (a .b)) (a .s) (c .before .before .before .before .before .before .before .before .before .before .before .before .before .pre .0) in puts.action-put _ _ _ (omega arith) (c .before .before .before .before .before .before .before .before .write-action-header .ensures) (c .before .before .before .before .write-string .ensures) (omega arith)
+returns c = let a = c .before .before .before .before .before .before .before .before .before .before .before .before .before .args in let l = values.length-span (now (a .b)) (a .s) (c .before .before .before .before .before .before .before .before .before .before .before .before .before .pre .0) in actions.action-put _ _ _ (omega arith) (c .before .before .before .before .before .before .before .before .write-action-header .ensures) (c .before .before .before .before .write-string .ensures) (omega arith)
 
 pub write-string-action-spec : {M : Type 1} → statement M
 write-string-action-spec =

@@ -1,4 +1,4 @@
-use Rattle.encode.specs.Pieces.{targetBytes}
+use Rattle.encode.specs.Payloads.{targetBytes}
 use denote.Ref.{now}
 use mathlib.Core.Path.{_∙_}
 use Rattle.encode.proofs.Wholes as wholes

@@ -1,4 +1,4 @@
-use Rattle.encode.proofs.Puts as puts
+use Rattle.encode.proofs.Actions as actions
 use Rattle.layout.specs.Payload.{headed}
 use Rattle.layout.specs.Numbers.{le16}
 use mathlib.Core.Path.{refl}
@@ -36,7 +36,7 @@ same-length c = search needs
 -- src/lib.rt:228:1
 returns : tie.Need-returns
 unfolding le16
-returns c = puts.action-put _ _ 2 refl (c .before .before .before .before .before .before .write-action-header .ensures) (c .before .before .write-u16 .ensures) (omega arith)
+returns c = actions.action-put _ _ 2 refl (c .before .before .before .before .before .before .write-action-header .ensures) (c .before .before .write-u16 .ensures) (omega arith)
 
 pub write-u16-action-spec : {M : Type 1} → statement M
 write-u16-action-spec =

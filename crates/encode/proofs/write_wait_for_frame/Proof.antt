@@ -4,7 +4,7 @@ use Rattle.layout.specs.Payload.{opcode, payload, framed, headed}
 use Rattle.layout.specs.Numbers.{le16}
 use mathlib.Core.Path.{refl}
 use Rattle.layout.specs.OpCode.{byte}
-use Rattle.encode.proofs.Puts as puts
+use Rattle.encode.proofs.Actions as actions
 use native.Mathlib.Omega.{arith}
 use borrow.Author.Needs.{needs}
 use Rattle.encode.proofs.write_wait_for_frame.Statement.{statement}
@@ -49,7 +49,7 @@ same-length c = search needs
 -- src/lib.rt:296:1
 returns : tie.Need-returns
 unfolding framed byte opcode payload le16
-returns c = let a = c .before .before .before .before .before .before .before .before .before .before .before .before .before .args in puts.action-two _ (le16 (a .frame)) (a .skip ∷ []) (a .pos + 5) 3 (omega arith) refl (c .before .before .before .before .before .before .before .before .before .before .write-action-header .ensures) (c .before .before .before .before .before .before .write-u16 .ensures) (c .before .before .write-u8 .ensures) (omega arith)
+returns c = let a = c .before .before .before .before .before .before .before .before .before .before .before .before .before .args in actions.action-two _ (le16 (a .frame)) (a .skip ∷ []) (a .pos + 5) 3 (omega arith) refl (c .before .before .before .before .before .before .before .before .before .before .write-action-header .ensures) (c .before .before .before .before .before .before .write-u16 .ensures) (c .before .before .write-u8 .ensures) (omega arith)
 
 pub write-wait-for-frame-spec : {M : Type 1} → statement M
 write-wait-for-frame-spec =

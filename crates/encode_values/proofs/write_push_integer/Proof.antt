@@ -1,11 +1,11 @@
 use Rattle.layout.specs.Numbers.{le16, le32}
-use Rattle.encode.proofs.Puts as puts
+use Rattle.encode_values.proofs.Puts as puts
 use native.Mathlib.Omega.{arith}
 use borrow.Author.Needs.{needs}
-use Rattle.encode.proofs.write_push_integer.Statement.{statement}
-use Rattle.encode.proofs.write_push_integer.Tie as tie
-use Rattle.encode.proofs.write_push_integer.Reads as reads
-use Rattle.encode.proofs.write_push_integer.Lts as lts
+use Rattle.encode_values.proofs.write_push_integer.Statement.{statement}
+use Rattle.encode_values.proofs.write_push_integer.Tie as tie
+use Rattle.encode_values.proofs.write_push_integer.Reads as reads
+use Rattle.encode_values.proofs.write_push_integer.Lts as lts
 use Rattle.fields.proofs.write_u32.Reads as write-u32-reads
 use Rattle.fields.proofs.write_u8.Reads as write-u8-reads
 

@@ -17,7 +17,7 @@ use Rattle.pcode.specs.declared.Function.{Function}
 use Rattle.pcode.specs.declared.CatchTarget.{CatchTarget}
 use Rattle.pcode.specs.declared.CatchTarget.the-variants as target
 use Rattle.pcode.specs.Shown.{place, after}
-use Rattle.encode.specs.declared.Ends.{Ends}
+use Rattle.encode_values.specs.declared.Ends.{Ends}
 
 -- ---- what is to be written
 
@@ -28,14 +28,6 @@ Piece = Read (List ℕ)
 -- these bytes, and this place
 abbrev pub piece : List ℕ → ℕ → Piece
 piece s next = got s (place next)
-
--- a header and a payload
-abbrev pub action : ℕ → List ℕ → ℕ → Piece
-action op q next = piece (headed false op q) next
-
--- an action without a body, as the definitions write it
-abbrev pub flatPiece : Flat → ℕ → Piece
-flatPiece f next = piece (framed (opcode f) (payload f)) next
 
 abbrev pub bytesOf : Piece → List ℕ
 bytesOf (got s q) = s
@@ -86,13 +78,6 @@ unfoldable pub joined : {A : Type 0} → (A → List ℕ) → List A → List �
 joined f [] = []
 joined f (a ∷ xs) = f a ++ joined f xs
 
--- the payloads of a DefineFunction and a DefineFunction2 whose parameters are these bytes, the body's length still 0
-unfoldable pub functionPayload : List ℕ → ℕ → List ℕ → List ℕ
-functionPayload name count params = (zeroEnded name ++ (le16 count ++ params)) ++ le16 0
-
-unfoldable pub function2Payload : List ℕ → ℕ → ℕ → ℕ → List ℕ → List ℕ
-function2Payload name count registers flags params = (zeroEnded name ++ (le16 count ++ (registers ∷ (le16 flags ++ params)))) ++ le16 0
-
 module _ (b : List ℕ) where
   -- the string, the parameter and the push value at p
   abbrev pub stringAt : ℕ → Piece
@@ -119,27 +104,3 @@ module _ (b : List ℕ) where
   -- a span's bytes
   abbrev pub spanOf : Span → List ℕ
   spanOf s = part b (s .at) (s .len)
-
-  -- a catch target
-  unfoldable pub targetBytes : CatchTarget → List ℕ
-  targetBytes target.Nothing = 0 ∷ []
-  targetBytes (target.Variable s) = zeroEnded (spanOf s)
-  targetBytes (target.Register r) = r ∷ []
-
-  -- its name, if it has one, lies within b
-  unfoldable pub TargetWithin : CatchTarget → Type 0
-  TargetWithin target.Nothing = Unit {0}
-  TargetWithin (target.Variable s) = after s ≤ length b
-  TargetWithin (target.Register r) = Unit {0}
-
-  -- a DefineFunction, whose body's length is still 0
-  abbrev pub function : Function → Piece
-  function f = written (λ q. headed false 0x9B (functionPayload (spanOf (f .name)) (f .count) q)) (stringsAt (f .count) (f .at))
-
-  -- a DefineFunction2 with its parameters: the byte and the u16 behind them come before them, and then reading goes on
-  abbrev pub function2Of : Function → Piece → Piece
-  function2Of f (got q r) = got (headed false 0x8E (function2Payload (spanOf (f .name)) (f .count) (getD b (r .at) 0) (u16At b (r .at + 1)) q)) (ahead 3 r)
-  function2Of f (bad e r) = bad e r
-
-  abbrev pub function2 : Function → Piece
-  function2 f = function2Of f (paramsAt (f .count) (f .at))

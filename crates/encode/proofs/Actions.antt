@@ -24,8 +24,9 @@ use Rattle.fields.specs.Runs.{part}
 use Rattle.fields.proofs.Stores.{sets-append, sets-then, length-part}
 use Rattle.pcode.specs.declared.Span.{Span}
 use Rattle.pcode.specs.Shown.{after}
-use Rattle.encode.specs.declared.Ends.{Ends}
-use Rattle.encode.specs.Pieces.{Piece, piece, action, flatPiece, written, bytesOf, nextOf, Reads, spanOf, functionPayload, function2Payload, Room, Put}
+use Rattle.encode_values.proofs.Puts.{length-span, bit-is}
+use Rattle.encode_values.specs.Pieces.{Piece, piece, written, bytesOf, nextOf, Reads, spanOf, Room, Put}
+use Rattle.encode.specs.Payloads.{action, flatPiece, functionPayload, function2Payload}
 
 -- ---- runs of stores
 
@@ -55,10 +56,6 @@ run-then l i a b at h e f = sets-then l i a b (length a) refl e (rw h at f)
 pub length-action : (op : ℕ) (q : List ℕ) → length (headed false op q) ≡ 3 + length q
 unfolding headed le16
 length-action op q = omega arith
-
--- a span within b, with its zero byte
-pub length-span : (b : List ℕ) (s : Span) → after s ≤ length b → length (zeroEnded (spanOf b s)) ≡ s .len + 1
-length-span b s h = length-zeroEnded (spanOf b s) ∙ ap (λ (n : ℕ). n + 1) (length-part b (s .at) (s .len) h)
 
 -- ---- what a piece gives that is made of another
 
@@ -102,28 +99,7 @@ pub action-two : (op : ℕ) (a b : List ℕ) {next pos end : ℕ} {out m n out�
     → Put (action op (a ++ b) next) pos out out′ (record { next = next; pos = end })
 action-two op a b {pos = pos} {m = m} at len h k e f g i = action-put op (a ++ b) len k e (run-then m (pos + 3) a b at h f g) i
 
--- a byte, and then the rest
-pub byte-put : {x : ℕ} {s : List ℕ} {next pos end : ℕ} {out m out′ : List ℕ} → m ≡ sets out pos (x ∷ []) → out′ ≡ sets m (pos + 1) s → end ≡ pos + 1 + length s
-    → Put (piece (x ∷ s) next) pos out out′ (record { next = next; pos = end })
-byte-put {x} {s} {pos = pos} {out = out} e f g = record { wrote = sets-then out pos (x ∷ []) s 1 refl e f; end = omega arith; next = refl }
-
--- a flag's bit is the byte that it was read from
-pub bit-is : (n : ℕ) → n < 2 → bit (eqb n 1) ≡ n
-unfolding bit
-bit-is zero h = refl
-bit-is (suc zero) h = refl
-bit-is (suc (suc n)) h = absurd (omega arith)
-
 -- ---- by a test
-
--- a constant under 256, and another
-pub low-constant : (n : ℕ) → n < 256 → constantBytes (ltb n 256) n ≡ 8 ∷ n ∷ []
-unfolding constantBytes
-low-constant n h = rw (lt-ltb n 256 h)
-
-pub high-constant : (n : ℕ) → 256 ≤ n → constantBytes (ltb n 256) n ≡ 9 ∷ le16 n
-unfolding constantBytes
-high-constant n h = rw (le-ltb n 256 h)
 
 -- an opcode under 80 without a field, and another
 pub short-action : (op : ℕ) → op < 128 → headed (ltb op 128) op [] ≡ op ∷ []

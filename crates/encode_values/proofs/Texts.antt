@@ -15,9 +15,9 @@ use Rattle.fields.proofs.Stores.{sets-then}
 use Rattle.pcode.specs.Shown.{place, spanAt, after}
 use Rattle.pcode.proofs.Readings as reading
 use Rattle.pcode.proofs.Readings.{Gives, gives, refuses, Exactly, exactly}
-use Rattle.encode.specs.declared.Ends.{Ends}
-use Rattle.encode.specs.Pieces.{Piece, piece, written, bytesOf, nextOf, Reads, stringBytes, paramBytes, stringAt, paramAt, spanOf, Room, Put}
-use Rattle.encode.proofs.Puts.{length-span}
+use Rattle.encode_values.specs.declared.Ends.{Ends}
+use Rattle.encode_values.specs.Pieces.{Piece, piece, written, bytesOf, nextOf, Reads, stringBytes, paramBytes, stringAt, paramAt, spanOf, Room, Put}
+use Rattle.encode_values.proofs.Puts.{length-span}
 
 module _ (b : List ℕ) (p : ℕ) where
   -- a string that reads is the span at p

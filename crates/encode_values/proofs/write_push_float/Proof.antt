@@ -1,12 +1,12 @@
 use Rattle.layout.specs.Payload.{doubleBytes}
 use Rattle.layout.specs.Numbers.{le16, le32}
-use Rattle.encode.proofs.Puts as puts
+use Rattle.encode_values.proofs.Puts as puts
 use native.Mathlib.Omega.{arith}
 use borrow.Author.Needs.{needs}
-use Rattle.encode.proofs.write_push_float.Statement.{statement}
-use Rattle.encode.proofs.write_push_float.Tie as tie
-use Rattle.encode.proofs.write_push_float.Reads as reads
-use Rattle.encode.proofs.write_push_float.Lts as lts
+use Rattle.encode_values.proofs.write_push_float.Statement.{statement}
+use Rattle.encode_values.proofs.write_push_float.Tie as tie
+use Rattle.encode_values.proofs.write_push_float.Reads as reads
+use Rattle.encode_values.proofs.write_push_float.Lts as lts
 use Rattle.fields.proofs.write_f64_me.Reads as write-f64-me-reads
 use Rattle.fields.proofs.write_u8.Reads as write-u8-reads
 

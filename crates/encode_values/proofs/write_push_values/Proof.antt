@@ -1,15 +1,15 @@
 use mathlib.Core.Path.{_≡_, _∙_}
-use Rattle.encode.proofs.Lists as lists
-use Rattle.encode.specs.Pieces.{valueBytes, valuesAt}
+use Rattle.encode_values.proofs.Lists as lists
+use Rattle.encode_values.specs.Pieces.{valueBytes, valuesAt}
 use Rattle.layout.specs.Read.{edition1, readValue}
 use lib.ListN.{length}
 use borrow.Author.Needs.{needs}
 use native.Mathlib.Omega.{arith}
-use Rattle.encode.proofs.write_push_values.Statement.{statement}
-use Rattle.encode.proofs.write_push_values.Tie as tie
-use Rattle.encode.proofs.write_push_values.Reads as reads
-use Rattle.encode.proofs.write_push_values.Lts as lts
-use Rattle.encode.proofs.write_push_value.Reads as write-push-value-reads
+use Rattle.encode_values.proofs.write_push_values.Statement.{statement}
+use Rattle.encode_values.proofs.write_push_values.Tie as tie
+use Rattle.encode_values.proofs.write_push_values.Reads as reads
+use Rattle.encode_values.proofs.write_push_values.Lts as lts
+use Rattle.encode_values.proofs.write_push_value.Reads as write-push-value-reads
 
 abbrev Inv-loop : tie.InvT-loop
 Inv-loop out₀ pos b n at left₀ p₀ w₀ out left p w = lists.Going (readValue edition1 b) valueBytes (valuesAt b n at) pos out₀ left p w out × (length out ≡ length out₀)

@@ -15,9 +15,9 @@ use Rattle.pcode.specs.declared.PushAt.{PushAt}
 use Rattle.pcode.specs.declared.PushValue.{PushValue}
 use Rattle.pcode.specs.declared.PushValue.the-variants as value
 use Rattle.pcode.specs.Shown.{place, after, IsText, isText, ShownValue, string, null, undefined, register, boolean, float, integer, constant, ValueReads, ShowsValue}
-use Rattle.encode.specs.declared.Ends.{Ends}
-use Rattle.encode.specs.Pieces.{Piece, piece, written, Reads, valueBytes, valueAt, spanOf, Room, Put}
-use Rattle.encode.proofs.Puts.{bit-is}
+use Rattle.encode_values.specs.declared.Ends.{Ends}
+use Rattle.encode_values.specs.Pieces.{Piece, piece, written, Reads, valueBytes, valueAt, spanOf, Room, Put}
+use Rattle.encode_values.proofs.Puts.{bit-is}
 
 module _ (b : List ℕ) where
   -- the bytes of a case

@@ -1,15 +1,15 @@
 use mathlib.Core.Path.{_≡_, _∙_}
-use Rattle.encode.proofs.Lists as lists
-use Rattle.encode.specs.Pieces.{paramBytes, paramsAt}
+use Rattle.encode_values.proofs.Lists as lists
+use Rattle.encode_values.specs.Pieces.{paramBytes, paramsAt}
 use Rattle.layout.specs.Read.{edition1, readParam}
 use lib.ListN.{length}
 use borrow.Author.Needs.{needs}
 use native.Mathlib.Omega.{arith}
-use Rattle.encode.proofs.write_params.Statement.{statement}
-use Rattle.encode.proofs.write_params.Tie as tie
-use Rattle.encode.proofs.write_params.Reads as reads
-use Rattle.encode.proofs.write_params.Lts as lts
-use Rattle.encode.proofs.write_param_at.Reads as write-param-at-reads
+use Rattle.encode_values.proofs.write_params.Statement.{statement}
+use Rattle.encode_values.proofs.write_params.Tie as tie
+use Rattle.encode_values.proofs.write_params.Reads as reads
+use Rattle.encode_values.proofs.write_params.Lts as lts
+use Rattle.encode_values.proofs.write_param_at.Reads as write-param-at-reads
 
 abbrev Inv-loop : tie.InvT-loop
 Inv-loop out₀ pos b n at left₀ p₀ w₀ out left p w = lists.Going (readParam edition1 b) paramBytes (paramsAt b n at) pos out₀ left p w out × (length out ≡ length out₀)

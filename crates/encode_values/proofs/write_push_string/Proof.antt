@@ -1,11 +1,11 @@
 use denote.Ref.{now}
-use Rattle.encode.proofs.Puts as puts
+use Rattle.encode_values.proofs.Puts as puts
 use native.Mathlib.Omega.{arith}
 use borrow.Author.Needs.{needs}
-use Rattle.encode.proofs.write_push_string.Statement.{statement}
-use Rattle.encode.proofs.write_push_string.Tie as tie
-use Rattle.encode.proofs.write_push_string.Reads as reads
-use Rattle.encode.proofs.write_push_string.Lts as lts
+use Rattle.encode_values.proofs.write_push_string.Statement.{statement}
+use Rattle.encode_values.proofs.write_push_string.Tie as tie
+use Rattle.encode_values.proofs.write_push_string.Reads as reads
+use Rattle.encode_values.proofs.write_push_string.Lts as lts
 use Rattle.fields.proofs.write_string.Reads as write-string-reads
 use Rattle.fields.proofs.write_u8.Reads as write-u8-reads
 

@@ -1,11 +1,11 @@
-use Rattle.encode.proofs.Puts as puts
+use Rattle.encode_values.proofs.Puts as puts
 use mathlib.Core.Path.{refl}
 use native.Mathlib.Omega.{arith}
 use borrow.Author.Needs.{needs}
-use Rattle.encode.proofs.write_kind_u8.Statement.{statement}
-use Rattle.encode.proofs.write_kind_u8.Tie as tie
-use Rattle.encode.proofs.write_kind_u8.Reads as reads
-use Rattle.encode.proofs.write_kind_u8.Lts as lts
+use Rattle.encode_values.proofs.write_kind_u8.Statement.{statement}
+use Rattle.encode_values.proofs.write_kind_u8.Tie as tie
+use Rattle.encode_values.proofs.write_kind_u8.Reads as reads
+use Rattle.encode_values.proofs.write_kind_u8.Lts as lts
 use Rattle.fields.proofs.write_u8.Reads as write-u8-reads
 
 -- src/lib.rt:115:5

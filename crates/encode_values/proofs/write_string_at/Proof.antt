@@ -1,10 +1,10 @@
-use Rattle.encode.proofs.Texts as texts
+use Rattle.encode_values.proofs.Texts as texts
 use native.Mathlib.Omega.{arith}
 use borrow.Author.Needs.{needs}
-use Rattle.encode.proofs.write_string_at.Statement.{statement}
-use Rattle.encode.proofs.write_string_at.Tie as tie
-use Rattle.encode.proofs.write_string_at.Reads as reads
-use Rattle.encode.proofs.write_string_at.Lts as lts
+use Rattle.encode_values.proofs.write_string_at.Statement.{statement}
+use Rattle.encode_values.proofs.write_string_at.Tie as tie
+use Rattle.encode_values.proofs.write_string_at.Reads as reads
+use Rattle.encode_values.proofs.write_string_at.Lts as lts
 use Rattle.fields.proofs.u16_at.Reads as u16-at-reads
 use Rattle.fields.proofs.write_string.Reads as write-string-reads
 

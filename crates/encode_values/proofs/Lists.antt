@@ -9,8 +9,8 @@ use lib.Seq.{sets, length-sets}
 use Rattle.layout.specs.Read.{Place, Read, got, bad, Reader, chain, repeat}
 use Rattle.fields.proofs.Stores.{sets-append}
 use Rattle.pcode.specs.Shown.{place}
-use Rattle.encode.specs.declared.Ends.{Ends}
-use Rattle.encode.specs.Pieces.{Piece, written, bytesOf, nextOf, Reads, joined, Room, Put}
+use Rattle.encode_values.specs.declared.Ends.{Ends}
+use Rattle.encode_values.specs.Pieces.{Piece, written, bytesOf, nextOf, Reads, joined, Room, Put}
 
 module _ {A : Type 0} (read : Reader A) (bytes : A → List ℕ) where
   -- n elements from p on

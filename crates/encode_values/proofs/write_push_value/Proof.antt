@@ -1,15 +1,15 @@
-use Rattle.encode.proofs.Values as values
+use Rattle.encode_values.proofs.Values as values
 use borrow.Author.Needs.{needs}
-use Rattle.encode.proofs.write_push_value.Statement.{statement}
-use Rattle.encode.proofs.write_push_value.Tie as tie
-use Rattle.encode.proofs.write_push_value.Reads as reads
-use Rattle.encode.proofs.write_push_value.Lts as lts
-use Rattle.encode.proofs.write_kind.Reads as write-kind-reads
-use Rattle.encode.proofs.write_kind_u8.Reads as write-kind-u8-reads
-use Rattle.encode.proofs.write_push_constant.Reads as write-push-constant-reads
-use Rattle.encode.proofs.write_push_float.Reads as write-push-float-reads
-use Rattle.encode.proofs.write_push_integer.Reads as write-push-integer-reads
-use Rattle.encode.proofs.write_push_string.Reads as write-push-string-reads
+use Rattle.encode_values.proofs.write_push_value.Statement.{statement}
+use Rattle.encode_values.proofs.write_push_value.Tie as tie
+use Rattle.encode_values.proofs.write_push_value.Reads as reads
+use Rattle.encode_values.proofs.write_push_value.Lts as lts
+use Rattle.encode_values.proofs.write_byte.Reads as write-byte-reads
+use Rattle.encode_values.proofs.write_kind_u8.Reads as write-kind-u8-reads
+use Rattle.encode_values.proofs.write_push_constant.Reads as write-push-constant-reads
+use Rattle.encode_values.proofs.write_push_float.Reads as write-push-float-reads
+use Rattle.encode_values.proofs.write_push_integer.Reads as write-push-integer-reads
+use Rattle.encode_values.proofs.write_push_string.Reads as write-push-string-reads
 use Rattle.pcode.proofs.push_value_at.Reads as push-value-at-reads
 
 -- src/lib.rt:171:9
@@ -29,16 +29,16 @@ enum-told : tie.Need-enum-told
 enum-told c = search needs
 
 -- src/lib.rt:175:28
-write-kind-requires : tie.Need-write-kind-requires
-write-kind-requires c κs = values.value-room _ _ (c .before .before .before .push-value-at .ensures) (c .before .before .before .before .before .before .pre) (c .before .enum-told .given .1) .1
+write-byte-requires : tie.Need-write-byte-requires
+write-byte-requires c κs = values.value-room _ _ (c .before .before .before .push-value-at .ensures) (c .before .before .before .before .before .before .pre) (c .before .enum-told .given .1) .1
 
 -- src/lib.rt:176:44
 enum-told-2 : tie.Need-enum-told-2
 enum-told-2 c = search needs
 
 -- src/lib.rt:176:33
-write-kind-requires-2 : tie.Need-write-kind-requires-2
-write-kind-requires-2 c κs = values.value-room _ _ (c .before .before .before .push-value-at .ensures) (c .before .before .before .before .before .before .pre) (c .before .enum-told2 .given .1) .1
+write-byte-requires-2 : tie.Need-write-byte-requires-2
+write-byte-requires-2 c κs = values.value-room _ _ (c .before .before .before .push-value-at .ensures) (c .before .before .before .before .before .before .pre) (c .before .enum-told2 .given .1) .1
 
 -- src/lib.rt:177:29
 enum-known-value-2 : tie.Need-enum-known-value-2
@@ -94,7 +94,7 @@ same-length-2 c = search needs
 
 -- src/lib.rt:167:1
 returns-2 : tie.Need-returns-2
-returns-2 c = values.value-put _ _ (c .before .before .before .before .before .before .push-value-at .ensures) (c .before .before .before .before .before .before .before .before .before .pre) (c .before .before .before .before .enum-told .given .1) (c .before .before .write-kind .ensures)
+returns-2 c = values.value-put _ _ (c .before .before .before .before .before .before .push-value-at .ensures) (c .before .before .before .before .before .before .before .before .before .pre) (c .before .before .before .before .enum-told .given .1) (c .before .before .write-byte .ensures)
 
 -- src/lib.rt:167:1
 same-length-3 : tie.Need-same-length-3
@@ -102,7 +102,7 @@ same-length-3 c = search needs
 
 -- src/lib.rt:167:1
 returns-3 : tie.Need-returns-3
-returns-3 c = values.value-put _ _ (c .before .before .before .before .before .before .push-value-at .ensures) (c .before .before .before .before .before .before .before .before .before .pre) (c .before .before .before .before .enum-told2 .given .1) (c .before .before .write-kind2 .ensures)
+returns-3 c = values.value-put _ _ (c .before .before .before .before .before .before .push-value-at .ensures) (c .before .before .before .before .before .before .before .before .before .pre) (c .before .before .before .before .enum-told2 .given .1) (c .before .before .write-byte2 .ensures)
 
 -- src/lib.rt:167:1
 same-length-4 : tie.Need-same-length-4
@@ -152,9 +152,9 @@ write-push-value-spec =
     enum-known-value
     write-push-string-requires
     enum-told
-    write-kind-requires
+    write-byte-requires
     enum-told-2
-    write-kind-requires-2
+    write-byte-requires-2
     enum-known-value-2
     write-kind-u8-requires
     enum-known-value-3

@@ -1,15 +1,15 @@
 use mathlib.Core.Path.{_≡_, _∙_}
-use Rattle.encode.proofs.Lists as lists
-use Rattle.encode.specs.Pieces.{stringBytes, stringsAt}
+use Rattle.encode_values.proofs.Lists as lists
+use Rattle.encode_values.specs.Pieces.{stringBytes, stringsAt}
 use Rattle.layout.specs.Read.{edition1, readString}
 use lib.ListN.{length}
 use borrow.Author.Needs.{needs}
 use native.Mathlib.Omega.{arith}
-use Rattle.encode.proofs.write_strings.Statement.{statement}
-use Rattle.encode.proofs.write_strings.Tie as tie
-use Rattle.encode.proofs.write_strings.Reads as reads
-use Rattle.encode.proofs.write_strings.Lts as lts
-use Rattle.encode.proofs.write_string_at.Reads as write-string-at-reads
+use Rattle.encode_values.proofs.write_strings.Statement.{statement}
+use Rattle.encode_values.proofs.write_strings.Tie as tie
+use Rattle.encode_values.proofs.write_strings.Reads as reads
+use Rattle.encode_values.proofs.write_strings.Lts as lts
+use Rattle.encode_values.proofs.write_string_at.Reads as write-string-at-reads
 
 abbrev Inv-loop : tie.InvT-loop
 Inv-loop out₀ pos b n at left₀ p₀ w₀ out left p w = lists.Going (readString edition1 b) stringBytes (stringsAt b n at) pos out₀ left p w out × (length out ≡ length out₀)

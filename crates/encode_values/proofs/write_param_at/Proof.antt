@@ -1,11 +1,11 @@
-use Rattle.encode.proofs.Texts as texts
+use Rattle.encode_values.proofs.Texts as texts
 use native.Mathlib.Omega.{arith}
 use borrow.Author.Needs.{needs}
-use Rattle.encode.proofs.write_param_at.Statement.{statement}
-use Rattle.encode.proofs.write_param_at.Tie as tie
-use Rattle.encode.proofs.write_param_at.Reads as reads
-use Rattle.encode.proofs.write_param_at.Lts as lts
-use Rattle.encode.proofs.write_string_at.Reads as write-string-at-reads
+use Rattle.encode_values.proofs.write_param_at.Statement.{statement}
+use Rattle.encode_values.proofs.write_param_at.Tie as tie
+use Rattle.encode_values.proofs.write_param_at.Reads as reads
+use Rattle.encode_values.proofs.write_param_at.Lts as lts
+use Rattle.encode_values.proofs.write_string_at.Reads as write-string-at-reads
 use Rattle.fields.proofs.write_u8.Reads as write-u8-reads
 
 -- src/lib.rt:61:24

@@ -1,12 +1,12 @@
 use Rattle.layout.specs.Numbers.{le16}
-use Rattle.encode.proofs.Puts as puts
+use Rattle.encode_values.proofs.Puts as puts
 use native.Mathlib.Omega.{arith}
 use borrow.Author.Needs.{needs}
-use Rattle.encode.proofs.write_push_constant.Statement.{statement}
-use Rattle.encode.proofs.write_push_constant.Tie as tie
-use Rattle.encode.proofs.write_push_constant.Reads as reads
-use Rattle.encode.proofs.write_push_constant.Lts as lts
-use Rattle.encode.proofs.write_kind_u8.Reads as write-kind-u8-reads
+use Rattle.encode_values.proofs.write_push_constant.Statement.{statement}
+use Rattle.encode_values.proofs.write_push_constant.Tie as tie
+use Rattle.encode_values.proofs.write_push_constant.Reads as reads
+use Rattle.encode_values.proofs.write_push_constant.Lts as lts
+use Rattle.encode_values.proofs.write_kind_u8.Reads as write-kind-u8-reads
 use Rattle.fields.proofs.write_u16.Reads as write-u16-reads
 use Rattle.fields.proofs.write_u8.Reads as write-u8-reads
 
