@@ -1,32 +1,30 @@
 -- Laws of pieces: how the runs that a function stores one after the other make up what it has to write. Assumes nothing.
-use mathlib.Core.Path.{_≡_, refl, sym, ap, _∙_}
+use mathlib.Core.Path.{_≡_, refl, ap, _∙_}
 use Prim.Native.Nat.{ℕ, zero, suc, _+_, _-_, _*_, _%_, _≤_, _<_}
 use native.Mathlib.Nat.{add-zero, suc-add, add-suc}
 use native.Mathlib.Omega.{arith}
 use mathlib.Core.Bool.{Bool, true, false, _&&_}
 use mathlib.Core.Option.{none, some}
 use mathlib.Core.List.{List, [], _∷_, _++_}
-use lib.ListN.{length, getD, set, length-append}
-use lib.Seq.{sets, set-comm, length-sets}
+use lib.ListN.{length, set, length-append}
+use lib.Seq.{sets, set-comm}
 use lib.Dec.{leb, ltb, eqb}
 use borrow.Author.Tests.{lt-ltb, le-ltb, ltb-true, ltb-false, leb-true}
-use Rattle.layout.specs.Numbers.{le16, bits64, bit}
+use Rattle.layout.specs.Numbers.{le16, bits64}
 use Rattle.layout.specs.Read.{got, bad}
 use Rattle.layout.specs.OpCode.{byte}
-use Rattle.layout.specs.Tree.{GetUrl, WaitForFrame, GetUrl2, GotoFrame2}
-use Rattle.layout.specs.Payload.{zeroEnded, constantBytes, opcode, payload, getUrl2Bits, gotoFrame2Bytes, headed, framed}
-use Rattle.layout.specs.Lengths.{length-le16, length-zeroEnded}
+use Rattle.layout.specs.Tree.{GetUrl, GetUrl2, GotoFrame2}
+use Rattle.layout.specs.Payload.{zeroEnded, opcode, payload, getUrl2Bits, gotoFrame2Bytes, headed, framed}
 use Rattle.layout.specs.Write.{distanceBits}
 use Rattle.layout.specs.Judge.{judged, distance, isNear, farUnless}
 use Rattle.labels.specs.Table.{recordOf}
 use Rattle.labels.proofs.Distances.{distance-ahead, distance-back}
-use Rattle.fields.specs.Runs.{part}
-use Rattle.fields.proofs.Stores.{sets-append, sets-then, length-part}
+use Rattle.fields.proofs.Stores.{sets-then}
 use Rattle.pcode.specs.declared.Span.{Span}
 use Rattle.pcode.specs.Shown.{after}
 use Rattle.encode_values.proofs.Puts.{length-span, bit-is}
 use Rattle.encode_values.specs.Pieces.{Piece, piece, written, bytesOf, nextOf, Reads, spanOf, Room, Put}
-use Rattle.encode.specs.Payloads.{action, flatPiece, functionPayload, function2Payload}
+use Rattle.encode.specs.Payloads.{action, flatPiece}
 
 -- ---- runs of stores
 

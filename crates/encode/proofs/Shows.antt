@@ -10,10 +10,10 @@ use lib.Seq.{sets}
 use lib.Dec.{ltb, eqb}
 use borrow.Author.Tests.{ltb-true, eqb-true, eqb-false}
 use Rattle.layout.specs.Lists.{each}
-use Rattle.layout.specs.Numbers.{u16At, le16, bit}
+use Rattle.layout.specs.Numbers.{le16, bit}
 use Rattle.layout.specs.OpCode.{byte}
-use Rattle.layout.specs.Tree.{PushValueOf, FunctionParamOf, functionParam, Small, GotoFrame, GetUrl, StoreRegister, ConstantPool, WaitForFrame, SetTarget, GotoLabel, WaitForFrame2, Push, GetUrl2, GotoFrame2, With, DefineFunction, DefineFunction2, Jump, If, CatchTargetOf, Variable, Register, ActionOf, flat, branch, owner, Try, ActionsOf, CatchOf, noCatch, catch, FinallyOf, noFinally, finally}
-use Rattle.layout.specs.Read.{Text, plain, edition1, Place, Read, got, bad, Reader, chain, repeat, hasCatch, hasFinally, hasRegister, isShape, readString, readParam, readValue, readCatch, readFinally}
+use Rattle.layout.specs.Tree.{PushValueOf, FunctionParamOf, functionParam, Small, GotoFrame, GetUrl, StoreRegister, ConstantPool, WaitForFrame, SetTarget, GotoLabel, WaitForFrame2, Push, GetUrl2, GotoFrame2, With, DefineFunction, DefineFunction2, Jump, If, CatchTargetOf, Variable, Register, ActionOf, branch, Try, ActionsOf, CatchOf, noCatch, catch, FinallyOf, noFinally, finally}
+use Rattle.layout.specs.Read.{Text, edition1, Place, Read, got, bad, Reader, chain, repeat, hasCatch, hasFinally, hasRegister, isShape, readString, readParam, readCatch, readFinally}
 use Rattle.layout.specs.Payload.{zeroEnded, stringsBytes, pushesBytes, opcode, payload, ownerOpCode, paramsBytes, ownerFields, ownerPayload, branchOpCode, catchShape, finallyShape, catchName, tryPayload, headed, framed}
 use Rattle.layout.specs.Strings.{mapValue, mapParam, mapFlat, mapOwner, mapTarget, mapAction, mapCatch, mapFinally}
 use Rattle.layout.specs.Pack.{spelling}
@@ -24,11 +24,11 @@ use Rattle.pcode.specs.declared.CatchTarget.{CatchTarget}
 use Rattle.pcode.specs.declared.CatchTarget.the-variants as target
 use Rattle.pcode.specs.declared.Action.{Action}
 use Rattle.pcode.specs.declared.Action.the-variants as code
-use Rattle.pcode.specs.Shown.{place, after, IsText, isText, ShownTarget, nothing, variable, register, Shown, small, gotoFrame, getUrl, storeRegister, constantPool, waitForFrame, setTarget, gotoLabel, waitForFrame2, defineFunction2, try, with, push, jump, getUrl2, defineFunction, if, gotoFrame2}
+use Rattle.pcode.specs.Shown.{place, after, isText, ShownTarget, nothing, variable, register, Shown, small, gotoFrame, getUrl, storeRegister, constantPool, waitForFrame, setTarget, gotoLabel, waitForFrame2, defineFunction2, try, with, push, jump, getUrl2, defineFunction, if, gotoFrame2}
 use Rattle.encode_values.specs.declared.Ends.{Ends}
 use Rattle.encode.specs.Heads.{tableBits, headBytes, headOf, CatchFrom, FinallyFrom, BodiesFrom, NotFar, Writable, WroteHead}
-use Rattle.encode_values.specs.Pieces.{Piece, piece, written, bytesOf, nextOf, Reads, spanOf, stringBytes, paramBytes, valueBytes, joined, stringsAt, paramsAt, valuesAt, Room, Put}
-use Rattle.encode.specs.Payloads.{action, flatPiece, targetBytes, TargetWithin, functionPayload, function2Payload, function, function2, function2Of}
+use Rattle.encode_values.specs.Pieces.{Piece, piece, written, nextOf, spanOf, stringBytes, paramBytes, valueBytes, joined, stringsAt, valuesAt, Room, Put}
+use Rattle.encode.specs.Payloads.{action, flatPiece, targetBytes, TargetWithin, functionPayload, function2Payload, function, function2}
 
 -- ---- lists
 

@@ -1,5 +1,5 @@
 -- Laws of the actions that hold a list: the payload made of its runs, and its room. Assumes nothing.
-use mathlib.Core.Path.{_≡_, refl, sym, ap, _∙_}
+use mathlib.Core.Path.{_≡_, refl, sym, _∙_}
 use Prim.Native.Nat.{ℕ, _+_, _-_, _≤_}
 use native.Mathlib.Omega.{arith}
 use mathlib.Core.Bool.{false}
@@ -7,7 +7,7 @@ use mathlib.Core.List.{List, [], _∷_, _++_}
 use lib.ListN.{length, getD, length-append}
 use lib.Seq.{sets}
 use Rattle.layout.specs.Numbers.{u16At, le16}
-use Rattle.layout.specs.Read.{Read, got, bad}
+use Rattle.layout.specs.Read.{got, bad}
 use Rattle.layout.specs.Payload.{zeroEnded, tryPayload, headed}
 use Rattle.layout.specs.Lengths.{length-le16, length-tryPayload}
 use Rattle.pcode.specs.declared.Function.{Function}

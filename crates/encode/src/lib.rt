@@ -22,8 +22,8 @@ use encode_values::write_push_values;
 use encode_values::write_strings;
 use fields::u16_at;
 use fields::write_string;
-use fields::write_u16;
 use fields::write_u8;
+use fields::write_u16;
 use labels::BytePosition;
 use labels::distance;
 use pcode::Action;
@@ -72,7 +72,14 @@ fn write_u16_action(out: &mut [u8], pos: usize, op: u8, v: usize, next: usize) -
 }
 
 // If and Jump: the label table is full, so that the distance is written at once.
-fn write_branch(out: &mut [u8], pos: usize, op: u8, label: usize, tab: &[usize], next: usize) -> Ends
+fn write_branch(
+    out: &mut [u8],
+    pos: usize,
+    op: u8,
+    label: usize,
+    tab: &[usize],
+    next: usize,
+) -> Ends
     requires { ⌜ (label < length (now tab)) × (judged (recordOf (getD (now tab) label 0)) (pos + 5) ≡ none) × Room (action op (le16 (tableBits (now tab) label (pos + 5))) next) pos (now out) ⌝ }
     ensures { λ r. ⌜ Put (action op (le16 (tableBits (now (tab .entry)) label (pos + 5))) next) pos (now (out .entry)) (now (out .exit)) r ⌝ }
 {
@@ -93,6 +100,7 @@ fn write_string_action(out: &mut [u8], pos: usize, op: u8, b: &[u8], s: Span) ->
     }
 }
 
+// Two strings.
 fn write_get_url(out: &mut [u8], pos: usize, b: &[u8], url: Span, target: Span) -> Ends
     requires { ⌜ (after url ≤ length (now b)) × (after target ≤ length (now b)) × Room (flatPiece (GetUrl (spanOf (now b) url) (spanOf (now b) target)) (after target)) pos (now out) ⌝ }
     ensures { λ r. ⌜ Put (flatPiece (GetUrl (spanOf (now (b .entry)) url) (spanOf (now (b .entry)) target)) (after target)) pos (now (out .entry)) (now (out .exit)) r ⌝ }
@@ -108,7 +116,14 @@ fn write_get_url(out: &mut [u8], pos: usize, b: &[u8], url: Span, target: Span) 
 }
 
 // The method's low two bits, the target at bit 6, the variables at bit 7.
-fn write_get_url_2(out: &mut [u8], pos: usize, variables: u8, target: u8, method: u8, next: usize) -> Ends
+fn write_get_url_2(
+    out: &mut [u8],
+    pos: usize,
+    variables: u8,
+    target: u8,
+    method: u8,
+    next: usize,
+) -> Ends
     requires { ⌜ (variables < 2) × (target < 2) × Room (flatPiece (GetUrl2 (eqb variables 1) (eqb target 1) method) next) pos (now out) ⌝ }
     ensures { λ r. ⌜ Put (flatPiece (GetUrl2 (eqb variables 1) (eqb target 1) method) next) pos (now (out .entry)) (now (out .exit)) r ⌝ }
 {
@@ -130,6 +145,7 @@ fn write_goto_frame_2(out: &mut [u8], pos: usize, scene_bias: usize, play: u8, n
     Ends { next, pos: pos + 6 }
 }
 
+// A u16 and a byte.
 fn write_wait_for_frame(out: &mut [u8], pos: usize, frame: usize, skip: u8, next: usize) -> Ends
     requires { ⌜ Room (flatPiece (WaitForFrame frame skip) next) pos (now out) ⌝ }
     ensures { λ r. ⌜ Put (flatPiece (WaitForFrame frame skip) next) pos (now (out .entry)) (now (out .exit)) r ⌝ }
@@ -257,7 +273,13 @@ pub fn write_head(b: &[u8], at: usize, a: Action, pos: usize, tab: &[usize], out
         Action::WaitForFrame(frame, skip) => write_wait_for_frame(out, pos, frame, skip, p + 3),
         Action::SetTarget(s) => write_string_action(out, pos, OpCode::SET_TARGET, b, s),
         Action::GotoLabel(s) => write_string_action(out, pos, OpCode::GOTO_LABEL, b, s),
-        Action::WaitForFrame2(skip) => write_u8_action(out, pos, OpCode::WAIT_FOR_FRAME2, skip, p + 1),
+        Action::WaitForFrame2(skip) => write_u8_action(
+            out,
+            pos,
+            OpCode::WAIT_FOR_FRAME2,
+            skip,
+            p + 1,
+        ),
         Action::DefineFunction2(f) => write_define_function_2(out, pos, b, f),
         Action::Try(shape, t, i) => write_try(out, pos, b, shape, t, i),
         Action::With(i) => write_u16_action(out, pos, OpCode::WITH, 0, i),

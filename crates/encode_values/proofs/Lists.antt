@@ -3,10 +3,10 @@ use mathlib.Core.Path.{_≡_, refl, sym, ap, _∙_}
 use Prim.Native.Nat.{ℕ, zero, suc, _+_, _-_, _≤_, _<_}
 use native.Mathlib.Omega.{arith}
 use native.Mathlib.Numerals.{sub-one}
-use mathlib.Core.List.{List, [], _∷_, _++_}
+use mathlib.Core.List.{List, _∷_, _++_}
 use lib.ListN.{length, length-append}
 use lib.Seq.{sets, length-sets}
-use Rattle.layout.specs.Read.{Place, Read, got, bad, Reader, chain, repeat}
+use Rattle.layout.specs.Read.{Read, got, bad, Reader, chain, repeat}
 use Rattle.fields.proofs.Stores.{sets-append}
 use Rattle.pcode.specs.Shown.{place}
 use Rattle.encode_values.specs.declared.Ends.{Ends}
@@ -95,5 +95,5 @@ module _ {A : Type 0} (read : Reader A) (bytes : A → List ℕ) where
               room = record { known = behind-reads a (repeat read (n - 1) (place q)) k; room = omega (arith, rw s at (g .room .room)); sums = omega (arith, g .room .sums) };
               wrote = rw o (sets-append out w (bytes a) (bytesOf rest)) ∙ sym (ap (λ (t : List ℕ). sets out w t) s) ∙ g .wrote;
               end = omega (arith, rw s at (g .end));
-              next = sym (behind-next a (repeat read (n - 1) (place q))) ∙ rw f at (g .next)
+              next = sym (behind-next a (repeat read (n - 1) (place q))) ∙ rw f at (g .next);
             })

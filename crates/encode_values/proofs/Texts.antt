@@ -1,20 +1,20 @@
 -- What the strings and parameters at a place are written as. Assumes nothing.
-use mathlib.Core.Path.{_≡_, refl, sym, ap, _∙_}
+use mathlib.Core.Path.{_≡_, refl, sym, _∙_}
 use Prim.Native.Nat.{ℕ, _+_, _≤_}
 use native.Mathlib.Omega.{arith}
-use mathlib.Core.List.{List, [], _∷_, _++_}
+use mathlib.Core.List.{List, [], _∷_}
 use lib.ListN.{length, getD}
 use lib.Seq.{sets}
 use Rattle.layout.specs.Numbers.{u16At}
-use Rattle.layout.specs.Tree.{FunctionParamOf, functionParam}
-use Rattle.layout.specs.Read.{Text, edition1, Place, Read, got, bad, plain, chain, readU8, readString, readParam}
+use Rattle.layout.specs.Tree.{functionParam}
+use Rattle.layout.specs.Read.{Text, edition1, Read, got, bad, plain, chain, readU8, readString, readParam}
 use Rattle.layout.specs.Payload.{zeroEnded}
 use Rattle.layout.specs.Pack.{spelling}
 use Rattle.fields.specs.Runs.{part}
 use Rattle.fields.proofs.Stores.{sets-then}
 use Rattle.pcode.specs.Shown.{place, spanAt, after}
 use Rattle.pcode.proofs.Readings as reading
-use Rattle.pcode.proofs.Readings.{Gives, gives, refuses, Exactly, exactly}
+use Rattle.pcode.proofs.Readings.{Gives, gives, Exactly, exactly}
 use Rattle.encode_values.specs.declared.Ends.{Ends}
 use Rattle.encode_values.specs.Pieces.{Piece, piece, written, bytesOf, nextOf, Reads, stringBytes, paramBytes, stringAt, paramAt, spanOf, Room, Put}
 use Rattle.encode_values.proofs.Puts.{length-span}

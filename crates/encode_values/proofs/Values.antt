@@ -1,22 +1,21 @@
 -- What the code's cases of a push value are written as. Assumes nothing.
-use mathlib.Core.Path.{_≡_, refl, sym, ap, _∙_}
-use Prim.Native.Nat.{ℕ, _+_, _≤_, _<_}
-use native.Mathlib.Omega.{arith}
-use mathlib.Core.List.{List, [], _∷_, _++_}
+use mathlib.Core.Path.{_≡_, refl, ap}
+use Prim.Native.Nat.{ℕ, _≤_}
+use mathlib.Core.List.{List, [], _∷_}
 use lib.ListN.{length}
-use lib.Dec.{ltb, eqb}
-use Rattle.layout.specs.Numbers.{le16, le32, bit}
+use lib.Dec.{ltb}
+use Rattle.layout.specs.Numbers.{le32}
 use Rattle.layout.specs.Tree.{PushValueOf}
-use Rattle.layout.specs.Read.{Text, edition1, Place, Read, got, bad, readValue}
+use Rattle.layout.specs.Read.{Text, edition1, Read, got, bad, readValue}
 use Rattle.layout.specs.Payload.{zeroEnded, constantBytes, doubleBytes, pushBytes}
 use Rattle.layout.specs.Strings.{mapValue}
 use Rattle.layout.specs.Pack.{spelling}
 use Rattle.pcode.specs.declared.PushAt.{PushAt}
 use Rattle.pcode.specs.declared.PushValue.{PushValue}
 use Rattle.pcode.specs.declared.PushValue.the-variants as value
-use Rattle.pcode.specs.Shown.{place, after, IsText, isText, ShownValue, string, null, undefined, register, boolean, float, integer, constant, ValueReads, ShowsValue}
+use Rattle.pcode.specs.Shown.{place, after, isText, ShownValue, string, null, undefined, register, boolean, float, integer, constant, ValueReads, ShowsValue}
 use Rattle.encode_values.specs.declared.Ends.{Ends}
-use Rattle.encode_values.specs.Pieces.{Piece, piece, written, Reads, valueBytes, valueAt, spanOf, Room, Put}
+use Rattle.encode_values.specs.Pieces.{piece, written, Reads, valueBytes, valueAt, spanOf, Room, Put}
 use Rattle.encode_values.proofs.Puts.{bit-is}
 
 module _ (b : List ℕ) where

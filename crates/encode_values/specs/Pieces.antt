@@ -1,20 +1,16 @@
 -- Pieces of the block: bytes to write, and the place where reading goes on. Assumes nothing.
 use mathlib.Core.Path.{_≡_}
 use Prim.Native.Nat.{ℕ, _+_, _≤_}
-use mathlib.Core.Bool.{false}
 use mathlib.Core.List.{List, [], _∷_, _++_}
-use lib.ListN.{length, getD}
+use lib.ListN.{length}
 use lib.Seq.{sets}
-use Rattle.layout.specs.Numbers.{u16At, le16}
-use Rattle.layout.specs.Tree.{Flat, PushValueOf, FunctionParamOf, functionParam}
-use Rattle.layout.specs.Read.{Text, edition1, Place, ahead, Read, got, bad, Reader, repeat, readString, readParam, readValue}
-use Rattle.layout.specs.Payload.{zeroEnded, pushBytes, opcode, payload, headed, framed}
+use Rattle.layout.specs.Tree.{PushValueOf, FunctionParamOf, functionParam}
+use Rattle.layout.specs.Read.{Text, edition1, Read, got, bad, repeat, readString, readParam, readValue}
+use Rattle.layout.specs.Payload.{zeroEnded, pushBytes}
 use Rattle.layout.specs.Strings.{mapValue}
 use Rattle.layout.specs.Pack.{spelling}
 use Rattle.fields.specs.Runs.{part}
 use Rattle.pcode.specs.declared.Span.{Span}
-use Rattle.pcode.specs.declared.Function.{Function}
-use Rattle.pcode.specs.declared.CatchTarget.{CatchTarget}
 use Rattle.pcode.specs.declared.CatchTarget.the-variants as target
 use Rattle.pcode.specs.Shown.{place, after}
 use Rattle.encode_values.specs.declared.Ends.{Ends}

@@ -11,9 +11,9 @@ ghost use Rattle.encode_values.specs.Pieces.{piece, spanOf, stringAt, pa
 use fields::u16_at;
 use fields::write_f64_me;
 use fields::write_string;
+use fields::write_u8;
 use fields::write_u16;
 use fields::write_u32;
-use fields::write_u8;
 use pcode::PushValue;
 use pcode::Span;
 use pcode::push_value_at;

@@ -1,76 +1,79 @@
-use Rattle.encode_values.proofs.Puts as values
-use Rattle.encode_values.specs.Pieces.{spanOf}
-use Rattle.layout.specs.Payload.{zeroEnded, opcode, payload, framed}
+-- `encode::write_get_url` meets its contract: the header's run and then those of the two strings are one run. Assumes nothing.
 use Prim.Native.Nat.{_+_}
+use native.Mathlib.Omega.{arith}
 use lib.ListN.{length-append}
 use denote.Ref.{now}
-use Rattle.layout.specs.OpCode.{byte}
-use Rattle.encode.proofs.Actions as actions
-use native.Mathlib.Omega.{arith}
 use borrow.Author.Needs.{needs}
+use Rattle.layout.specs.OpCode.{byte}
+use Rattle.layout.specs.Payload.{zeroEnded, opcode, payload, framed}
+use Rattle.encode_values.proofs.Puts as values
+use Rattle.encode_values.specs.Pieces.{spanOf}
+use Rattle.encode.proofs.Actions as actions
 use Rattle.encode.proofs.write_get_url.Statement.{statement}
 use Rattle.encode.proofs.write_get_url.Tie as tie
-use Rattle.encode.proofs.write_get_url.Reads as reads
-use Rattle.encode.proofs.write_get_url.Lts as lts
-use Rattle.fields.proofs.write_string.Reads as write-string-reads
-use Rattle.writer.proofs.write_action_header.Reads as write-action-header-reads
 
--- src/lib.rt:263:52
 add-write-action-header : tie.Need-add-write-action-header
 add-write-action-header c = search needs
 
--- src/lib.rt:263:52
 add-write-action-header-2 : tie.Need-add-write-action-header-2
-add-write-action-header-2 c = let a = c .before .before .before .before .before .args in let p = c .before .before .before .before .before .pre in let h = actions.get-url-room (now (a .b)) (a .url) (a .target) (p .0) (p .1) (p .2) in omega arith
+add-write-action-header-2 c =
+    let s = c .before .before .before .before .before in
+    let h = actions.get-url-room (now (s .args .b)) (s .args .url) (s .args .target) (s .pre .0) (s .pre .1) (s .pre .2) in
+    omega arith
 
--- src/lib.rt:263:5
 write-action-header-requires : tie.Need-write-action-header-requires
-write-action-header-requires c κs = let a = c .before .before .before .before .before .args in let p = c .before .before .before .before .before .pre in let h = actions.get-url-room (now (a .b)) (a .url) (a .target) (p .0) (p .1) (p .2) in omega arith
+write-action-header-requires c κs =
+    let s = c .before .before .before .before .before in
+    let h = actions.get-url-room (now (s .args .b)) (s .args .url) (s .args .target) (s .pre .0) (s .pre .1) (s .pre .2) in
+    omega arith
 
--- src/lib.rt:264:23
 add-write-string : tie.Need-add-write-string
 add-write-string c = search needs
 
--- src/lib.rt:264:5
 write-string-requires : tie.Need-write-string-requires
-write-string-requires c κs = let a = c .before .before .before .before .before .before .before .before .before .args in let p = c .before .before .before .before .before .before .before .before .before .pre in let h = actions.get-url-room (now (a .b)) (a .url) (a .target) (p .0) (p .1) (p .2) in (omega (arith, c .before .before .before .write-action-header .kept .0), omega arith)
+write-string-requires c κs =
+    let s = c .before .before .before .before .before .before .before .before .before in
+    let h = actions.get-url-room (now (s .args .b)) (s .args .url) (s .args .target) (s .pre .0) (s .pre .1) (s .pre .2) in
+    (omega (arith, c .before .before .before .write-action-header .kept .0), omega arith)
 
--- src/lib.rt:265:13
 add-w : tie.Need-add-w
 add-w c = search needs
 
--- src/lib.rt:265:24
 add-w-2 : tie.Need-add-w-2
 add-w-2 c = search needs
 
--- src/lib.rt:265:13
 add-w-3 : tie.Need-add-w-3
 add-w-3 c = search needs
 
--- src/lib.rt:266:5
 write-string-requires-2 : tie.Need-write-string-requires-2
-write-string-requires-2 c κs = let a = c .before .before .before .before .before .before .before .before .before .before .before .before .before .before .args in let p = c .before .before .before .before .before .before .before .before .before .before .before .before .before .before .pre in let h = actions.get-url-room (now (a .b)) (a .url) (a .target) (p .0) (p .1) (p .2) in (omega (arith, c .before .before .before .before .before .before .before .before .write-action-header .kept .0, c .before .before .before .before .write-string .kept .0), omega arith)
+write-string-requires-2 c κs =
+    let s = c .before .before .before .before .before .before .before .before .before .before .before .before .before .before in
+    let h = actions.get-url-room (now (s .args .b)) (s .args .url) (s .args .target) (s .pre .0) (s .pre .1) (s .pre .2) in
+    (omega (arith, c .before .before .before .before .before .before .before .before .write-action-header .kept .0, c .before .before .before .before .write-string .kept .0), omega arith)
 
--- src/lib.rt:268:15
 add-t11 : tie.Need-add-t11
 add-t11 c = search needs
 
--- src/lib.rt:269:14
 add-t10 : tie.Need-add-t10
-add-t10 c = let a = c .before .before .before .before .before .before .before .before .before .before .before .before .before .before .before .before .before .before .before .args in let p = c .before .before .before .before .before .before .before .before .before .before .before .before .before .before .before .before .before .before .before .pre in let h = actions.get-url-room (now (a .b)) (a .url) (a .target) (p .0) (p .1) (p .2) in omega arith
+add-t10 c =
+    let s = c .before .before .before .before .before .before .before .before .before .before .before .before .before .before .before .before .before .before .before in
+    let h = actions.get-url-room (now (s .args .b)) (s .args .url) (s .args .target) (s .pre .0) (s .pre .1) (s .pre .2) in
+    omega arith
 
--- src/lib.rt:269:14
 add-t16 : tie.Need-add-t16
-add-t16 c = let a = c .before .before .before .before .before .before .before .before .before .before .before .before .before .before .before .before .before .before .before .args in let p = c .before .before .before .before .before .before .before .before .before .before .before .before .before .before .before .before .before .before .before .pre in let h = actions.get-url-room (now (a .b)) (a .url) (a .target) (p .0) (p .1) (p .2) in omega arith
+add-t16 c =
+    let s = c .before .before .before .before .before .before .before .before .before .before .before .before .before .before .before .before .before .before .before in
+    let h = actions.get-url-room (now (s .args .b)) (s .args .url) (s .args .target) (s .pre .0) (s .pre .1) (s .pre .2) in
+    omega arith
 
--- src/lib.rt:259:1
 same-length : tie.Need-same-length
 same-length c = search needs
 
--- src/lib.rt:259:1
 returns : tie.Need-returns
 unfolding framed byte opcode payload
-returns c = let a = c .before .before .before .before .before .before .before .before .before .before .before .before .before .before .before .before .before .before .before .args in let p = c .before .before .before .before .before .before .before .before .before .before .before .before .before .before .before .before .before .before .before .pre in
+returns c =
+    let a = c .before .before .before .before .before .before .before .before .before .before .before .before .before .before .before .before .before .before .before .args in
+    let p = c .before .before .before .before .before .before .before .before .before .before .before .before .before .before .before .before .before .before .before .pre in
     let x = zeroEnded (spanOf (now (a .b)) (a .url)) in
     let y = zeroEnded (spanOf (now (a .b)) (a .target)) in
     let i = values.length-span (now (a .b)) (a .url) (p .0) in

@@ -1,38 +1,28 @@
-use Rattle.encode_values.proofs.Texts as texts
+-- `encode_values::write_param_at` meets its contract: its byte and then the string behind it are what is written of a parameter. Assumes nothing.
 use native.Mathlib.Omega.{arith}
 use borrow.Author.Needs.{needs}
+use Rattle.encode_values.proofs.Texts as texts
 use Rattle.encode_values.proofs.write_param_at.Statement.{statement}
 use Rattle.encode_values.proofs.write_param_at.Tie as tie
-use Rattle.encode_values.proofs.write_param_at.Reads as reads
-use Rattle.encode_values.proofs.write_param_at.Lts as lts
-use Rattle.encode_values.proofs.write_string_at.Reads as write-string-at-reads
-use Rattle.fields.proofs.write_u8.Reads as write-u8-reads
 
--- src/lib.rt:61:24
 shared-slice-read-write-u8 : tie.Need-shared-slice-read-write-u8
 shared-slice-read-write-u8 c = omega (arith, texts.param-inside _ _ (c .before .before .before .before .pre) .0)
 
--- src/lib.rt:61:5
 write-u8-requires : tie.Need-write-u8-requires
 write-u8-requires c κs = omega (arith, texts.param-inside _ _ (c .before .before .before .before .pre) .1)
 
--- src/lib.rt:62:26
 add-write-string-at : tie.Need-add-write-string-at
 add-write-string-at c = search needs
 
--- src/lib.rt:62:38
 add-write-string-at-2 : tie.Need-add-write-string-at-2
 add-write-string-at-2 c = omega (arith, texts.param-inside _ _ (c .before .before .before .before .before .before .before .before .pre) .0)
 
--- src/lib.rt:62:5
 write-string-at-requires : tie.Need-write-string-at-requires
 write-string-at-requires c κs = texts.param-room _ _ (c .before .before .before .before .before .before .before .before .pre) (c .before .before .before .write-u8 .kept .0)
 
--- src/lib.rt:57:1
 same-length : tie.Need-same-length
 same-length c = search needs
 
--- src/lib.rt:57:1
 returns : tie.Need-returns
 returns c = texts.param-put _ _ (c .before .before .before .before .before .before .before .before .before .before .before .pre) (c .before .before .before .before .before .before .write-u8 .ensures) (c .before .before .write-string-at .ensures)
 

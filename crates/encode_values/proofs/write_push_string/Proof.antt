@@ -1,45 +1,40 @@
-use denote.Ref.{now}
-use Rattle.encode_values.proofs.Puts as puts
+-- `encode_values::write_push_string` meets its contract: the kind's run and then the string's are one run. Assumes nothing.
 use native.Mathlib.Omega.{arith}
+use denote.Ref.{now}
 use borrow.Author.Needs.{needs}
+use Rattle.encode_values.proofs.Puts as puts
 use Rattle.encode_values.proofs.write_push_string.Statement.{statement}
 use Rattle.encode_values.proofs.write_push_string.Tie as tie
-use Rattle.encode_values.proofs.write_push_string.Reads as reads
-use Rattle.encode_values.proofs.write_push_string.Lts as lts
-use Rattle.fields.proofs.write_string.Reads as write-string-reads
-use Rattle.fields.proofs.write_u8.Reads as write-u8-reads
 
--- src/lib.rt:125:5
 write-u8-requires : tie.Need-write-u8-requires
 write-u8-requires c κs = search needs
 
--- src/lib.rt:126:23
 add-write-string : tie.Need-add-write-string
 add-write-string c = search needs
 
--- src/lib.rt:126:5
 write-string-requires : tie.Need-write-string-requires
-write-string-requires c κs = let a = c .before .before .before .before .before .before .before .args in let l = puts.length-span (now (a .b)) (a .s) (c .before .before .before .before .before .before .before .pre .0) in (omega (arith, c .before .before .before .write-u8 .kept .0), omega arith)
+write-string-requires c κs =
+    let a = c .before .before .before .before .before .before .before .args in
+    let l = puts.length-span (now (a .b)) (a .s) (c .before .before .before .before .before .before .before .pre .0) in
+    (omega (arith, c .before .before .before .write-u8 .kept .0), omega arith)
 
--- src/lib.rt:129:14
 add-t11 : tie.Need-add-t11
 add-t11 c = search needs
 
--- src/lib.rt:129:14
 add-t12 : tie.Need-add-t12
 add-t12 c = search needs
 
--- src/lib.rt:129:14
 add-t13 : tie.Need-add-t13
 add-t13 c = search needs
 
--- src/lib.rt:121:1
 same-length : tie.Need-same-length
 same-length c = search needs
 
--- src/lib.rt:121:1
 returns : tie.Need-returns
-returns c = let a = c .before .before .before .before .before .before .before .before .before .before .before .args in let l = puts.length-span (now (a .b)) (a .s) (c .before .before .before .before .before .before .before .before .before .before .before .pre .0) in puts.byte-put (c .before .before .before .before .before .before .before .write-u8 .ensures) (c .before .before .before .write-string .ensures) (omega arith)
+returns c =
+    let a = c .before .before .before .before .before .before .before .before .before .before .before .args in
+    let l = puts.length-span (now (a .b)) (a .s) (c .before .before .before .before .before .before .before .before .before .before .before .pre .0) in
+    puts.byte-put (c .before .before .before .before .before .before .before .write-u8 .ensures) (c .before .before .before .write-string .ensures) (omega arith)
 
 pub write-push-string-spec : {M : Type 1} → statement M
 write-push-string-spec =

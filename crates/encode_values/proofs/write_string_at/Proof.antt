@@ -1,46 +1,36 @@
-use Rattle.encode_values.proofs.Texts as texts
+-- `encode_values::write_string_at` meets its contract: the string at the place is a span within the main body, and its bytes with a zero byte are what is written of it. Assumes nothing.
 use native.Mathlib.Omega.{arith}
 use borrow.Author.Needs.{needs}
+use Rattle.encode_values.proofs.Texts as texts
 use Rattle.encode_values.proofs.write_string_at.Statement.{statement}
 use Rattle.encode_values.proofs.write_string_at.Tie as tie
-use Rattle.encode_values.proofs.write_string_at.Reads as reads
-use Rattle.encode_values.proofs.write_string_at.Lts as lts
-use Rattle.fields.proofs.u16_at.Reads as u16-at-reads
-use Rattle.fields.proofs.write_string.Reads as write-string-reads
 
--- src/lib.rt:48:9
 u16-at-requires : tie.Need-u16-at-requires
 u16-at-requires c κs = omega (arith, texts.string-room _ _ (c .before .before .pre) .0)
 
--- src/lib.rt:49:31
 add-write-string : tie.Need-add-write-string
 add-write-string c = omega (arith, texts.string-room _ _ (c .before .before .before .before .pre) .0)
 
--- src/lib.rt:49:5
 write-string-requires : tie.Need-write-string-requires
-write-string-requires c κs = let h = texts.string-room _ _ (c .before .before .before .before .pre) in (omega (arith, h .1, c .before .u16-at .ensures .0), omega (arith, h .0, c .before .u16-at .ensures .0))
+write-string-requires c κs =
+    let h = texts.string-room _ _ (c .before .before .before .before .pre) in
+    (omega (arith, h .1, c .before .u16-at .ensures .0), omega (arith, h .0, c .before .u16-at .ensures .0))
 
--- src/lib.rt:51:15
 add-t9 : tie.Need-add-t9
 add-t9 c = omega (arith, texts.string-room _ _ (c .before .before .before .before .before .before .before .pre) .0)
 
--- src/lib.rt:51:15
 add-t10 : tie.Need-add-t10
 add-t10 c = omega (arith, texts.string-room _ _ (c .before .before .before .before .before .before .before .pre) .0, c .before .before .before .before .u16-at .ensures .0)
 
--- src/lib.rt:52:14
 add-t11 : tie.Need-add-t11
 add-t11 c = search needs
 
--- src/lib.rt:52:14
 add-t12 : tie.Need-add-t12
 add-t12 c = search needs
 
--- src/lib.rt:44:1
 same-length : tie.Need-same-length
 same-length c = search needs
 
--- src/lib.rt:44:1
 returns : tie.Need-returns
 returns c = texts.string-put _ _ (c .before .before .before .before .before .before .before .pre) _ (c .before .before .before .before .u16-at .ensures .0) (c .before .before .write-string .ensures)
 
