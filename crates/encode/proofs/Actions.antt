@@ -23,7 +23,7 @@ use Rattle.fields.proofs.Stores.{sets-then}
 use Rattle.pcode.specs.declared.Span.{Span}
 use Rattle.pcode.specs.Shown.{after}
 use Rattle.encode_values.proofs.Puts.{length-span, bit-is}
-use Rattle.encode_values.specs.Pieces.{Piece, piece, written, bytesOf, nextOf, Reads, spanOf, Room, Put}
+use Rattle.encode_values.specs.Pieces.{Piece, written, bytesOf, nextOf, Reads, spanOf, Room, Put}
 use Rattle.encode.specs.Payloads.{action, flatPiece}
 
 -- ---- runs of stores
@@ -34,7 +34,7 @@ set-after l [] i j x h = refl
 set-after l (y ∷ b) i j x h = set-after (set l j y) b i (suc j) x (omega arith) ∙ ap (λ (m : List ℕ). sets m (suc j) b) (set-comm l j i y x (λ e. omega arith))
 
 -- a run may be stored after the one behind it
-pub sets-before : (l a b : List ℕ) (i : ℕ) → sets (sets l (i + length a) b) i a ≡ sets l i (a ++ b)
+sets-before : (l a b : List ℕ) (i : ℕ) → sets (sets l (i + length a) b) i a ≡ sets l i (a ++ b)
 sets-before l [] b i = rw add-zero
 sets-before l (x ∷ a) b i =
     ap (λ (m : List ℕ). sets m (suc i) a) (set-after l b i (i + suc (length a)) x (omega arith))
@@ -58,14 +58,17 @@ length-action op q = omega arith
 -- ---- what a piece gives that is made of another
 
 module _ (f : List ℕ → List ℕ) where
+  -- the other is known
   pub written-known : (x : Piece) → Reads (written f x) → Reads x
   written-known (got s q) k = tt
   written-known (bad e q) k = absurd k
 
+  -- the bytes are made of its bytes
   pub written-bytes : (x : Piece) → Reads (written f x) → bytesOf (written f x) ≡ f (bytesOf x)
   written-bytes (got s q) k = refl
   written-bytes (bad e q) k = absurd k
 
+  -- and reading goes on where it does behind the other
   pub written-next : (x : Piece) → nextOf (written f x) ≡ nextOf x
   written-next (got s q) = refl
   written-next (bad e q) = refl

@@ -12,7 +12,7 @@ use borrow.Author.Tests.{ltb-true, eqb-true, eqb-false}
 use Rattle.layout.specs.Lists.{each}
 use Rattle.layout.specs.Numbers.{le16, bit}
 use Rattle.layout.specs.OpCode.{byte}
-use Rattle.layout.specs.Tree.{PushValueOf, FunctionParamOf, functionParam, Small, GotoFrame, GetUrl, StoreRegister, ConstantPool, WaitForFrame, SetTarget, GotoLabel, WaitForFrame2, Push, GetUrl2, GotoFrame2, With, DefineFunction, DefineFunction2, Jump, If, CatchTargetOf, Variable, Register, ActionOf, branch, Try, ActionsOf, CatchOf, noCatch, catch, FinallyOf, noFinally, finally}
+use Rattle.layout.specs.Tree.{PushValueOf, FunctionParamOf, functionParam, Small, GotoFrame, GetUrl, StoreRegister, ConstantPool, WaitForFrame, SetTarget, GotoLabel, WaitForFrame2, Push, GetUrl2, GotoFrame2, With, DefineFunction, DefineFunction2, Jump, If, CatchTargetOf, Variable, Register, ActionOf, Try, ActionsOf, CatchOf, noCatch, catch, FinallyOf, noFinally, finally}
 use Rattle.layout.specs.Read.{Text, edition1, Place, Read, got, bad, Reader, chain, repeat, hasCatch, hasFinally, hasRegister, isShape, readString, readParam, readCatch, readFinally}
 use Rattle.layout.specs.Payload.{zeroEnded, stringsBytes, pushesBytes, opcode, payload, ownerOpCode, paramsBytes, ownerFields, ownerPayload, branchOpCode, catchShape, finallyShape, catchName, tryPayload, headed, framed}
 use Rattle.layout.specs.Strings.{mapValue, mapParam, mapFlat, mapOwner, mapTarget, mapAction, mapCatch, mapFinally}
@@ -57,11 +57,13 @@ unfolding joined stringBytes stringsBytes each
 strings-joined [] = refl
 strings-joined (x ∷ xs) = ap (λ (s : List ℕ). zeroEnded (spelling x) ++ s) (strings-joined xs)
 
+-- the same of parameters
 params-joined : (xs : List (FunctionParamOf Text)) → joined paramBytes xs ≡ paramsBytes (each (mapParam spelling) xs)
 unfolding joined paramBytes paramsBytes each mapParam
 params-joined [] = refl
 params-joined (functionParam r x ∷ xs) = ap (λ (s : List ℕ). r ∷ (zeroEnded (spelling x) ++ s)) (params-joined xs)
 
+-- and of push values
 values-joined : (xs : List (PushValueOf Text)) → joined valueBytes xs ≡ pushesBytes (each (mapValue spelling) xs)
 unfolding joined valueBytes pushesBytes each
 values-joined [] = refl
@@ -89,6 +91,7 @@ shape-sum shape h =
     let g : shape / 2 ≡ 2 * (shape / 2 / 2) + shape / 2 % 2 = omega arith in
     omega arith
 
+-- the bits for a catch and for a register
 catch-bit : (shape : ℕ) (t : Bool) → hasCatch shape ≡ t → shape % 2 ≡ bit t
 unfolding hasCatch bit
 catch-bit shape true h = eqb-true (shape % 2) 1 h
@@ -109,6 +112,7 @@ module _ (b : List ℕ) (inner : Reader (ActionsOf Text ℕ)) where
       let g : d .1 ≡ s = cc (d .3) in
       (d .0, rw g at (d .2), f)
 
+  -- and none
   uncaught : (x : CatchTargetOf Text) (r s : Place) (c : CatchOf Text ℕ) → readCatch edition1 b inner false x r ≡ got c s → (s ≡ r) × (c ≡ noCatch)
   unfolding readCatch
   uncaught x r s c e = (cc, cc)
@@ -228,6 +232,7 @@ module _ (b tab : List ℕ) (at pos : ℕ) where
   abbrev Heads : Reader (ActionsOf Text ℕ) → Action → ActionOf Text ℕ → Place → Type 0
   Heads inner a x q = (n : ℕ) × (coded a ≡ got (headOf tab x pos) (place n)) × BodiesFrom inner n x q
 
+  -- it holds of a case that shows an action
   is-head : {inner : Reader (ActionsOf Text ℕ)} {a : Action} {x : ActionOf Text ℕ} {q : Place} → Shown edition1 b inner (at + 1) a x q → Heads inner a x q
   unfolding headOf headBytes mapAction mapFlat mapOwner opcode payload framed byte branchOpCode ownerOpCode ownerFields ownerPayload functionPayload function2Payload spelling
   is-head (small e) = (at + 1, ap (λ (k : ℕ). piece (headed (ltb k 128) k []) (at + 1)) (sym e), refl)

@@ -20,12 +20,14 @@ use Rattle.encode.proofs.Actions.{run-then, before-then, length-action,
 
 -- ---- the payloads in their runs
 
-pub length-function : (name : List ℕ) (count : ℕ) (q : List ℕ) → length (functionPayload name count q) ≡ length (zeroEnded name) + 4 + length q
+-- a function's payload: its name, the bytes of its parameters, and four more
+length-function : (name : List ℕ) (count : ℕ) (q : List ℕ) → length (functionPayload name count q) ≡ length (zeroEnded name) + 4 + length q
 unfolding functionPayload le16
 length-function name count q =
     omega (arith, length-append (zeroEnded name ++ (le16 count ++ q)) (le16 0), length-append (zeroEnded name) (le16 count ++ q))
 
-pub length-function2 : (name : List ℕ) (count r f : ℕ) (q : List ℕ) → length (function2Payload name count r f q) ≡ length (zeroEnded name) + 7 + length q
+-- or seven
+length-function2 : (name : List ℕ) (count r f : ℕ) (q : List ℕ) → length (function2Payload name count r f q) ≡ length (zeroEnded name) + 7 + length q
 unfolding function2Payload le16
 length-function2 name count r f q =
     omega (arith, length-append (zeroEnded name ++ (le16 count ++ (r ∷ (le16 f ++ q)))) (le16 0), length-append (zeroEnded name) (le16 count ++ (r ∷ (le16 f ++ q))))
@@ -37,12 +39,13 @@ module _ (l : List ℕ) (i w : ℕ) (name : List ℕ) (count : ℕ) (h : w ≡ i
       run-then l i (zeroEnded name ++ (le16 count ++ q)) (le16 0) e (omega (arith, length-append (zeroEnded name) (le16 count ++ q), length-append (le16 count) q, length-le16 count))
       (run-then l i (zeroEnded name) (le16 count ++ q) w h f (run-then m w (le16 count) q (w + 2) (omega (arith, length-le16 count)) g x)) y
 
-  pub function-runs : {o p : List ℕ} (q : List ℕ) (e : ℕ) → o ≡ sets n (w + 2) q → e ≡ w + 2 + length q → p ≡ sets o e (le16 0) → p ≡ sets l i (functionPayload name count q)
+  -- so a DefineFunction
+  function-runs : {o p : List ℕ} (q : List ℕ) (e : ℕ) → o ≡ sets n (w + 2) q → e ≡ w + 2 + length q → p ≡ sets o e (le16 0) → p ≡ sets l i (functionPayload name count q)
   unfolding functionPayload
   function-runs q e x k y = runs q e x k y
 
   -- the parameters stored before the register count r and the flags
-  pub function2-runs : {o p s t : List ℕ} (q : List ℕ) (r flags e : ℕ) → o ≡ sets n (w + 5) q → p ≡ sets o (w + 2) (r ∷ []) → s ≡ sets p (w + 3) (le16 flags) → e ≡ w + 5 + length q
+  function2-runs : {o p s t : List ℕ} (q : List ℕ) (r flags e : ℕ) → o ≡ sets n (w + 5) q → p ≡ sets o (w + 2) (r ∷ []) → s ≡ sets p (w + 3) (le16 flags) → e ≡ w + 5 + length q
       → t ≡ sets s e (le16 0) → t ≡ sets l i (function2Payload name count r flags q)
   unfolding function2Payload
   function2-runs {o = o} q r flags e x y z k a =
@@ -54,15 +57,16 @@ module _ (l : List ℕ) (i w : ℕ) (name : List ℕ) (count : ℕ) (h : w ≡ i
 -- ---- an action whose payload is g of a list's bytes
 
 module _ (op : ℕ) (g : List ℕ → List ℕ) (x : Piece) {pos : ℕ} {out : List ℕ} (h : Room (written (λ q. headed false op (g q)) x) pos out) where
-  -- the list reads, and there is room behind the header
-  pub list-known : Reads x
+  -- the list reads
+  list-known : Reads x
   list-known = written-known (λ q. headed false op (g q)) x (h .known)
 
-  pub list-space : pos + 3 + length (g (bytesOf x)) ≤ length out
+  -- there is room for the payload behind the header
+  list-space : pos + 3 + length (g (bytesOf x)) ≤ length out
   list-space = omega (arith, rw (written-bytes (λ q. headed false op (g q)) x (h .known)) at (h .room), length-action op (g (bytesOf x)))
 
   -- its header stored after the payload
-  pub list-put : {m out′ : List ℕ} {next end : ℕ} (len : ℕ) → len ≡ length (g (bytesOf x)) → m ≡ sets out (pos + 3) (g (bytesOf x)) → out′ ≡ sets m pos (op ∷ le16 len)
+  list-put : {m out′ : List ℕ} {next end : ℕ} (len : ℕ) → len ≡ length (g (bytesOf x)) → m ≡ sets out (pos + 3) (g (bytesOf x)) → out′ ≡ sets m pos (op ∷ le16 len)
       → end ≡ pos + 3 + length (g (bytesOf x)) → next ≡ nextOf x → Put (written (λ q. headed false op (g q)) x) pos out out′ (record { next = next; pos = end })
   list-put {next = next} len k e f i j =
       let b = written-bytes (λ q. headed false op (g q)) x (h .known) in
@@ -70,15 +74,17 @@ module _ (op : ℕ) (g : List ℕ → List ℕ) (x : Piece) {pos : ℕ} {out : L
       record { wrote = rw b (p .wrote); end = rw b (p .end); next = j ∙ sym (written-next (λ q. headed false op (g q)) x) }
 
 -- a list from a position on, in an output that is as long
-pub list-room : (x : Piece) (pos : ℕ) (m : List ℕ) → Reads x → pos + length (bytesOf x) ≤ length m → length m ≤ 1099511627776 → Room x pos m
+list-room : (x : Piece) (pos : ℕ) (m : List ℕ) → Reads x → pos + length (bytesOf x) ≤ length m → length m ≤ 1099511627776 → Room x pos m
 list-room x pos m k h s = record { known = k; room = h; sums = s }
 
 -- ---- a Push
 
 module _ (x : Piece) {pos : ℕ} {out : List ℕ} (h : Room (written (λ q. headed false 0x96 q) x) pos out) where
+  -- the values have room behind the header
   pub push-room : Room x (pos + 3) out
   push-room = list-room x (pos + 3) out (list-known 0x96 (λ q. q) x h) (list-space 0x96 (λ q. q) x h) (h .sums)
 
+  -- the values, and then the header
   pub push-put : {m out′ : List ℕ} {r : Ends} → Put x (pos + 3) out m r → out′ ≡ sets m pos (0x96 ∷ le16 (r .pos - (pos + 3)))
       → Put (written (λ q. headed false 0x96 q) x) pos out out′ (record { next = r .next; pos = r .pos })
   push-put {r = r} e f = list-put 0x96 (λ q. q) x h (r .pos - (pos + 3)) (omega (arith, e .end)) (e .wrote) f (e .end) (e .next)
@@ -86,10 +92,12 @@ module _ (x : Piece) {pos : ℕ} {out : List ℕ} (h : Room (written (λ q. head
 -- ---- a ConstantPool
 
 module _ (n : ℕ) (x : Piece) {pos : ℕ} {out : List ℕ} (h : Room (written (λ q. headed false 0x88 (le16 n ++ q)) x) pos out) where
+  -- the strings have room behind the count
   pub pool-room : {m : List ℕ} → length m ≡ length out → Room x (pos + 5) m
   unfolding le16
   pool-room {m} e = list-room x (pos + 5) m (list-known 0x88 (λ q. le16 n ++ q) x h) (omega (arith, list-space 0x88 (λ q. le16 n ++ q) x h)) (omega (arith, h .sums))
 
+  -- the count, the strings, and then the header
   pub pool-put : {m o out′ : List ℕ} {r : Ends} → m ≡ sets out (pos + 3) (le16 n) → Put x (pos + 5) m o r → out′ ≡ sets o pos (0x88 ∷ le16 (r .pos - (pos + 3)))
       → Put (written (λ q. headed false 0x88 (le16 n ++ q)) x) pos out out′ (record { next = r .next; pos = r .pos })
   pool-put {r = r} e f g =
@@ -112,11 +120,13 @@ module _ (b : List ℕ) (f : Function) {pos : ℕ} {out : List ℕ} (n : after (
         length-span b (f .name) n,
       )
 
+  -- so the parameters may be written
   pub function-room : {m : List ℕ} → Room (function b f) pos out → length m ≡ length out → Room (stringsAt b (f .count) (f .at)) (pos + 3 + (f .name .len + 1) + 2) m
   function-room {m} h e =
       let x : Piece = stringsAt b (f .count) (f .at) in
       list-room x (pos + 3 + (f .name .len + 1) + 2) m (list-known 0x9B (λ q. functionPayload (spanOf b (f .name)) (f .count) q) x h) (omega (arith, function-space h)) (omega (arith, h .sums))
 
+  -- the name, the count, the parameters, the body's length, and then the header
   pub function-put : {m o p s out′ : List ℕ} {r : Ends} → Room (function b f) pos out → m ≡ sets out (pos + 3) (zeroEnded (spanOf b (f .name)))
       → o ≡ sets m (pos + 3 + (f .name .len + 1)) (le16 (f .count)) → Put (stringsAt b (f .count) (f .at)) (pos + 3 + (f .name .len + 1) + 2) o p r → s ≡ sets p (r .pos) (le16 0)
       → out′ ≡ sets s pos (0x9B ∷ le16 (r .pos + 2 - (pos + 3))) → Put (function b f) pos out out′ (record { next = r .next; pos = r .pos + 2 })
@@ -130,10 +140,11 @@ module _ (b : List ℕ) (f : Function) {pos : ℕ} {out : List ℕ} (n : after (
 -- ---- a DefineFunction2
 
 module _ (b : List ℕ) (f : Function) where
-  -- what it is made of where its parameters read
+  -- its payload where its parameters read
   abbrev fields2 : Piece → List ℕ
   fields2 x = function2Payload (spanOf b (f .name)) (f .count) (getD b (nextOf x) 0) (u16At b (nextOf x + 1)) (bytesOf x)
 
+  -- its bytes and the place where reading goes on
   made : (x : Piece) → Reads (function2Of b f x) → Reads x × (bytesOf (function2Of b f x) ≡ headed false 0x8E (fields2 x)) × (nextOf (function2Of b f x) ≡ nextOf x + 3)
   made (got q r) k = (tt, refl, refl)
   made (bad e r) k = absurd k
@@ -143,6 +154,7 @@ module _ (b : List ℕ) (f : Function) where
     pub function2-inside : nextOf (function2 b f) ≤ length b → nextOf (paramsAt b (f .count) (f .at)) + 3 ≤ length b
     function2-inside k = omega (arith, made (paramsAt b (f .count) (f .at)) (h .known) .2)
 
+    -- the name, the fields, the parameters and the body's length have room
     pub function2-space : pos + 3 + (f .name .len + 1) + 7 + length (bytesOf (paramsAt b (f .count) (f .at))) ≤ length out
     function2-space =
         let x : Piece = paramsAt b (f .count) (f .at) in
@@ -154,11 +166,13 @@ module _ (b : List ℕ) (f : Function) where
           length-span b (f .name) n,
         )
 
+    -- so the parameters may be written
     pub function2-room : {m : List ℕ} → length m ≡ length out → Room (paramsAt b (f .count) (f .at)) (pos + 3 + (f .name .len + 1) + 5) m
     function2-room {m} e =
         let x : Piece = paramsAt b (f .count) (f .at) in
         list-room x (pos + 3 + (f .name .len + 1) + 5) m (made x (h .known) .0) (omega (arith, function2-space)) (omega (arith, h .sums))
 
+    -- the name, the count, the parameters, the fields before them, the body's length, and then the header
     pub function2-put : {m o p s t u out′ : List ℕ} {r : Ends} {flags : ℕ} → m ≡ sets out (pos + 3) (zeroEnded (spanOf b (f .name)))
         → o ≡ sets m (pos + 3 + (f .name .len + 1)) (le16 (f .count)) → Put (paramsAt b (f .count) (f .at)) (pos + 3 + (f .name .len + 1) + 5) o p r
         → s ≡ sets p (pos + 3 + (f .name .len + 1) + 2) (getD b (r .next) 0 ∷ []) → flags ≡ u16At b (r .next + 1)
@@ -188,9 +202,11 @@ try-runs {m} {n} {o} l i shape t e f g h x =
     (run-then o (i + 8) (le16 0) t (i + 10) (omega arith) h x)))
 
 module _ (shape : ℕ) (t : List ℕ) {next pos : ℕ} {out : List ℕ} where
+  -- the target has room
   pub try-space : Room (action 0x8F (tryPayload shape 0 0 0 t) next) pos out → pos + 10 + length t ≤ length out
   try-space h = omega (arith, length-action 0x8F (tryPayload shape 0 0 0 t), length-tryPayload shape 0 0 0 t, h .room)
 
+  -- the shape, the lengths, the target, and then the header
   pub try-put : {m n o p s out′ : List ℕ} {r : Ends} → m ≡ sets out (pos + 3) (shape ∷ []) → n ≡ sets m (pos + 4) (le16 0) → o ≡ sets n (pos + 6) (le16 0) → p ≡ sets o (pos + 8) (le16 0)
       → Put (piece t next) (pos + 10) p s r → out′ ≡ sets s pos (0x8F ∷ le16 (r .pos - (pos + 3)))
       → Put (action 0x8F (tryPayload shape 0 0 0 t) next) pos out out′ (record { next = r .next; pos = r .pos })

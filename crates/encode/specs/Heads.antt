@@ -34,7 +34,7 @@ headBytes bits (Try b c f) p = framed OpCode.Try (tryPayload (catchShape c + fin
 unfoldable pub headOf : List ℕ → ActionOf Text ℕ → ℕ → List ℕ
 headOf tab x p = headBytes (tableBits tab) (mapAction spelling x) p
 
--- a Try's second and third body, where they are present
+-- a Try's second and third body, read from place r on where they are present; s is the place after them
 abbrev pub CatchFrom : Reader (ActionsOf Text ℕ) → Place → CatchOf Text ℕ → Place → Type 0
 CatchFrom inner r noCatch s = s ≡ r
 CatchFrom inner r (catch t a) s = inner r ≡ got a s
@@ -57,7 +57,8 @@ NotFar tab (branch k l) p = judged (recordOf (getD tab l 0)) (p + 5) ≡ none
 NotFar tab (owner o a) p = Unit {0}
 NotFar tab (Try a c f) p = Unit {0}
 
--- what is asked of a place where an action a stands that the definitions read as some x: room for its head, and the sums fit
+-- What the writing of a head asks: the case a shows the action that the definitions read at a place, its branch is not too far,
+-- its head has room, and the sums fit
 pub record Writable (b : List ℕ) (at : ℕ) (a : code.Action) (pos : ℕ) (tab out : List ℕ) : Type 0 where
   pub bytes : Bytes b
   pub inner : Reader (ActionsOf Text ℕ)
@@ -70,7 +71,8 @@ pub record Writable (b : List ℕ) (at : ℕ) (a : code.Action) (pos : ℕ) (tab
   pub sums : length out ≤ 1099511627776
   pub places : at ≤ 1099511627776
 
--- what is left, for every reading that the case shows
+-- What it leaves, for every action that the case shows: that action's head from the position on, the position after it, and the
+-- place where its bodies stand
 pub record WroteHead (b : List ℕ) (at : ℕ) (a : code.Action) (pos : ℕ) (tab out out′ : List ℕ) (next end : ℕ) : Type 0 where
   pub wrote : (inner : Reader (ActionsOf Text ℕ)) (x : ActionOf Text ℕ) (q : Place) → Shown edition1 b inner (at + 1) a x q
       → (out′ ≡ sets out pos (headOf tab x pos)) × (end ≡ pos + length (headOf tab x pos)) × BodiesFrom inner next x q

@@ -45,10 +45,11 @@ module _ (b : List ℕ) where
   abbrev pub function : Function → Piece
   function f = written (λ q. headed false 0x9B (functionPayload (spanOf b (f .name)) (f .count) q)) (stringsAt b (f .count) (f .at))
 
-  -- a DefineFunction2 with its parameters: the byte and the u16 behind them come before them, and then reading goes on
+  -- the same with its parameters read: the register count and the flags, which stand behind them in b, come before them
   abbrev pub function2Of : Function → Piece → Piece
   function2Of f (got q r) = got (headed false 0x8E (function2Payload (spanOf b (f .name)) (f .count) (getD b (r .at) 0) (u16At b (r .at + 1)) q)) (ahead 3 r)
   function2Of f (bad e r) = bad e r
 
+  -- a DefineFunction2, whose body's length is still 0
   abbrev pub function2 : Function → Piece
   function2 f = function2Of f (paramsAt b (f .count) (f .at))

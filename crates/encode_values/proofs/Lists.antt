@@ -25,6 +25,7 @@ module _ {A : Type 0} (read : Reader A) (bytes : A → List ℕ) where
   abbrev First : (n p : ℕ) → Type 0
   First n p = (a : A) × (q : ℕ) × (read (place p) ≡ got a (place q)) × (Left n p ≡ Behind a (repeat read (n - 1) (place q)))
 
+  -- an element reads where some are left
   first : (n p : ℕ) → 0 < n → Reads (Left n p) → First n p
   unfolding repeat
   first zero p h k = absurd (omega arith)
@@ -35,15 +36,18 @@ module _ {A : Type 0} (read : Reader A) (bytes : A → List ℕ) where
       go (got a q) e k = (a, q .at, e, unfold repeat in rw e)
       go (bad f q) e k = absurd k
 
+  -- the rest reads
   behind-reads : (a : A) (x : Read (List A)) → Reads (Behind a x) → Reads (written (joined bytes) x)
   behind-reads a (got xs q) k = tt
   behind-reads a (bad f q) k = absurd k
 
+  -- its bytes follow those of the element
   behind-bytes : (a : A) (x : Read (List A)) → Reads (Behind a x) → bytesOf (Behind a x) ≡ bytes a ++ bytesOf (written (joined bytes) x)
   unfolding joined
   behind-bytes a (got xs q) k = refl
   behind-bytes a (bad f q) k = absurd k
 
+  -- and reading goes on behind it
   behind-next : (a : A) (x : Read (List A)) → nextOf (Behind a x) ≡ nextOf (written (joined bytes) x)
   behind-next a (got xs q) = refl
   behind-next a (bad f q) = refl
@@ -55,6 +59,7 @@ module _ {A : Type 0} (read : Reader A) (bytes : A → List ℕ) where
     pub end : w + length (bytesOf (Left n p)) ≡ pos + length (bytesOf whole)
     pub next : nextOf (Left n p) ≡ nextOf whole
 
+  -- before the loop
   pub going-start : {n p w : ℕ} {out : List ℕ} → Room (Left n p) w out → Going (Left n p) w out n p w out
   going-start h = record { room = h; wrote = refl; end = refl; next = refl }
 

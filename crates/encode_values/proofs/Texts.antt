@@ -37,6 +37,7 @@ module _ (b : List ℕ) (p : ℕ) where
         let s = is-span (h .known) in
         (s .0, omega (arith, length-span b (spanAt b p) (s .0), rw (s .1) at (h .room)))
 
+    -- it is written
     pub string-put : {out′ : List ℕ} (n : ℕ) → n ≡ u16At b p → out′ ≡ sets out pos (zeroEnded (part b (p + 2) n)) → Put (stringAt b p) pos out out′ (record { next = p + 2 + n; pos = pos + n + 1 })
     string-put n e f =
         let s = is-span (h .known) in
@@ -71,12 +72,14 @@ module _ (b : List ℕ) (p : ℕ) where
         let c = consed (getD b p 0) (stringAt b (p + 1)) (s .1) in
         (s .0, omega (arith, rw (s .2, c .0) at (h .room)))
 
+    -- the string may be written in an output that is as long
     pub param-room : {m : List ℕ} → length m ≡ length out → Room (stringAt b (p + 1)) (pos + 1) m
     param-room e =
         let s = is-param (h .known) in
         let c = consed (getD b p 0) (stringAt b (p + 1)) (s .1) in
         record { known = s .1; room = omega (arith, rw (s .2, c .0) at (h .room)); sums = omega (arith, h .sums) }
 
+    -- the byte and the string are written
     pub param-put : {m out′ : List ℕ} {r : Ends} → m ≡ sets out pos (getD b p 0 ∷ []) → Put (stringAt b (p + 1)) (pos + 1) m out′ r → Put (paramAt b p) pos out out′ r
     param-put e x =
         let s = is-param (h .known) in

@@ -11,8 +11,7 @@ use Rattle.layout.specs.Strings.{mapValue}
 use Rattle.layout.specs.Pack.{spelling}
 use Rattle.fields.specs.Runs.{part}
 use Rattle.pcode.specs.declared.Span.{Span}
-use Rattle.pcode.specs.declared.CatchTarget.the-variants as target
-use Rattle.pcode.specs.Shown.{place, after}
+use Rattle.pcode.specs.Shown.{place}
 use Rattle.encode_values.specs.declared.Ends.{Ends}
 
 -- ---- what is to be written
@@ -25,6 +24,7 @@ Piece = Read (List ℕ)
 abbrev pub piece : List ℕ → ℕ → Piece
 piece s next = got s (place next)
 
+-- its bytes, and its place; a reading that was refused has none
 abbrev pub bytesOf : Piece → List ℕ
 bytesOf (got s q) = s
 bytesOf (bad f q) = []
@@ -94,8 +94,6 @@ module _ (b : List ℕ) where
 
   abbrev pub valuesAt : ℕ → ℕ → Piece
   valuesAt n p = written (joined valueBytes) (repeat (readValue edition1 b) n (place p))
-
-  -- ---- what else an action holds
 
   -- a span's bytes
   abbrev pub spanOf : Span → List ℕ
