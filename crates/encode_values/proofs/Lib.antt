@@ -1,0 +1,4 @@
+pub mod Lists
+pub mod Puts
+pub mod Texts
+pub mod Values

@@ -1,0 +1,41 @@
+-- Laws of the bytes of strings, flags and constants. Assumes nothing.
+use mathlib.Core.Path.{_≡_, refl, ap, _∙_}
+use Prim.Native.Nat.{ℕ, zero, suc, _+_, _≤_, _<_}
+use native.Mathlib.Omega.{arith}
+use mathlib.Core.List.{List, [], _∷_}
+use lib.ListN.{length}
+use lib.Seq.{sets}
+use lib.Dec.{ltb, eqb}
+use borrow.Author.Tests.{lt-ltb, le-ltb}
+use Rattle.layout.specs.Numbers.{le16, bit}
+use Rattle.layout.specs.Payload.{zeroEnded, constantBytes}
+use Rattle.layout.specs.Lengths.{length-zeroEnded}
+use Rattle.fields.proofs.Stores.{sets-then, length-part}
+use Rattle.pcode.specs.declared.Span.{Span}
+use Rattle.pcode.specs.Shown.{after}
+use Rattle.encode_values.specs.Pieces.{piece, spanOf, Put}
+
+-- a span within b, with its zero byte
+pub length-span : (b : List ℕ) (s : Span) → after s ≤ length b → length (zeroEnded (spanOf b s)) ≡ s .len + 1
+length-span b s h = length-zeroEnded (spanOf b s) ∙ ap (λ (n : ℕ). n + 1) (length-part b (s .at) (s .len) h)
+
+-- a byte, and then the rest
+pub byte-put : {x : ℕ} {s : List ℕ} {next pos end : ℕ} {out m out′ : List ℕ} → m ≡ sets out pos (x ∷ []) → out′ ≡ sets m (pos + 1) s → end ≡ pos + 1 + length s
+    → Put (piece (x ∷ s) next) pos out out′ (record { next = next; pos = end })
+byte-put {x} {s} {pos = pos} {out = out} e f g = record { wrote = sets-then out pos (x ∷ []) s 1 refl e f; end = omega arith; next = refl }
+
+-- a flag's bit is the byte that it was read from
+pub bit-is : (n : ℕ) → n < 2 → bit (eqb n 1) ≡ n
+unfolding bit
+bit-is zero h = refl
+bit-is (suc zero) h = refl
+bit-is (suc (suc n)) h = absurd (omega arith)
+
+-- a constant under 256, and another
+pub low-constant : (n : ℕ) → n < 256 → constantBytes (ltb n 256) n ≡ 8 ∷ n ∷ []
+unfolding constantBytes
+low-constant n h = rw (lt-ltb n 256 h)
+
+pub high-constant : (n : ℕ) → 256 ≤ n → constantBytes (ltb n 256) n ≡ 9 ∷ le16 n
+unfolding constantBytes
+high-constant n h = rw (le-ltb n 256 h)

@@ -1,0 +1,87 @@
+-- What the strings and parameters at a place are written as. Assumes nothing.
+use mathlib.Core.Path.{_≡_, refl, sym, _∙_}
+use Prim.Native.Nat.{ℕ, _+_, _≤_}
+use native.Mathlib.Omega.{arith}
+use mathlib.Core.List.{List, [], _∷_}
+use lib.ListN.{length, getD}
+use lib.Seq.{sets}
+use Rattle.layout.specs.Numbers.{u16At}
+use Rattle.layout.specs.Tree.{functionParam}
+use Rattle.layout.specs.Read.{Text, edition1, Read, got, bad, plain, chain, readU8, readString, readParam}
+use Rattle.layout.specs.Payload.{zeroEnded}
+use Rattle.layout.specs.Pack.{spelling}
+use Rattle.fields.specs.Runs.{part}
+use Rattle.fields.proofs.Stores.{sets-then}
+use Rattle.pcode.specs.Shown.{place, spanAt, after}
+use Rattle.pcode.proofs.Readings as reading
+use Rattle.pcode.proofs.Readings.{Gives, gives, Exactly, exactly}
+use Rattle.encode_values.specs.declared.Ends.{Ends}
+use Rattle.encode_values.specs.Pieces.{Piece, piece, written, bytesOf, nextOf, Reads, stringBytes, paramBytes, stringAt, paramAt, spanOf, Room, Put}
+use Rattle.encode_values.proofs.Puts.{length-span}
+
+module _ (b : List ℕ) (p : ℕ) where
+  -- a string that reads is the span at p
+  is-span : Reads (stringAt b p) → (after (spanAt b p) ≤ length b) × (stringAt b p ≡ piece (zeroEnded (spanOf b (spanAt b p))) (after (spanAt b p)))
+  unfolding stringBytes spelling
+  is-span k = go (readString edition1 b (place p)) (reading.string edition1 b p) k
+    where
+      go : (x : Read Text) → Gives (Exactly (after (spanAt b p) ≤ length b) (plain (spanOf b (spanAt b p))) (place (after (spanAt b p)))) x → Reads (written stringBytes x)
+          → (after (spanAt b p) ≤ length b) × (written stringBytes x ≡ piece (zeroEnded (spanOf b (spanAt b p))) (after (spanAt b p)))
+      go (got a q) (gives (exactly h)) k = (h, refl)
+      go (bad f q) h k = absurd k
+
+  module _ {pos : ℕ} {out : List ℕ} (h : Room (stringAt b p) pos out) where
+    -- it lies within b, and there is room for its bytes and a zero byte
+    pub string-room : (after (spanAt b p) ≤ length b) × (pos + u16At b p + 1 ≤ length out)
+    string-room =
+        let s = is-span (h .known) in
+        (s .0, omega (arith, length-span b (spanAt b p) (s .0), rw (s .1) at (h .room)))
+
+    -- it is written
+    pub string-put : {out′ : List ℕ} (n : ℕ) → n ≡ u16At b p → out′ ≡ sets out pos (zeroEnded (part b (p + 2) n)) → Put (stringAt b p) pos out out′ (record { next = p + 2 + n; pos = pos + n + 1 })
+    string-put n e f =
+        let s = is-span (h .known) in
+        rw (s .1) (record { wrote = rw e at f; end = omega (arith, length-span b (spanAt b p) (s .0)); next = omega arith })
+
+  -- a parameter that reads is a byte and the string behind it
+  is-param : Reads (paramAt b p) → (p + 1 ≤ length b) × Reads (stringAt b (p + 1)) × (paramAt b p ≡ written (λ t. getD b p 0 ∷ t) (stringAt b (p + 1)))
+  unfolding readParam paramBytes stringBytes
+  is-param k = go (readU8 b (place p)) (reading.u8 b p) k
+    where
+      rest : (x : Read Text) → Reads (written paramBytes (chain x (λ s q. got (functionParam (getD b p 0) s) q)))
+          → Reads (written stringBytes x) × (written paramBytes (chain x (λ s q. got (functionParam (getD b p 0) s) q)) ≡ written (λ t. getD b p 0 ∷ t) (written stringBytes x))
+      rest (got s q) k = (tt, refl)
+      rest (bad f q) k = absurd k
+
+      go : (x : Read ℕ) → Gives (Exactly (p + 1 ≤ length b) (getD b p 0) (place (p + 1))) x
+          → Reads (written paramBytes (chain x (λ r q. chain (readString edition1 b q) (λ s q. got (functionParam r s) q))))
+          → (p + 1 ≤ length b) × Reads (stringAt b (p + 1)) × (written paramBytes (chain x (λ r q. chain (readString edition1 b q) (λ s q. got (functionParam r s) q))) ≡ written (λ t. getD b p 0 ∷ t) (stringAt b (p + 1)))
+      go (got r q) (gives (exactly h)) k = let r = rest (readString edition1 b (place (p + 1))) k in (h, r .0, r .1)
+      go (bad f q) h k = absurd k
+
+  -- bytes before a piece that reads
+  consed : (x : ℕ) (t : Piece) → Reads t → (bytesOf (written (λ s. x ∷ s) t) ≡ x ∷ bytesOf t) × (nextOf (written (λ s. x ∷ s) t) ≡ nextOf t)
+  consed x (got s q) k = (refl, refl)
+  consed x (bad f q) k = absurd k
+
+  module _ {pos : ℕ} {out : List ℕ} (h : Room (paramAt b p) pos out) where
+    -- the byte lies within b, there is room for it, and then for the string
+    pub param-inside : (p + 1 ≤ length b) × (pos + 1 ≤ length out)
+    param-inside =
+        let s = is-param (h .known) in
+        let c = consed (getD b p 0) (stringAt b (p + 1)) (s .1) in
+        (s .0, omega (arith, rw (s .2, c .0) at (h .room)))
+
+    -- the string may be written in an output that is as long
+    pub param-room : {m : List ℕ} → length m ≡ length out → Room (stringAt b (p + 1)) (pos + 1) m
+    param-room e =
+        let s = is-param (h .known) in
+        let c = consed (getD b p 0) (stringAt b (p + 1)) (s .1) in
+        record { known = s .1; room = omega (arith, rw (s .2, c .0) at (h .room)); sums = omega (arith, h .sums) }
+
+    -- the byte and the string are written
+    pub param-put : {m out′ : List ℕ} {r : Ends} → m ≡ sets out pos (getD b p 0 ∷ []) → Put (stringAt b (p + 1)) (pos + 1) m out′ r → Put (paramAt b p) pos out out′ r
+    param-put e x =
+        let s = is-param (h .known) in
+        let c = consed (getD b p 0) (stringAt b (p + 1)) (s .1) in
+        rw (s .2) (record { wrote = rw (c .0) (sets-then out pos (getD b p 0 ∷ []) (bytesOf (stringAt b (p + 1))) 1 refl e (x .wrote)); end = rw (c .0) (omega (arith, x .end)); next = x .next ∙ sym (c .1) })

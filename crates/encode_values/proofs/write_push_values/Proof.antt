@@ -1,0 +1,50 @@
+-- `encode_values::write_push_values` meets its contract: the values that are left give with those written what all give. Assumes nothing.
+use mathlib.Core.Path.{_≡_, _∙_}
+use lib.ListN.{length}
+use borrow.Author.Needs.{needs}
+use Rattle.layout.specs.Read.{edition1, readValue}
+use Rattle.encode_values.proofs.Lists as lists
+use Rattle.encode_values.specs.Pieces.{valueBytes, valuesAt}
+use Rattle.encode_values.proofs.write_push_values.Statement.{statement}
+use Rattle.encode_values.proofs.write_push_values.Tie as tie
+
+abbrev Inv-loop : tie.InvT-loop
+Inv-loop out₀ pos b n at left₀ p₀ w₀ out left p w = lists.Going (readValue edition1 b) valueBytes (valuesAt b n at) pos out₀ left p w out × (length out ≡ length out₀)
+
+abbrev μ-loop : tie.MeasureT-loop
+μ-loop out₀ pos b n at left₀ p₀ w₀ out left p w = left
+
+loop-holds : tie.Need-loop-holds Inv-loop μ-loop
+loop-holds c = (lists.going-start _ _ (c .before .before .pre), search needs)
+
+write-push-value-requires : tie.Need-write-push-value-requires Inv-loop μ-loop
+write-push-value-requires c κs = lists.going-element _ _ (c .before .before .loop .inv .0) (c .before .loop-test .taken)
+
+sub-left : tie.Need-sub-left Inv-loop μ-loop
+sub-left c = search needs
+
+loop-less : tie.Need-loop-less Inv-loop μ-loop
+loop-less c = search needs
+
+loop-again : tie.Need-loop-again Inv-loop μ-loop
+loop-again c = (lists.going-on _ _ (c .before .before .before .before .before .loop .inv .0) (c .before .before .before .before .loop-test .taken) (c .before .before .write-push-value .ensures), c .before .before .write-push-value .kept .0 ∙ c .before .before .before .before .before .loop .inv .1)
+
+same-length : tie.Need-same-length Inv-loop μ-loop
+same-length c = c .before .loop .inv .1
+
+returns : tie.Need-returns Inv-loop μ-loop
+returns c = lists.going-end _ _ (c .before .loop .inv .0) (c .loop-test .left)
+
+pub write-push-values-spec : {M : Type 1} → statement M
+write-push-values-spec =
+    tie.close
+    (tie.spec
+    Inv-loop
+    μ-loop
+    loop-holds
+    write-push-value-requires
+    sub-left
+    loop-less
+    loop-again
+    same-length
+    returns)
