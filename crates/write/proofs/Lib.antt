@@ -1,0 +1,8 @@
+pub mod Patches
+pub mod Blocks
+pub mod Loop
+pub mod Steps
+pub mod Actions
+pub mod Labels
+pub mod Nears
+pub mod Main

@@ -1,0 +1,105 @@
+-- The block of a main body: its actions by the table, and one End. Assumes nothing.
+use mathlib.Core.Path.{_≡_, ap, _∙_, subst}
+use Prim.Native.Nat.{ℕ, _+_, _<_, _≤_}
+use native.Mathlib.Omega.{arith}
+use mathlib.Core.Bool.{Bool, true, false}
+use mathlib.Core.Option.{Option, none}
+use mathlib.Core.List.{List, [], _∷_}
+use lib.ListN.{length, getD}
+use lib.Dec.{eqb}
+use lib.Seq.{sets}
+use Rattle.fields.proofs.Stores.{sets-then}
+use Rattle.layout.specs.Tree.{branch, Actions, ActionsOf, body}
+use Rattle.layout.specs.Read.{Text, edition1, deepest, Place, got, ifNothingLeft, readBody, readMain}
+use Rattle.layout.specs.Strings.{mapBody}
+use Rattle.layout.specs.Write.{bytes, bodyBytes, bodySize, Position, Event, lookup, events, distanceBits, branchBits, blockBytes, blockSize}
+use Rattle.layout.specs.Lengths.{length-body}
+use Rattle.layout.specs.Pack.{spelling}
+use Rattle.layout.specs.Judge.{tooFar}
+use Rattle.labels.specs.Table.{recordOf, TableHolds}
+use Rattle.labels.proofs.Labels.{record-of-slot}
+use Rattle.pcode.specs.Shown.{place}
+use Rattle.pcode.proofs.Readings.{Gives, gives, refuses, given, then, itself}
+use Rattle.encode.specs.Heads.{tableBits}
+use Rattle.write.specs.Bodies.{lengthOf, nearOf, bodyOf, Room, Wrote, MainWritable, WroteBlock}
+use Rattle.encode_values.specs.declared.Ends.{Ends}
+use Rattle.write.proofs.Labels.{UnderBody, agree-body, body-under}
+use Rattle.write.proofs.Nears.{near-body}
+
+-- ---- the main body
+
+-- A main body that reads whole is read as a body, with nothing left.
+main-body : (b : List ℕ) (x : ActionsOf Text ℕ) (q : Place) → readMain edition1 b deepest ≡ got x q → readBody edition1 b deepest (place 0) ≡ got x q
+unfolding readMain
+main-body b x q e = given {P = λ y r. readBody edition1 b deepest (place 0) ≡ got y r} (then (itself (readBody edition1 b deepest (place 0))) (λ y r f. left (eqb (r .at) (length b)) y r f)) e
+  where
+    left : (t : Bool) (y : ActionsOf Text ℕ) (r : Place) → readBody edition1 b deepest (place 0) ≡ got y r → Gives (λ z s. readBody edition1 b deepest (place 0) ≡ got z s) (ifNothingLeft t y r)
+    left true y r f = unfold ifNothingLeft in gives f
+    left false y r f = unfold ifNothingLeft in refuses
+
+-- The table's record of a label with a slot is the tree's.
+table-record : (tab : List ℕ) (es : List Event) → TableHolds 1024 tab es → (l : ℕ) → l < 1024 → recordOf (getD tab l 0) ≡ lookup l es
+table-record tab es h l k = ap recordOf (h .holds l k) ∙ record-of-slot (lookup l es)
+
+-- And so are the bits of a branch to it.
+table-bits : (tab : List ℕ) (t : Actions) → TableHolds 1024 tab (events t) → (l after : ℕ) → l < 1024 → tableBits tab l after ≡ branchBits t l after
+unfolding tableBits branchBits
+table-bits tab t h l after k = ap (λ (o : Option Position). distanceBits o after) (table-record tab (events t) h l k)
+
+-- ---- the block
+
+module _ (b tab out : List ℕ) (m : MainWritable b tab out) where
+  -- There is room for the main body's actions.
+  pub main-room : Room (readBody edition1 b deepest) lengthOf nearOf b 0 0 tab out
+  unfolding lengthOf blockSize
+  main-room =
+      let r = m .reads in
+      record {
+        bytes = m .bytes;
+        value = r .read;
+        next = r .next;
+        reads = main-body b (r .read) (r .next) (r .is-read);
+        slots = m .holds .slots;
+        is-near = near-main (r .read) (m .tree) (r .is-tree) (given (body-under b deepest (place 0)) (main-body b (r .read) (r .next) (r .is-read))) (m .holds) (m .is-near);
+        room = omega (arith, m .room, ap bodySize (r .is-tree));
+        sums = m .sums;
+        places = m .places;
+      }
+    where
+      near-main : (x : ActionsOf Text ℕ) (t : Actions) → mapBody spelling x ≡ t → UnderBody 1024 (mapBody spelling x) → TableHolds 1024 tab (events t)
+          → tooFar (events t) (events t) ≡ none → nearOf tab x 0
+      near-main x t i u h k = rw i (near-body (events t) tab (table-record tab (events t) h) t (record { at = 0 }) (subst (UnderBody 1024) i u) (unfold events in k))
+
+  module _ (mid : List ℕ) (e : Ends) (w : Wrote (readBody edition1 b deepest) lengthOf (λ x. sets out 0 (bodyOf tab x 0)) 0 0 mid e) where
+    -- And for the End behind them.
+    pub end-room : length mid ≡ length out → e .pos + 1 ≤ length mid
+    unfolding lengthOf blockSize
+    end-room l =
+        let r = m .reads in
+        omega (arith, w .ends .ended (r .read) (r .next) (main-body b (r .read) (r .next) (r .is-read)) .0, m .room, ap bodySize (r .is-tree), l)
+
+    -- The actions and the End are the block.
+    pub main-wrote : (new : List ℕ) → new ≡ sets mid (e .pos) (0 ∷ []) → WroteBlock b out new
+    main-wrote new n = record { wrote = λ t r. go t (r .read) (r .next) (r .is-read) (r .is-tree) (m .reads .read) (m .reads .next) (m .reads .is-read) (m .reads .is-tree) }
+      where
+        go : (t : Actions) (x : ActionsOf Text ℕ) (q : Place) → readMain edition1 b deepest ≡ got x q → mapBody spelling x ≡ t
+            → (y : ActionsOf Text ℕ) (s : Place) → readMain edition1 b deepest ≡ got y s → mapBody spelling y ≡ m .tree → new ≡ sets out 0 (blockBytes t)
+        go t x q d i y s f j =
+            let same : m .tree ≡ t = cc in
+            let h = subst (λ (u : Actions). TableHolds 1024 tab (events u)) same (m .holds) in
+            let under = subst (UnderBody 1024) i (given (body-under b deepest (place 0)) (main-body b x q d)) in
+            let v = main-body b x q d in
+            let k : mid ≡ sets out 0 (bodyBytes (branchBits t) t 0) =
+            w .wrote x q v ∙ ap (λ (l : List ℕ). sets out 0 l) (shown x t i ∙ agree-body (tableBits tab) (branchBits t) 1024 (table-bits tab t h) t 0 under) in
+            whole t k (w .ends .ended x q v .0 ∙ ap (λ (c : ℕ). 0 + c) (long x t i))
+          where
+            shown : (x : ActionsOf Text ℕ) (t : Actions) → mapBody spelling x ≡ t → bodyOf tab x 0 ≡ bodyBytes (tableBits tab) t 0
+            shown x t i = unfold bodyOf in ap (λ (u : Actions). bodyBytes (tableBits tab) u 0) i
+
+            long : (x : ActionsOf Text ℕ) (t : Actions) → mapBody spelling x ≡ t → lengthOf x ≡ bodySize t
+            long x t i = unfold lengthOf in ap bodySize i
+
+            whole : (t : Actions) → mid ≡ sets out 0 (bodyBytes (branchBits t) t 0) → e .pos ≡ 0 + bodySize t → new ≡ sets out 0 (blockBytes t)
+            whole t k p =
+                unfold blockBytes in
+                sets-then out 0 (bodyBytes (branchBits t) t 0) (0 ∷ []) (bodySize t) (length-body (branchBits t) t 0) k (n ∙ ap (λ (c : ℕ). sets mid c (0 ∷ [])) p)

@@ -1,0 +1,202 @@
+-- The bodies of an action, what is asked of a place where something is written, and what is left there. Assumes nothing.
+use mathlib.Core.Path.{_≡_}
+use Prim.Native.Nat.{ℕ, _+_, _≤_}
+use mathlib.Core.Bool.{Bool, true, false}
+use mathlib.Core.Option.{Option, none, some}
+use mathlib.Core.List.{List}
+use lib.ListN.{length, getD}
+use lib.Seq.{sets}
+use Rattle.layout.specs.Numbers.{le16}
+use Rattle.layout.specs.Tree.{Action, ActionOf, flat, branch, owner, Try, ActionList, empty, more, Actions, ActionsOf, body, Catch, noCatch, catch, Finally, noFinally, finally}
+use Rattle.layout.specs.Read.{Text, Place, Reader, got, _>>=_, give, hasCatch, hasFinally}
+use Rattle.layout.specs.Strings.{mapAction, mapBody}
+use Rattle.layout.specs.Payload.{ownerFields, catchName}
+use Rattle.layout.specs.Write.{bytes, bodyBytes, size, bodySize, catchSize, events, blockBytes, blockSize}
+use Rattle.layout.specs.Judge.{judged, tooFar}
+use Rattle.layout.specs.Pack.{spelling}
+use Rattle.laws.specs.Fits.{Bytes}
+use Rattle.laws.specs.Packed.{ReadsMain}
+use Rattle.labels.specs.Table.{recordOf, TableHolds}
+use Rattle.pcode.specs.Shown.{place}
+use Rattle.pcode.specs.declared.Action as pcode
+use Rattle.pcode.specs.declared.Action.the-variants as code
+use Rattle.encode.specs.Heads.{tableBits}
+use Rattle.write.specs.declared.Bodies.{Bodies}
+use Rattle.write.specs.declared.Bodies.the-variants as bodies
+use Rattle.encode_values.specs.declared.Ends.{Ends}
+
+-- ---- bodies
+
+-- the bodies that follow an action's payload
+unfoldable pub bodiesOf : pcode.Action → Bodies
+bodiesOf (code.Small n) = bodies.Nothing
+bodiesOf (code.GotoFrame n) = bodies.Nothing
+bodiesOf (code.GetUrl u t) = bodies.Nothing
+bodiesOf (code.StoreRegister r) = bodies.Nothing
+bodiesOf (code.ConstantPool n i) = bodies.Nothing
+bodiesOf (code.WaitForFrame n k) = bodies.Nothing
+bodiesOf (code.SetTarget s) = bodies.Nothing
+bodiesOf (code.GotoLabel s) = bodies.Nothing
+bodiesOf (code.WaitForFrame2 k) = bodies.Nothing
+bodiesOf (code.DefineFunction2 f) = bodies.One
+bodiesOf (code.Try shape t i) = bodies.OfTry shape
+bodiesOf (code.With i) = bodies.One
+bodiesOf (code.Push n i) = bodies.Nothing
+bodiesOf (code.Jump l) = bodies.Nothing
+bodiesOf (code.GetUrl2 v t m) = bodies.Nothing
+bodiesOf (code.DefineFunction f) = bodies.One
+bodiesOf (code.If l) = bodies.Nothing
+bodiesOf (code.GotoFrame2 n k) = bodies.Nothing
+
+-- a body, if it is present
+unfoldable pub readIf : Bool → Reader (ActionsOf Text ℕ) → Reader (Option (ActionsOf Text ℕ))
+readIf true inner = do
+  x ← inner
+  give (some x)
+readIf false inner = give none
+
+-- a Try's bodies, the second and the third where they are present
+pub record Tried : Type 0 where
+  pub first : ActionsOf Text ℕ
+  pub second : Option (ActionsOf Text ℕ)
+  pub third : Option (ActionsOf Text ℕ)
+
+-- the bodies of a Try of this shape, one after the other
+unfoldable pub readTried : ℕ → Reader (ActionsOf Text ℕ) → Reader Tried
+readTried shape inner = do
+  x ← inner
+  y ← readIf (hasCatch shape) inner
+  z ← readIf (hasFinally shape) inner
+  give (record { first = x; second = y; third = z })
+
+-- ---- their lengths and bytes, by the label table
+
+-- the length of a body that was read
+unfoldable pub lengthOf : ActionsOf Text ℕ → ℕ
+lengthOf x = bodySize (mapBody spelling x)
+
+-- and of one that may be absent
+unfoldable pub lengthIf : Option (ActionsOf Text ℕ) → ℕ
+lengthIf none = 0
+lengthIf (some x) = lengthOf x
+
+-- and of a Try's bodies
+unfoldable pub lengthTried : Tried → ℕ
+lengthTried t = lengthOf (t .first) + lengthIf (t .second) + lengthIf (t .third)
+
+-- the length of an action that was read
+unfoldable pub lengthAction : ActionOf Text ℕ → ℕ
+lengthAction x = size (mapAction spelling x)
+
+-- the bytes of a body that was read
+unfoldable pub bodyOf : List ℕ → ActionsOf Text ℕ → ℕ → List ℕ
+bodyOf tab x p = bodyBytes (tableBits tab) (mapBody spelling x) p
+
+-- the bytes of an action that was read
+unfoldable pub actionOf : List ℕ → ActionOf Text ℕ → ℕ → List ℕ
+actionOf tab x p = bytes (tableBits tab) (mapAction spelling x) p
+
+-- ---- branches that are not too far, by the label table
+
+abbrev mutual
+  -- every branch of an action at a position
+  pub Near : List ℕ → Action → ℕ → Type 0
+  Near tab (flat f) p = Unit {0}
+  Near tab (branch k l) p = judged (recordOf (getD tab l 0)) (p + 5) ≡ none
+  Near tab (owner o b) p = NearBody tab b (p + (5 + length (ownerFields o)))
+  Near tab (Try b c f) p =
+      NearBody tab b (p + (10 + length (catchName c)))
+      × NearCatch tab c (p + (10 + length (catchName c)) + bodySize b)
+      × NearFinally tab f (p + (10 + length (catchName c)) + (bodySize b + catchSize c))
+
+  -- of actions, one after the other
+  pub NearActions : List ℕ → ActionList → ℕ → Type 0
+  NearActions tab empty p = Unit {0}
+  NearActions tab (more a xs) p = Near tab a p × NearActions tab xs (p + size a)
+
+  -- of a body
+  pub NearBody : List ℕ → Actions → ℕ → Type 0
+  NearBody tab (body es xs) p = NearActions tab xs p
+
+  -- of a catch
+  pub NearCatch : List ℕ → Catch → ℕ → Type 0
+  NearCatch tab noCatch p = Unit {0}
+  NearCatch tab (catch t b) p = NearBody tab b p
+
+  -- of a finally
+  pub NearFinally : List ℕ → Finally → ℕ → Type 0
+  NearFinally tab noFinally p = Unit {0}
+  NearFinally tab (finally b) p = NearBody tab b p
+
+-- of a body that was read
+abbrev pub nearOf : List ℕ → ActionsOf Text ℕ → ℕ → Type 0
+nearOf tab x p = NearBody tab (mapBody spelling x) p
+
+-- and of one that may be absent
+abbrev pub nearIf : List ℕ → Option (ActionsOf Text ℕ) → ℕ → Type 0
+nearIf tab none p = Unit {0}
+nearIf tab (some x) p = nearOf tab x p
+
+-- and of a Try's bodies
+abbrev pub nearTried : List ℕ → Tried → ℕ → Type 0
+nearTried tab t p = nearOf tab (t .first) p × nearIf tab (t .second) (p + lengthOf (t .first)) × nearIf tab (t .third) (p + lengthOf (t .first) + lengthIf (t .second))
+
+-- of an action that was read
+abbrev pub nearAction : List ℕ → ActionOf Text ℕ → ℕ → Type 0
+nearAction tab x p = Near tab (mapAction spelling x) p
+
+-- ---- the output
+
+-- a body at a position, and then its length at a place before it
+unfoldable pub closed : List ℕ → List ℕ → ℕ → ℕ → ActionsOf Text ℕ → List ℕ
+closed tab out pos at x = sets (sets out pos (bodyOf tab x pos)) at (le16 (lengthOf x))
+
+-- the same, if the body is present
+unfoldable pub closedIf : List ℕ → List ℕ → ℕ → ℕ → Option (ActionsOf Text ℕ) → List ℕ
+closedIf tab out pos at none = out
+closedIf tab out pos at (some x) = closed tab out pos at x
+
+-- a Try's bodies, the three lengths from a place before them on
+unfoldable pub closedTried : List ℕ → List ℕ → ℕ → ℕ → Tried → List ℕ
+closedTried tab out pos at t =
+    let one : List ℕ = closed tab out pos at (t .first) in
+    let two : List ℕ = closedIf tab one (pos + lengthOf (t .first)) (at + 2) (t .second) in
+    closedIf tab two (pos + lengthOf (t .first) + lengthIf (t .second)) (at + 4) (t .third)
+
+-- ---- contracts
+
+-- what is asked where something is written at a position: that it is read at a place, that its branches are near, and room
+pub record Room {A : Type 0} (read : Reader A) (long : A → ℕ) (near : List ℕ → A → ℕ → Type 0) (b : List ℕ) (at pos : ℕ) (tab out : List ℕ) : Type 0 where
+  pub bytes : Bytes b
+  pub value : A
+  pub next : Place
+  pub reads : read (place at) ≡ got value next
+  pub slots : length tab ≡ 1024
+  pub is-near : near tab value pos
+  pub room : pos + long value ≤ length out
+  pub sums : length out ≤ 1099511627776
+  pub places : length b ≤ 1099511627776
+
+-- where it ended, for every reading: the position behind what was written, and the place behind what was read
+pub record Ended {A : Type 0} (read : Reader A) (long : A → ℕ) (at pos : ℕ) (r : Ends) : Type 0 where
+  pub ended : (x : A) (q : Place) → read (place at) ≡ got x q → (r .pos ≡ pos + long x) × (r .next ≡ q .at)
+
+-- what is left, for every reading: the output, and where it ended
+pub record Wrote {A : Type 0} (read : Reader A) (long : A → ℕ) (output : A → List ℕ) (at pos : ℕ) (out : List ℕ) (r : Ends) : Type 0 where
+  pub wrote : (x : A) (q : Place) → read (place at) ≡ got x q → out ≡ output x
+  pub ends : Ended read long at pos r
+
+-- what is asked of a main body, its table and the output
+pub record MainWritable (b tab out : List ℕ) : Type 0 where
+  pub bytes : Bytes b
+  pub tree : Actions
+  pub reads : ReadsMain b tree
+  pub holds : TableHolds 1024 tab (events tree)
+  pub is-near : tooFar (events tree) (events tree) ≡ none
+  pub room : blockSize tree ≤ length out
+  pub sums : length out ≤ 1099511627776
+  pub places : length b ≤ 1099511627776
+
+-- what is left of the output: the block, from its start on
+pub record WroteBlock (b old new : List ℕ) : Type 0 where
+  pub wrote : (t : Actions) → ReadsMain b t → new ≡ sets old 0 (blockBytes t)
