@@ -1,6 +1,6 @@
 -- Laws of a counted list scanned one element at a time: what is still to do from here gives what the whole gives. Assumes nothing.
 use mathlib.Core.Path.{_≡_, refl, sym, ap, _∙_}
-use Prim.Native.Nat.{ℕ, zero, suc, _+_, _-_, _*_, _≤_, _<_}
+use Prim.Native.Nat.{ℕ, zero, suc, _+_, _-_, _≤_, _<_}
 use native.Mathlib.Omega.{arith}
 use native.Mathlib.Numerals.{sub-one}
 use mathlib.Core.List.{List, [], _∷_}
@@ -10,13 +10,11 @@ use borrow.Author.Tests.{leb-true}
 use mathlib.Core.Bool.{Bool, true, false}
 use Rattle.layout.specs.Numbers.{u16At}
 use Rattle.layout.specs.Answers as answers
-use Rattle.layout.specs.Tree.{PushValueOf}
-use Rattle.layout.specs.Read.{Text, edition1, Place, ahead, Read, got, bad, Reader, chain, ifWhole, repeat, readU16, readBytes, readString, readCounted, readValue}
-use Rattle.layout.specs.Lengths.{total, stringLength, pushLength}
-use Rattle.layout.specs.Strings.{mapValue}
+use Rattle.layout.specs.Read.{edition1, Place, ahead, Read, got, bad, Reader, chain, ifWhole, repeat, readU16, readString, readCounted, readValue}
+use Rattle.layout.specs.Lengths.{total, stringLength}
 use Rattle.layout.specs.Pack.{spelling}
 use Rattle.laws.specs.Fits.{Bytes}
-use Rattle.laws.specs.ReadFits.{Good, good-got, good-then, good-as, text-good, value-good, bytes-good}
+use Rattle.laws.specs.ReadFits.{good-got, good-then, good-as, text-good, value-good, bytes-good}
 use Rattle.laws.specs.Packed.{spells}
 use Rattle.labels.specs.declared.BytePosition.{BytePosition}
 use Rattle.operands.specs.declared.Fault.{Fault}

@@ -1,28 +1,23 @@
 -- Laws of the fields' readers by cases, in the shape of the code's tests. Assumes nothing.
 use mathlib.Core.Path.{_≡_, refl, sym, ap, _∙_}
-use Prim.Native.Nat.{ℕ, zero, suc, _+_, _-_, _*_, _≤_, _<_}
+use Prim.Native.Nat.{ℕ, zero, suc, _+_, _≤_, _<_}
 use native.Mathlib.Omega.{arith}
-use native.Mathlib.Numerals.{sub-one}
-use mathlib.Core.Bool.{Bool, true, false, _&&_}
 use mathlib.Core.Option.{Option, none, some}
 use mathlib.Core.List.{List, [], _∷_}
-use lib.ListN.{length, getD, take, drop, length-take, length-drop}
+use lib.ListN.{length, getD, drop, length-drop}
 use lib.Seq.{length-take-le}
-use lib.Dec.{leb, ltb, eqb}
+use lib.Dec.{leb, eqb}
 use borrow.Author.Tests.{le-leb, lt-leb, lt-ltb, le-ltb}
-use Rattle.layout.specs.Lists.{pick}
-use Rattle.layout.specs.Numbers.{u16At, u32At, u64At}
-use Rattle.layout.specs.Answers.{CutShort, UnknownCode, BadField}
-use Rattle.layout.specs.Read.{Text, plain, edition1, Place, ahead, Read, got, bad, Reader, chain, ifWhole, ifWithin, tested, repeat, firstZero, ifNoZero, readU8, readU16, readU32, readU64, readBytes, readFlag, readSpelling, readCounted, readString, readLabel}
+use Rattle.layout.specs.Numbers.{u16At}
+use Rattle.layout.specs.Answers.{CutShort, BadField}
+use Rattle.layout.specs.Read.{plain, edition1, ahead, got, bad, ifWhole, ifWithin, tested, firstZero, ifNoZero, readU8, readU16, readBytes, readFlag, readSpelling, readString, readLabel}
 use Rattle.layout.specs.Lengths.{stringLength}
 use Rattle.layout.specs.Pack.{spelling}
 use Rattle.fields.specs.Runs.{part, nulOr, firstNul}
-use Rattle.labels.specs.declared.BytePosition.{BytePosition}
-use Rattle.operands.specs.declared.Scan.{Scan}
 use Rattle.operands.specs.declared.Scan.the-variants as scan
 use Rattle.operands.specs.declared.Fault.the-variants as fault
 use Rattle.operands.specs.Scanned.{placed, faultOf, scanned}
-use Rattle.operands.specs.Operands.{stringSize, constantSize}
+use Rattle.operands.specs.Operands.{stringSize}
 use Rattle.operands.proofs.Scans.{ends, stops}
 
 -- ---- numbers and runs: whole, or cut short at their first byte

@@ -1,17 +1,15 @@
 -- Laws of `scanned`: from the code's answer to the reading and back, and one scan after another. Assumes nothing.
-use mathlib.Core.Path.{_≡_, refl, sym, ap, _∙_}
-use Prim.Native.Nat.{ℕ, _+_, _-_, _*_, _≤_, _<_}
+use mathlib.Core.Path.{_≡_, refl, sym, ap}
+use Prim.Native.Nat.{ℕ, _+_}
 use native.Mathlib.Omega.{arith}
 use mathlib.Core.Bool.{Bool, true, false}
-use mathlib.Core.List.{List}
-use lib.ListN.{length}
 use Rattle.layout.specs.Answers as answers
 use Rattle.layout.specs.Read.{Place, Read, got, bad, Reader, chain, ifWhole}
 use Rattle.labels.specs.declared.BytePosition.{BytePosition}
 use Rattle.operands.specs.declared.Fault.{Fault}
 use Rattle.operands.specs.declared.Scan.{Scan}
 use Rattle.operands.specs.declared.Scan.the-variants as scan
-use Rattle.operands.specs.Scanned.{placed, faultOf, scanned, Roomy}
+use Rattle.operands.specs.Scanned.{placed, faultOf, scanned}
 
 module _ {A : Type 0} (size : A → ℕ) (pos : ℕ) where
   -- an answer that ends says what was read

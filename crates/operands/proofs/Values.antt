@@ -1,22 +1,21 @@
 -- Laws of parameters, constants and push values, in the shape of the code's tests. Assumes nothing.
 use mathlib.Core.Path.{_≡_, refl, sym, ap, _∙_}
-use Prim.Native.Nat.{ℕ, zero, suc, _+_, _-_, _*_, _≤_, _<_}
+use Prim.Native.Nat.{ℕ, _+_, _≤_, _<_}
 use native.Mathlib.Omega.{arith}
-use mathlib.Core.Bool.{Bool, true, false}
+use mathlib.Core.Bool.{false}
 use mathlib.Core.Option.{Option, none, some}
-use mathlib.Core.List.{List, [], _∷_}
+use mathlib.Core.List.{List}
 use lib.ListN.{length, getD}
-use lib.Dec.{ltb, eqb}
+use lib.Dec.{eqb}
 use borrow.Author.Tests.{lt-ltb, le-ltb, ne-eqb}
 use Rattle.layout.specs.Lists.{pick, firstWith}
 use Rattle.layout.specs.Numbers.{u16At}
 use Rattle.layout.specs.Answers.{CutShort, UnknownCode}
 use Rattle.layout.specs.PushKind.{PushKind, kindByte, pushKinds, kindOf}
 use Rattle.layout.specs.Tree.{PushValueOf, String, Null, Undefined, Register, Boolean, Float, Integer, Constant}
-use Rattle.layout.specs.Read.{Text, edition1, Place, Read, got, bad, Reader, chain, ifWhole, readU8, readU16, readU32, readU64, readBytes, readFlag, readString, readValueOf, readValueIf, readValue}
+use Rattle.layout.specs.Read.{Text, edition1, Read, got, chain, readU8, readU16, readU32, readU64, readBytes, readFlag, readString, readValueOf, readValueIf, readValue}
 use Rattle.layout.specs.Strings.{mapValue}
 use Rattle.layout.specs.Lengths.{pushLength, stringLength}
-use Rattle.layout.specs.Pack.{spelling}
 use Rattle.operands.specs.declared.Scan.{Scan}
 use Rattle.operands.specs.declared.Scan.the-variants as scan
 use Rattle.operands.specs.declared.Fault.the-variants as fault

@@ -1,17 +1,17 @@
 -- What each arm of the match on the opcode says of its action. Assumes nothing.
 use mathlib.Core.Path.{_≡_, refl, sym, ap, _∙_, subst}
-use Prim.Native.Nat.{ℕ, zero, suc, _+_, _-_, _*_, _/_, _%_, _≤_, _<_}
+use Prim.Native.Nat.{ℕ, zero, suc, _+_, _≤_, _<_}
 use native.Mathlib.Omega.{arith}
 use mathlib.Core.Bool.{Bool, true, false, false≢true, _||_, _&&_}
 use mathlib.Core.Option.{Option, none, some}
-use mathlib.Core.List.{List, [], _∷_, _++_}
+use mathlib.Core.List.{List, [], _∷_}
 use lib.ListN.{length, getD}
 use lib.Dec.{ltb, eqb}
 use borrow.Author.Tests.{eqb-true, eqb-false, ne-eqb, le-ltb}
 use Rattle.layout.specs.Lists.{each, pick, firstWith}
 use Rattle.layout.specs.OpCode.{OpCode, SmallOpCode, smallByte, byte, smallOpCodes, opcodes, opcodeOf}
-use Rattle.layout.specs.Tree.{FlatOf, Small, GotoFrame, GetUrl, StoreRegister, ConstantPool, WaitForFrame, SetTarget, GotoLabel, WaitForFrame2, Push, GetUrl2, GotoFrame2, OwnerOf, With, DefineFunction, DefineFunction2, Branch, Jump, If, PushValueOf, FunctionParamOf, ActionOf, flat, branch, owner, ActionsOf}
-use Rattle.layout.specs.Read.{Text, edition1, Place, Read, got, bad, Reader, chain, tested, repeat, ifWhole, readU8, readU16, readBytes, readFlag, readString, readCounted, readValue, readParam, readLabel, readFields, readFieldsIf}
+use Rattle.layout.specs.Tree.{FlatOf, Small, GotoFrame, GetUrl, StoreRegister, ConstantPool, WaitForFrame, SetTarget, GotoLabel, WaitForFrame2, Push, GetUrl2, GotoFrame2, OwnerOf, With, DefineFunction, DefineFunction2, Jump, If, PushValueOf, FunctionParamOf, ActionOf, flat, owner, ActionsOf}
+use Rattle.layout.specs.Read.{Text, edition1, Place, Read, got, bad, Reader, chain, tested, repeat, readU8, readU16, readBytes, readFlag, readString, readCounted, readValue, readParam, readLabel, readFields, readFieldsIf}
 use Rattle.layout.specs.Strings.{mapFlat, mapValue, mapParam, mapOwner, mapAction}
 use Rattle.layout.specs.Payload.{opcode, payload, headed, framed}
 use Rattle.layout.specs.Numbers.{le16}
@@ -19,7 +19,7 @@ use Rattle.layout.specs.Write.{size, trace, payloadTest, eventIf}
 use Rattle.layout.specs.Lengths.{total, stringLength, paramLength, pushLength, payloadLength, ownerLength, gotoFrame2Length}
 use Rattle.layout.specs.Pack.{spelling}
 use Rattle.laws.specs.Fits.{Bytes, Clean, ParamFits}
-use Rattle.laws.specs.ReadFits.{Good, fine, good-then, good-as, good-got, u8-good, u16-good, tested-good, text-good, param-good, counted-good}
+use Rattle.laws.specs.ReadFits.{Good, fine, good-then, good-got, u8-good, u16-good, tested-good, text-good, param-good, counted-good}
 use Rattle.laws.specs.Packed.{spells}
 use Rattle.operands.specs.Scanned.{placed, faultOf, scanned}
 use Rattle.operands.specs.Operands.{stringSize, readNamed, namedSize, valueSize}
@@ -28,7 +28,7 @@ use Rattle.operands.proofs.Scans.{number-as}
 use Rattle.payload.specs.declared.Laid.{Laid}
 use Rattle.payload.specs.declared.Laid.the-variants as laid
 use Rattle.payload.specs.Fields.{readWaitForFrame, readGotoFrame2, readGetUrl2, readGetUrl, flatSize, readFunction, readFunction2, ownerSize, readCaught, caughtSize, bodiesAfter}
-use Rattle.payload.specs.Walk.{State, state, notedIf, noteAll, run, outcome, actionSize, actionTrace, bodyLength, bodiesEvents, Onward, Laying, laidAs, notedFrom, Tried}
+use Rattle.payload.specs.Walk.{state, notedIf, noteAll, run, outcome, actionSize, actionTrace, bodyLength, bodiesEvents, Onward, Laying, laidAs, notedFrom, Tried}
 use Rattle.payload.proofs.Runs.{noted-short, outcome-got}
 use Rattle.labels.specs.Table.{recordAll}
 use Rattle.operands.specs.declared.Fault.the-variants as fault

@@ -1,11 +1,11 @@
 -- What a payload's scan says of its action: laws for actions without a body and for those that own one. Assumes nothing.
 use mathlib.Core.Path.{_≡_, refl, sym, ap, ap₂, _∙_}
-use Prim.Native.Nat.{ℕ, zero, suc, _+_, _-_, _*_, _≤_, _<_}
+use Prim.Native.Nat.{ℕ, _+_, _-_, _≤_, _<_}
 use native.Mathlib.Omega.{arith}
 use mathlib.Core.Bool.{Bool, true, false}
 use mathlib.Core.List.{List, [], _∷_, _++_, append-nil}
 use lib.ListN.{length}
-use lib.Dec.{ltb, eqb}
+use lib.Dec.{ltb}
 use borrow.Author.Tests.{ltb-true, ltb-false, ne-eqb}
 use Rattle.layout.specs.Lists.{pick}
 use Rattle.layout.specs.OpCode.{byte}
@@ -14,8 +14,8 @@ use Rattle.layout.specs.Tree.{FlatOf, OwnerOf, ActionOf, flat, branch, Branch, 
 use Rattle.layout.specs.Read.{Text, Place, Read, got, bad, Reader, chain, repeat}
 use Rattle.layout.specs.Strings.{mapFlat, mapOwner, mapAction, mapBody}
 use Rattle.layout.specs.Payload.{opcode, payload, ownerFields}
-use Rattle.layout.specs.Write.{size, bodySize, Position, moved, Event, payloadTest, bodyTest, trace, traceBody}
-use Rattle.layout.specs.Lengths.{total, payloadLength, ownerLength, length-payload, length-framed, length-ownerFields}
+use Rattle.layout.specs.Write.{size, bodySize, Position, moved, payloadTest, bodyTest, trace, traceBody}
+use Rattle.layout.specs.Lengths.{total, ownerLength, length-payload, length-framed, length-ownerFields}
 use Rattle.layout.specs.Pack.{spelling}
 use Rattle.labels.specs.Table.{recordAll}
 use Rattle.labels.specs.declared.BytePosition.{BytePosition}
@@ -26,9 +26,9 @@ use Rattle.operands.specs.declared.Scan.the-variants as scan
 use Rattle.payload.specs.declared.Laid.{Laid}
 use Rattle.payload.specs.declared.Laid.the-variants as laid
 use Rattle.payload.specs.Fields.{flatSize, ownerSize, readCaught, caughtSize}
-use Rattle.payload.specs.Walk.{State, state, notedIf, noteAll, run, Outcome, done, fault, outcome, actionSize, actionTrace, bodyLength, bodyEvents, inBodies, bodyTests, bodiesEvents, Onward, Laying, laidAs, notedFrom, EndsFrom, Tried}
+use Rattle.payload.specs.Walk.{State, state, notedIf, noteAll, run, done, outcome, actionSize, actionTrace, bodyLength, inBodies, bodyTests, bodiesEvents, Onward, Laying, laidAs, notedFrom, EndsFrom, Tried}
 use Rattle.payload.proofs.Steps.{caught-out}
-use Rattle.payload.proofs.Runs.{run-append, run-none, run-payload, run-body, noted-short, outcome-got}
+use Rattle.payload.proofs.Runs.{run-append, run-payload, run-body, noted-short, outcome-got}
 
 -- ---- an action without a body
 

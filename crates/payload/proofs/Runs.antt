@@ -1,19 +1,18 @@
 -- Laws of the state that a walk keeps, and of its outcomes. Assumes nothing.
-use mathlib.Core.Path.{_≡_, refl, sym, ap, ap₂, _∙_}
-use Prim.Native.Nat.{ℕ, zero, suc, _+_, _-_, _*_, _≤_, _<_}
-use native.Mathlib.Omega.{arith}
+use mathlib.Core.Path.{_≡_, refl, ap₂}
+use Prim.Native.Nat.{ℕ, _+_, _≤_, _<_}
 use mathlib.Core.Bool.{Bool, true, false}
 use mathlib.Core.List.{List, [], _∷_, _++_}
-use lib.ListN.{length, getD, set}
-use lib.Dec.{ltb, eqb}
+use lib.ListN.{getD, set}
+use lib.Dec.{ltb}
 use borrow.Author.Tests.{lt-ltb, le-ltb, eq-eqb, ne-eqb}
 use Rattle.layout.specs.Lists.{pick}
-use Rattle.layout.specs.Read.{Place, Read, got, bad}
+use Rattle.layout.specs.Read.{Read, got}
 use Rattle.layout.specs.Write.{Position, Event, labelAt, branchAt, payloadTooLong, bodyTooLong, eventIf, payloadTest, bodyTest}
 use Rattle.labels.specs.Table.{recordAll}
 use Rattle.labels.proofs.Labels.{recordAll-append}
-use Rattle.operands.specs.Scanned.{placed, faultOf}
-use Rattle.payload.specs.Walk.{State, state, noted, notedIf, noteAll, run, Outcome, done, fault, outcome}
+use Rattle.operands.specs.Scanned.{placed}
+use Rattle.payload.specs.Walk.{State, state, noted, notedIf, noteAll, run, done, outcome}
 
 noteAll-append : (xs ys : List Event) (over : List ℕ) → noteAll (xs ++ ys) over ≡ noteAll ys (noteAll xs over)
 unfolding noteAll

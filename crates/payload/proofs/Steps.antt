@@ -1,6 +1,6 @@
 -- One scan after another: laws by which a payload's scan is put together from its fields'. Assumes nothing.
 use mathlib.Core.Path.{_≡_, refl, sym, ap, _∙_}
-use Prim.Native.Nat.{ℕ, zero, suc, _+_, _-_, _*_, _/_, _%_, _≤_, _<_}
+use Prim.Native.Nat.{ℕ, zero, suc, _+_, _/_, _%_, _≤_, _<_}
 use native.Mathlib.Omega.{arith}
 use mathlib.Core.Bool.{Bool, true, false, _&&_, _||_, not}
 use mathlib.Core.List.{List, [], _∷_}
@@ -11,12 +11,11 @@ use native.Mathlib.Nat.{add-zero}
 use Rattle.layout.specs.Lists.{each}
 use Rattle.layout.specs.Numbers.{u16At}
 use Rattle.layout.specs.Answers as answers
-use Rattle.layout.specs.Tree.{FlatOf, GotoFrame2, GetUrl, GetUrl2, WaitForFrame, OwnerOf, DefineFunction, DefineFunction2, FunctionParamOf, functionParam, CatchTargetOf, Variable, Register}
-use Rattle.layout.specs.Read.{Text, plain, edition1, Place, ahead, Read, got, bad, Reader, chain, ifWhole, ifWithin, tested, repeat, readU8, readU16, readBytes, readFlag, readString, readParam, readCounted, isShape, hasCatch, hasRegister, readCatchTarget}
+use Rattle.layout.specs.Tree.{GotoFrame2, GetUrl, GetUrl2, WaitForFrame, DefineFunction, DefineFunction2, FunctionParamOf, functionParam, CatchTargetOf, Variable, Register}
+use Rattle.layout.specs.Read.{Text, edition1, Place, ahead, Read, got, bad, Reader, chain, ifWhole, ifWithin, tested, repeat, readU8, readU16, readBytes, readFlag, readString, readParam, readCounted, isShape, hasCatch, hasRegister, readCatchTarget}
 use Rattle.layout.specs.Strings.{mapFlat, mapOwner, mapParam}
 use Rattle.layout.specs.Lengths.{total, payloadLength, ownerLength, stringLength, paramLength, gotoFrame2Length}
 use Rattle.layout.specs.Pack.{spelling}
-use Rattle.laws.specs.Fits.{Bytes}
 use Rattle.laws.specs.ReadFits.{good-got, flag-good}
 use Rattle.labels.specs.declared.BytePosition.{BytePosition}
 use Rattle.operands.specs.declared.Fault.{Fault}
@@ -25,10 +24,9 @@ use Rattle.operands.specs.declared.Scan.{Scan}
 use Rattle.operands.specs.declared.Scan.the-variants as scan
 use Rattle.operands.specs.Scanned.{placed, faultOf, scanned, Roomy}
 use Rattle.operands.specs.Operands.{stringSize, readNamed, namedSize}
-use Rattle.operands.proofs.Scans.{ends-is, stops-is, ends, stops, scanned-as, scanned-from, number-as}
+use Rattle.operands.proofs.Scans.{ends-is, stops-is, ends, stops, scanned-as, number-as}
 use Rattle.operands.proofs.Reading as reading
-use Rattle.operands.proofs.Lists.{Grows, named-grows}
-use Rattle.payload.specs.Fields.{readWaitForFrame, readGotoFrame2, readGetUrl2, readGetUrl, flatSize, readFunction, readRegisters, readFunction2, ownerSize, readCaught, targetSize, caughtSize}
+use Rattle.payload.specs.Fields.{readWaitForFrame, readGotoFrame2, flatSize, readRegisters, ownerSize, readCaught, targetSize, caughtSize}
 
 -- the scan of a first part ended at q: what follows decides
 pub then-ends : {A B : Type 0} (size : A → ℕ) (pos : ℕ) (s : B → ℕ) (p : ℕ) (x : Read B) (k : B → Reader A) {r : Scan} {q : ℕ} {w : BytePosition} (r′ : Scan) → r ≡ scanned s p x → r ≡ scan.Ends q w

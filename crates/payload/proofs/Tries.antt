@@ -1,11 +1,11 @@
 -- What the scan of a Try's payload says of it: its bodies follow, their lengths tested after all of them. Assumes nothing.
 use mathlib.Core.Path.{_≡_, refl, sym, ap, ap₂, _∙_}
-use Prim.Native.Nat.{ℕ, zero, suc, _+_, _-_, _*_, _/_, _%_, _≤_, _<_}
+use Prim.Native.Nat.{ℕ, _+_, _-_, _/_, _%_, _≤_, _<_}
 use native.Mathlib.Omega.{arith}
 use mathlib.Core.Bool.{Bool, true, false, false≢true}
-use mathlib.Core.List.{List, [], _∷_, _++_, append-nil, append-assoc}
+use mathlib.Core.List.{List, [], _∷_, _++_}
 use lib.ListN.{length, getD}
-use lib.Dec.{leb, ltb, eqb}
+use lib.Dec.{leb, eqb}
 use borrow.Author.Tests.{eqb-true, eqb-false, leb-true, ne-eqb}
 use Rattle.layout.specs.Lists.{pick}
 use Rattle.layout.specs.Numbers.{bit}
@@ -15,7 +15,7 @@ use Rattle.layout.specs.Tree.{CatchTargetOf, Variable, Register, ActionOf, Try,
 use Rattle.layout.specs.Read.{Text, plain, edition1, Place, ahead, Read, got, bad, Reader, chain, ifWhole, repeat, tested, isShape, readU8, hasCatch, hasFinally, hasRegister, readCatchTarget, readCatch, readFinally, readTry, readFields}
 use Rattle.layout.specs.Strings.{mapTarget, mapAction, mapBody, mapCatch, mapFinally}
 use Rattle.layout.specs.Payload.{catchName}
-use Rattle.layout.specs.Write.{size, bodySize, catchSize, finallySize, Position, moved, Event, eventIf, payloadTest, bodyTest, trace, traceBody, traceCatch, traceFinally}
+use Rattle.layout.specs.Write.{size, catchSize, finallySize, Position, moved, payloadTest, bodyTest, trace, traceBody, traceCatch, traceFinally}
 use Rattle.layout.specs.Lengths.{total, nameLength, stringLength, length-catchName}
 use Rattle.layout.specs.Pack.{spelling}
 use Rattle.laws.specs.Fits.{Bytes}
@@ -24,13 +24,12 @@ use Rattle.laws.specs.Packed.{spells}
 use Rattle.labels.specs.declared.BytePosition.{BytePosition}
 use Rattle.operands.specs.Scanned.{placed, faultOf, scanned}
 use Rattle.operands.specs.Operands.{stringSize}
-use Rattle.operands.specs.declared.Scan.{Scan}
 use Rattle.operands.specs.declared.Scan.the-variants as scan
 use Rattle.payload.specs.declared.Laid.{Laid}
 use Rattle.payload.specs.declared.Laid.the-variants as laid
 use Rattle.payload.specs.Fields.{readCaught, targetSize, caughtSize, bodiesAfter}
-use Rattle.payload.specs.Walk.{State, state, notedIf, run, Outcome, done, fault, outcome, actionSize, actionTrace, bodyLength, bodyEvents, inBodies, bodyTests, bodiesEvents, Onward, Laying, laidAs, notedFrom, Tried}
-use Rattle.payload.proofs.Runs.{run-append, run-none, run-payload, run-body, outcome-got}
+use Rattle.payload.specs.Walk.{State, state, notedIf, run, Outcome, done, outcome, actionSize, actionTrace, bodyLength, inBodies, bodyTests, bodiesEvents, Onward, Laying, laidAs, notedFrom, Tried}
+use Rattle.payload.proofs.Runs.{run-append, run-none, run-payload, run-body}
 
 -- ---- a body's test, as a change of the state
 

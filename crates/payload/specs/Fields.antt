@@ -1,12 +1,10 @@
 -- The fields of an opcode as far as its bodies, as `readFields` reads them, and how many bytes they are written in. Assumes nothing.
-use Prim.Native.Nat.{ℕ, _+_, _*_, _/_, _%_}
-use mathlib.Core.Bool.{Bool}
+use Prim.Native.Nat.{ℕ, _+_, _/_, _%_}
 use mathlib.Core.List.{List}
 use lib.Dec.{ltb}
-use Rattle.layout.specs.Lists.{each}
-use Rattle.layout.specs.Tree.{FlatOf, GotoFrame2, GetUrl, GetUrl2, WaitForFrame, OwnerOf, DefineFunction, DefineFunction2, FunctionParamOf, CatchTargetOf, Variable, Register}
+use Rattle.layout.specs.Tree.{FlatOf, GotoFrame2, GetUrl, GetUrl2, WaitForFrame, OwnerOf, DefineFunction, DefineFunction2, CatchTargetOf, Variable, Register}
 use Rattle.layout.specs.Read.{Text, edition1, Reader, _>>=_, give, tested, readU8, readU16, readFlag, readString, readParam, readCounted, isShape, hasCatch, hasRegister, readCatchTarget}
-use Rattle.layout.specs.Strings.{mapFlat, mapOwner, mapTarget}
+use Rattle.layout.specs.Strings.{mapFlat, mapOwner}
 use Rattle.layout.specs.Lengths.{payloadLength, ownerLength}
 use Rattle.layout.specs.Pack.{spelling}
 use Rattle.operands.specs.Operands.{stringSize}

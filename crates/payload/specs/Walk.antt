@@ -2,15 +2,14 @@
 -- Assumes nothing.
 use mathlib.Core.Path.{_≡_}
 use Prim.Native.Nat.{ℕ, _+_, _-_, _*_, _≤_, _<_}
-use mathlib.Core.Bool.{Bool, true, false}
 use mathlib.Core.List.{List, [], _∷_, _++_}
-use lib.ListN.{length, getD, set}
+use lib.ListN.{getD, set}
 use lib.Dec.{ltb, eqb}
 use Rattle.layout.specs.Lists.{pick}
 use Rattle.layout.specs.Tree.{ActionOf, ActionsOf}
-use Rattle.layout.specs.Read.{Text, Place, Read, got, bad, Reader, repeat}
+use Rattle.layout.specs.Read.{Text, Read, got, bad, Reader, repeat}
 use Rattle.layout.specs.Strings.{mapAction, mapBody}
-use Rattle.layout.specs.Write.{size, bodySize, Position, Event, labelAt, branchAt, payloadTooLong, bodyTooLong, trace, traceBody, bodyTest}
+use Rattle.layout.specs.Write.{size, bodySize, Event, labelAt, branchAt, payloadTooLong, bodyTooLong, trace, traceBody, bodyTest}
 use Rattle.layout.specs.Lengths.{total}
 use Rattle.layout.specs.Pack.{spelling}
 use Rattle.labels.specs.Table.{recordAll}

@@ -3,28 +3,26 @@ use mathlib.Core.Path.{_≡_, refl, sym, ap, ap₂, _∙_}
 use Prim.Native.Nat.{ℕ, zero, suc, _+_, _-_, _*_, _≤_, _<_}
 use native.Mathlib.Omega.{arith}
 use native.Mathlib.Numerals.{sub-one, add-one}
-use mathlib.Core.Bool.{Bool, true, false, _&&_}
+use mathlib.Core.Bool.{Bool, true, false}
 use mathlib.Core.List.{List, [], _∷_}
-use lib.ListN.{length, getD}
-use lib.Dec.{leb, ltb, eqb}
+use lib.ListN.{length}
+use lib.Dec.{leb}
 use borrow.Author.Tests.{le-leb, lt-leb, lt-ltb, le-ltb, leb-true, leb-false}
-use Rattle.layout.specs.Lists.{pick}
 use Rattle.layout.specs.Numbers.{u16At}
 use Rattle.layout.specs.Answers.{CutShort, BadField}
 use Rattle.layout.specs.Answers as answers
 use Rattle.layout.specs.Tree.{Entry, entry}
-use Rattle.layout.specs.Read.{edition1, Place, Read, got, bad, Reader, chain, ifWithin, tested, readU16, readBytes, readLabel, readEntries}
+use Rattle.layout.specs.Read.{edition1, Place, Read, got, bad, chain, ifWithin, tested, readU16, readBytes, readLabel, readEntries}
 use Rattle.labels.specs.Table.{entriesAt, Rising}
 use Rattle.labels.proofs.Labels.{EntriesRead, entries-read}
 use Rattle.labels.specs.declared.BytePosition.{BytePosition}
 use Rattle.operands.specs.declared.Scan.{Scan}
 use Rattle.operands.specs.declared.Scan.the-variants as scan
 use Rattle.operands.specs.declared.Fault.{Fault}
-use Rattle.operands.specs.declared.Fault.the-variants as fault
 use Rattle.operands.specs.Scanned.{placed, faultOf, scanned}
 use Rattle.operands.proofs.Scans.{ends, stops, scanned-as, ends-is, stops-then, number-as}
 use Rattle.operands.proofs.Reading.{u16-in, u16-out}
-use Rattle.scan.specs.Bodies.{Front, readFront, Fronted}
+use Rattle.scan.specs.Bodies.{Front, readFront}
 
 -- ---- a label number, not under `least`
 

@@ -1,34 +1,30 @@
 -- Laws of a whole main body: from what the walk leaves to the final table and the first overflow. Assumes nothing.
-use mathlib.Core.Path.{_≡_, refl, sym, ap, _∙_}
-use Prim.Native.Nat.{ℕ, zero, suc, _+_, _-_, _*_, _≤_, _<_}
+use mathlib.Core.Path.{_≡_, refl, ap, _∙_}
+use Prim.Native.Nat.{ℕ, zero, suc, _+_, _≤_, _<_}
 use native.Mathlib.Omega.{arith}
-use mathlib.Core.Bool.{Bool, true, false}
-use mathlib.Core.Option.{Option, none, some}
 use mathlib.Core.List.{List, [], _∷_}
 use lib.ListN.{length, getD, set, length-set}
 use lib.Seq.{getD-set-same, getD-set-other}
-use lib.Dec.{eqb}
 use borrow.Author.Tests.{eq-eqb, ne-eqb}
 use Rattle.layout.specs.Lists.{pick}
-use Rattle.layout.specs.Answers.{Refusal, LeftOver}
+use Rattle.layout.specs.Answers.{LeftOver}
 use Rattle.layout.specs.Answers as answers
 use Rattle.layout.specs.Tree.{ActionsOf}
 use Rattle.layout.specs.Read.{Text, edition1, deepest, Place, Read, got, bad, ifNothingLeft, readBody, readMain}
-use Rattle.layout.specs.Strings.{mapBody}
-use Rattle.layout.specs.Write.{Event, labelAt, branchAt, payloadTooLong, bodyTooLong, events, bodySize}
+use Rattle.layout.specs.Write.{Event, labelAt, branchAt, payloadTooLong, bodyTooLong, events}
 use Rattle.layout.specs.Judge.{tooLong}
 use Rattle.layout.specs.Pack.{spelling}
 use Rattle.laws.specs.Fits.{Bytes}
 use Rattle.laws.specs.ReadFits.{good-got, body-good}
 use Rattle.laws.specs.Packed.{spells}
-use Rattle.labels.specs.Table.{recordAll, TableHolds}
+use Rattle.labels.specs.Table.{recordAll}
 use Rattle.labels.proofs.Labels.{length-recordAll, table-holds}
 use Rattle.labels.specs.declared.BytePosition.{BytePosition}
 use Rattle.operands.specs.declared.Scan.{Scan}
 use Rattle.operands.specs.declared.Scan.the-variants as scan
 use Rattle.operands.specs.declared.Fault.{Fault}
-use Rattle.operands.specs.Scanned.{placed, faultOf, Roomy}
-use Rattle.payload.specs.Walk.{State, state, noted, noteAll, run, Outcome, done, fault, outcome, Ran, bodyLength, bodyEvents}
+use Rattle.operands.specs.Scanned.{placed, faultOf}
+use Rattle.payload.specs.Walk.{State, state, noted, noteAll, run, fault, outcome, Ran, bodyLength, bodyEvents}
 use Rattle.scan.specs.Bodies.{Ready, Empty, overflow, MainScanned, whole, stopped}
 use Rattle.scan.proofs.Walks.{ran-is, ran-bad, outcome-is}
 

@@ -7,39 +7,37 @@ use mathlib.Core.Bool.{Bool, true, false}
 use mathlib.Core.Option.{Option, none, some}
 use mathlib.Core.Logic.{_⊎_, inl, inr, ⊎-elim}
 use mathlib.Core.List.{List, [], _∷_, _++_, append-assoc, append-nil}
-use lib.ListN.{length, getD, set, length-set}
+use lib.ListN.{length, getD, set}
 use lib.Seq.{getD-set-same, getD-set-other}
-use lib.Dec.{leb, ltb, eqb}
-use borrow.Author.Tests.{le-leb, lt-leb, lt-ltb, le-ltb, eq-eqb, ne-eqb, ltb-true, ltb-false, eqb-true, eqb-false}
+use lib.Dec.{ltb, eqb}
+use borrow.Author.Tests.{lt-ltb, le-ltb, eq-eqb, ne-eqb, ltb-true, ltb-false, eqb-true, eqb-false}
 use Rattle.layout.specs.Lists.{pick, first-with}
 use Rattle.layout.specs.Numbers.{u16At}
 use Rattle.layout.specs.Answers.{CutShort, UnknownCode, TooDeep}
 use Rattle.layout.specs.Answers as answers
 use Rattle.layout.specs.OpCode.{OpCode, SmallOpCode, byte, smallByte, opcodeOf, opcodes}
-use Rattle.layout.specs.Tree.{Entry, entry, ActionIndex, firstAction, nextAction, ActionOf, ActionListOf, ActionsOf, flat, Small, empty, more, body}
-use Rattle.layout.specs.Read.{Text, edition1, Place, Read, got, bad, Reader, chain, repeat, readU8, readU16, readEntries, readFields, readFieldsIf, readAction, readActions, readBodyWith, readBody}
+use Rattle.layout.specs.Tree.{Entry, entry, ActionIndex, ActionOf, ActionListOf, ActionsOf, flat, Small, empty, more, body}
+use Rattle.layout.specs.Read.{Text, edition1, Place, Read, got, bad, Reader, chain, repeat, readU16, readEntries, readFields, readFieldsIf, readAction, readActions, readBodyWith, readBody}
 use Rattle.layout.specs.Strings.{mapAction, mapActions, mapBody, mapFlat}
 use Rattle.layout.specs.Payload.{opcode, payload, headed, framed}
-use Rattle.layout.specs.Write.{size, sizes, bodySize, Position, moved, Event, eventIf, labelAt, branchAt, payloadTooLong, bodyTooLong, payloadTest, bodyTest, labelsAt, trace, traces, traceBody}
+use Rattle.layout.specs.Write.{size, sizes, bodySize, Position, moved, Event, eventIf, labelAt, payloadTest, bodyTest, labelsAt, trace, traces, traceBody}
 use Rattle.layout.specs.Lengths.{total}
 use Rattle.layout.specs.Pack.{spelling}
-use Rattle.laws.specs.Fits.{Bytes}
-use Rattle.laws.specs.ReadFits.{Good, good-got, action-good, body-good}
+use Rattle.laws.specs.ReadFits.{good-got, action-good, body-good}
 use Rattle.laws.specs.Packed.{spells}
-use Rattle.labels.specs.Table.{entriesAt, due, Rising, recordAll, Recorded, index, place}
+use Rattle.labels.specs.Table.{entriesAt, due, Rising, recordAll, index, place}
 use Rattle.labels.specs.declared.BytePosition.{BytePosition}
 use Rattle.pcode.specs.Listed.{listed, isSome}
 use Rattle.operands.specs.declared.Scan.{Scan}
 use Rattle.operands.specs.declared.Scan.the-variants as scan
 use Rattle.operands.specs.declared.Fault.{Fault}
-use Rattle.operands.specs.declared.Fault.the-variants as fault
 use Rattle.operands.specs.Scanned.{placed, faultOf, scanned, Roomy}
-use Rattle.operands.proofs.Scans.{ends-is, stops-is}
-use Rattle.operands.proofs.Reading.{u8-in, u8-out, u16-in}
+use Rattle.operands.proofs.Scans.{stops-is}
+use Rattle.operands.proofs.Reading.{u8-in, u8-out}
 use Rattle.payload.specs.declared.Laid.{Laid}
 use Rattle.payload.specs.declared.Laid.the-variants as laid
-use Rattle.payload.specs.Walk.{State, state, noted, notedIf, noteAll, run, Outcome, done, fault, outcome, Ran, ran, stopped, actionSize, actionTrace, bodyLength, bodyEvents, inBodies, bodyTests, bodiesEvents, Onward, Laying, flat, bodies, stops}
-use Rattle.payload.proofs.Runs.{run-append, run-none, run-body, noted-short, noted-after, noted-now, outcome-got}
+use Rattle.payload.specs.Walk.{State, state, notedIf, noteAll, run, Outcome, done, fault, outcome, Ran, ran, stopped, actionSize, actionTrace, bodyLength, bodyEvents, inBodies, bodyTests, bodiesEvents, Laying, flat, bodies, stops}
+use Rattle.payload.proofs.Runs.{run-append, run-none, run-body, noted-short, noted-after, noted-now}
 use Rattle.scan.specs.Bodies.{Front, readFront, Fronted, Ready, firstLong}
 use Rattle.scan.proofs.Fronts.{FrontRead, front-read}
 

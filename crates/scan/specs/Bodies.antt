@@ -1,7 +1,6 @@
 -- What the walk of bodies and actions asks and promises. Assumes nothing.
 use mathlib.Core.Path.{_≡_}
-use Prim.Native.Nat.{ℕ, _+_, _≤_, _<_}
-use mathlib.Core.Bool.{Bool}
+use Prim.Native.Nat.{ℕ, _<_}
 use mathlib.Core.Option.{Option, none, some}
 use mathlib.Core.List.{List}
 use lib.ListN.{length, getD}
@@ -9,13 +8,12 @@ use lib.Dec.{ltb, eqb}
 use Rattle.layout.specs.Lists.{pick}
 use Rattle.layout.specs.Answers.{Refusal, ActionLenOverflow, BlockLenOverflow}
 use Rattle.layout.specs.Answers as answers
-use Rattle.layout.specs.Tree.{Entry, ActionsOf, Actions}
+use Rattle.layout.specs.Tree.{Entry, ActionsOf}
 use Rattle.layout.specs.Read.{Text, edition1, Reader, Place, Read, got, bad, give, _>>=_, readU16, readEntries}
 use Rattle.layout.specs.Strings.{mapBody}
 use Rattle.layout.specs.Write.{events, bodySize}
 use Rattle.layout.specs.Judge.{tooLong}
 use Rattle.layout.specs.Pack.{spelling}
-use Rattle.laws.specs.Fits.{Bytes}
 use Rattle.labels.specs.Table.{TableHolds}
 use Rattle.labels.specs.declared.BytePosition.{BytePosition}
 use Rattle.operands.specs.Scanned.{placed, faultOf, Roomy}

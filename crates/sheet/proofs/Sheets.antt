@@ -1,22 +1,21 @@
 -- Laws of the reading of a sheet. Assumes nothing.
-use mathlib.Core.Path.{_≡_, refl, sym, ap, _∙_}
+use mathlib.Core.Path.{_≡_, refl, sym, _∙_}
 use Prim.Native.Nat.{ℕ, _+_, _-_, _≤_}
 use native.Mathlib.Omega.{arith}
-use mathlib.Core.Option.{Option, none, some}
+use mathlib.Core.Option.{none, some}
 use mathlib.Core.List.{List}
 use lib.ListN.{length, take, drop}
 use Rattle.layout.specs.Answers.{ReadingFault}
 use Rattle.layout.specs.Answers as answers
 use Rattle.layout.specs.Tree.{ActionsOf}
-use Rattle.layout.specs.Read.{Text, edition1, deepest, Place, Read, got, bad, readMain}
+use Rattle.layout.specs.Read.{Text, edition1, deepest, Read, got, bad, readMain}
 use Rattle.layout.specs.Pack.{spelling}
-use Rattle.layout.specs.Cut.{Cut, main, uncut, cut}
+use Rattle.layout.specs.Cut.{main, cut}
 use Rattle.laws.specs.Fits.{Bytes}
 use Rattle.laws.specs.ReadFits.{good-bad, main-good}
-use Rattle.laws.specs.Packed.{spells, IsMain, is-main}
+use Rattle.laws.specs.Packed.{spells, is-main}
 use Rattle.labels.specs.declared.BytePosition.{BytePosition}
 use Rattle.operands.specs.declared.Fault.{Fault}
-use Rattle.operands.specs.declared.Fault.the-variants as fault
 use Rattle.operands.specs.declared.Scan.{Scan}
 use Rattle.operands.specs.declared.Scan.the-variants as scan
 use Rattle.operands.specs.Scanned.{faultOf}

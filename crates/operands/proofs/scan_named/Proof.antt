@@ -1,6 +1,3 @@
-use Rattle.operands.specs.Scanned.{faultOf}
-use Rattle.operands.proofs.Scans.{ends, stops}
-use Rattle.operands.proofs.Reading as reading
 use Rattle.operands.proofs.Values as values
 use native.Mathlib.Omega.{arith}
 use borrow.Author.Needs.{needs}

@@ -2,7 +2,7 @@ use borrow.Author.Needs.{needs}
 use Rattle.layout.specs.Read.{edition1, readValue, readCounted}
 use Rattle.layout.specs.Lengths.{total}
 use Rattle.operands.specs.Scanned.{placed, faultOf, scanned}
-use Rattle.operands.specs.Operands.{readNamed, namedSize, valueSize}
+use Rattle.operands.specs.Operands.{valueSize}
 use Rattle.operands.proofs.Lists as lists
 use native.Mathlib.Omega.{arith}
 use Rattle.operands.proofs.scan_push.Statement.{statement}

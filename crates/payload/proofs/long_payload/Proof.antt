@@ -1,10 +1,5 @@
-use Prim.Native.Nat.{ℕ}
-use mathlib.Core.Path.{_≡_, refl, sym, ap, _∙_}
 use native.Mathlib.Omega.{arith}
-use Rattle.operands.proofs.Lists as lists
-use Rattle.payload.proofs.Steps as steps
 use Rattle.payload.proofs.Layings as lay
-use Rattle.payload.proofs.Tries as tries
 use borrow.Author.Needs.{needs}
 use Rattle.payload.proofs.long_payload.Statement.{statement}
 use Rattle.payload.proofs.long_payload.Tie as tie

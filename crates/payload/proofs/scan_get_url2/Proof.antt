@@ -1,9 +1,6 @@
 use Rattle.payload.specs.Fields.{readGetUrl2}
-use Prim.Native.Nat.{ℕ}
-use mathlib.Core.Path.{_≡_, refl, _∙_}
+use mathlib.Core.Path.{_∙_}
 use native.Mathlib.Omega.{arith}
-use Rattle.operands.proofs.Scans.{ends-is}
-use Rattle.operands.proofs.Lists as lists
 use Rattle.payload.proofs.Steps as steps
 use borrow.Author.Needs.{needs}
 use Rattle.payload.proofs.scan_get_url2.Statement.{statement}

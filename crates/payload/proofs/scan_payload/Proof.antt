@@ -1,13 +1,6 @@
-use Rattle.layout.specs.OpCode.{opcodeOf, opcodes, smallOpCodes, byte, smallByte}
-use Rattle.layout.specs.Lists.{each, pick, firstWith}
 use Rattle.payload.proofs.Arms as arms
-use Prim.Native.Nat.{ℕ}
-use mathlib.Core.Path.{_≡_, refl, sym, ap, _∙_}
 use native.Mathlib.Omega.{arith}
-use Rattle.operands.proofs.Lists as lists
-use Rattle.payload.proofs.Steps as steps
 use Rattle.payload.proofs.Layings as lay
-use Rattle.payload.proofs.Tries as tries
 use borrow.Author.Needs.{needs}
 use Rattle.payload.proofs.scan_payload.Statement.{statement}
 use Rattle.payload.proofs.scan_payload.Tie as tie

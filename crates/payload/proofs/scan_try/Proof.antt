@@ -1,12 +1,7 @@
-use Rattle.payload.specs.Walk.{laidAs, notedFrom}
 use Rattle.payload.specs.Fields.{bodiesAfter}
-use Prim.Native.Nat.{ℕ}
-use mathlib.Core.Path.{_≡_, refl, sym, ap, _∙_}
+use mathlib.Core.Path.{sym, _∙_}
 use native.Mathlib.Omega.{arith}
-use Rattle.operands.proofs.Lists as lists
-use Rattle.payload.proofs.Steps as steps
 use Rattle.payload.proofs.Layings as lay
-use Rattle.payload.proofs.Tries as tries
 use borrow.Author.Needs.{needs}
 use Rattle.payload.proofs.scan_try.Statement.{statement}
 use Rattle.payload.proofs.scan_try.Tie as tie

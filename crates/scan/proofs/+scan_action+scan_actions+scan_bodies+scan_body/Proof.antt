@@ -3,12 +3,11 @@ use Rattle.payload.specs.Walk.{state, bodyLength, bodyEvents}
 use Rattle.operands.proofs.Scans.{ends-is}
 use Rattle.operands.specs.Scanned.{faultOf}
 use Rattle.layout.specs.Read.{edition1, readBody}
-use lib.ListN.{length}
 use mathlib.Core.List.{[]}
-use mathlib.Core.Path.{_≡_, refl, sym, ap, _∙_}
+use mathlib.Core.Path.{refl, sym, _∙_}
 use native.Mathlib.Omega.{arith}
 use borrow.Author.Needs.{needs}
-use Prim.Native.Nat.{ℕ, _+_, _-_, _*_, _<_, _≤_}
+use Prim.Native.Nat.{ℕ, _+_, _-_, _*_, _<_}
 use borrow.Fn.Kinds.{In}
 use borrow.Fn.PlainCycle.{Measures, is, falls, and}
 use Rattle.scan.proofs.scan_action.Reads as scan-action

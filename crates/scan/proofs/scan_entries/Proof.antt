@@ -1,7 +1,7 @@
 use Rattle.scan.proofs.Fronts.{entries-cut, entries-big, entries-low, entries-half, entries-more, entries-end}
 use Rattle.operands.specs.Scanned.{placed, scanned, faultOf}
 use Rattle.layout.specs.Read.{edition1, readEntries}
-use Prim.Native.Nat.{ℕ, _+_, _≤_}
+use Prim.Native.Nat.{_≤_}
 use lib.ListN.{length}
 use native.Mathlib.Omega.{arith}
 use mathlib.Core.Path.{_≡_, refl, _∙_}

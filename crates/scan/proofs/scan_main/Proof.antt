@@ -1,6 +1,5 @@
 use Rattle.scan.proofs.Mains.{all-bytes, ready, main-stops, main-left, main-whole}
 use Rattle.operands.specs.Scanned.{faultOf}
-use mathlib.Core.Path.{_≡_, refl, sym, ap, _∙_}
 use native.Mathlib.Omega.{arith}
 use borrow.Author.Needs.{needs}
 use Rattle.scan.proofs.scan_main.Statement.{statement}

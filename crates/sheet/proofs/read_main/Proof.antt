@@ -3,7 +3,7 @@ use Rattle.scan.proofs.Mains.{all-bytes}
 use lib.ListN.{length-replicate, getD-replicate}
 use native.Mathlib.Omega.{arith}
 use Prim.Native.Nat.{ℕ}
-use mathlib.Core.Path.{_≡_, refl, sym, ap, _∙_}
+use mathlib.Core.Path.{refl}
 use borrow.Author.Needs.{needs}
 use Rattle.sheet.proofs.read_main.Statement.{statement}
 use Rattle.sheet.proofs.read_main.Tie as tie
