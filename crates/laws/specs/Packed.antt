@@ -1,7 +1,7 @@
 -- What a Done answer says: the sheet reads whole, nothing in its tree is too long or too far, there is room, and the block
 -- is the tree's. Assumes nothing.
 use mathlib.Core.Path.{_≡_, refl, sym, ap, ap₂, _∙_, subst}
-use Prim.Native.Nat.{ℕ, suc, _+_, _-_, _*_, _≤_, _<_}
+use Prim.Native.Nat.{ℕ, _+_, _-_, _*_, _≤_, _<_}
 use native.Mathlib.Omega.{arith}
 use mathlib.Core.Bool.{Bool, true, false, _&&_}
 use mathlib.Core.Option.{Option, none, some, Option·none-ne-some}
@@ -10,9 +10,9 @@ use lib.ListN.{length, take, drop, length-take, length-drop}
 use lib.Dec.{leb, ltb}
 use borrow.Author.Tests.{ltb-false, leb-true}
 use Rattle.layout.specs.Lists.{all-take, all-drop}
-use Rattle.layout.specs.Answers.{Refusal, ActionLenOverflow, BlockLenOverflow, Answer, Done, Refused}
+use Rattle.layout.specs.Answers.{Refusal, ActionLenOverflow, BlockLenOverflow, Done, Refused}
 use Rattle.layout.specs.Tree.{Actions, ActionsOf, ActionIndex, firstAction, nextAction, Entry, Action, flat, branch, owner, Try, ActionList, empty, more, body, Catch, noCatch, catch, Finally, noFinally, finally}
-use Rattle.layout.specs.Read.{Text, plain, Terms, edition1, deepest, Place, Read, got, bad, readMain, readU16, readSpelling, readString}
+use Rattle.layout.specs.Read.{Text, plain, Terms, edition1, deepest, Place, Read, got, bad, readMain, readString}
 use Rattle.layout.specs.Strings.{mapBody}
 use Rattle.layout.specs.Payload.{payload, ownerFields, catchName}
 use Rattle.layout.specs.Write.{size, bodySize, catchSize, finallySize, Position, Event, labelAt, branchAt, payloadTooLong, bodyTooLong, moved, eventIf, payloadTest, bodyTest, labelsAt, trace, traces, traceBody, traceCatch, traceFinally, events, blockBytes, blockSize}
@@ -21,7 +21,7 @@ use Rattle.layout.specs.Cut.{Cut, main, uncut, sheetLimit, trailerDistance, isM
 use Rattle.layout.specs.Pack.{unless, ifRoom, packTree, spelling, packRead, packCut, pack, ReadsAs}
 use Rattle.layout.specs.Order.{tree-next}
 use Rattle.laws.specs.Fits.{Bytes, Well, WellActions, WellBody, WellCatch, WellFinally, Fits, ActionsFit, BodyFits, CatchFits, FinallyFits}
-use Rattle.laws.specs.ReadFits.{Good, fine, good-then, good-got, u16-good, spelling-good, Spells, main-good}
+use Rattle.laws.specs.ReadFits.{fine, good-then, good-got, u16-good, spelling-good, Spells, main-good}
 
 -- ---- a tree that is written
 

@@ -1,26 +1,26 @@
 -- What reading makes sure of: its places lie within what is read, the fields of a tree that was read fit, and it is written
 -- in at most three bytes for each byte read. Assumes nothing.
 use mathlib.Core.Path.{_≡_, refl, sym, ap, _∙_, subst}
-use Prim.Native.Nat.{ℕ, zero, suc, _+_, _-_, _*_, _/_, _%_, _≤_, _<_}
+use Prim.Native.Nat.{ℕ, zero, suc, _+_, _*_, _≤_, _<_}
 use native.Mathlib.Omega.{arith}
 use mathlib.Core.Bool.{Bool, true, false}
 use mathlib.Core.Option.{Option, none, some, Option·none-ne-some}
-use mathlib.Core.List.{List, [], _∷_, _++_}
-use lib.ListN.{length, getD, take, drop, length-append, length-take, length-drop}
+use mathlib.Core.List.{List, [], _∷_}
+use lib.ListN.{length, getD, drop, length-take, length-drop}
 use lib.Dec.{leb, ltb, eqb}
 use borrow.Author.Tests.{ltb-true, leb-true, eqb-true}
 use Rattle.layout.specs.Lists.{All, each, pick, first-with, all-take, all-drop}
-use Rattle.layout.specs.Numbers.{le16, le32, bit}
+use Rattle.layout.specs.Numbers.{le16}
 use Rattle.layout.specs.Answers.{Fault}
 use Rattle.layout.specs.OpCode.{OpCode, byte, opcodes, opcodeOf}
 use Rattle.layout.specs.PushKind.{PushKind, kindOf}
-use Rattle.layout.specs.Tree.{PushValueOf, String, Null, Undefined, Register, Boolean, Float, Integer, Constant, FunctionParamOf, functionParam, FlatOf, Small, GotoFrame, GetUrl, StoreRegister, ConstantPool, WaitForFrame, SetTarget, GotoLabel, WaitForFrame2, Push, GetUrl2, GotoFrame2, With, DefineFunction, DefineFunction2, Jump, If, CatchTarget, CatchTargetOf, Variable, Entry, entry, ActionIndex, ActionOf, flat, branch, owner, Try, ActionListOf, empty, more, Actions, ActionsOf, body, CatchOf, noCatch, catch, FinallyOf, noFinally, finally}
-use Rattle.layout.specs.Read.{Text, plain, Terms, Place, ahead, Read, got, bad, Reader, chain, ifWhole, ifWithin, tested, repeat, firstZero, ifNoZero, ifNothingLeft, readU8, readU16, readU32, readU64, readBytes, readFlag, readSpelling, readCounted, hasCatch, hasFinally, hasRegister, isShape, readString, readValueOf, readValueIf, readValue, readParam, readLabel, readEntries, readCatchTarget, readCatch, readFinally, readTry, readFields, readFieldsIf, readAction, readActions, readBodyWith, readBody, readMain}
+use Rattle.layout.specs.Tree.{PushValueOf, String, Null, Undefined, Register, Boolean, Float, Integer, Constant, FlatOf, Small, GotoFrame, GetUrl, StoreRegister, ConstantPool, WaitForFrame, SetTarget, GotoLabel, WaitForFrame2, Push, GetUrl2, GotoFrame2, With, DefineFunction, DefineFunction2, Jump, If, CatchTarget, CatchTargetOf, Variable, ActionOf, flat, branch, owner, Try, empty, Actions, ActionsOf, noCatch, catch, noFinally}
+use Rattle.layout.specs.Read.{Text, plain, Terms, Place, ahead, Read, got, bad, Reader, chain, ifWhole, ifWithin, tested, repeat, firstZero, ifNoZero, ifNothingLeft, readU8, readU16, readU32, readU64, readBytes, readFlag, readSpelling, readCounted, isShape, readString, readValueOf, readValueIf, readValue, readParam, readLabel, readEntries, readCatchTarget, readCatch, readFinally, readTry, readFields, readFieldsIf, readAction, readActions, readBodyWith, readBody, readMain}
 use Rattle.layout.specs.Strings.{mapValue, mapParam, mapFlat, mapOwner, mapTarget, mapAction, mapActions, mapBody, mapCatch, mapFinally}
-use Rattle.layout.specs.Payload.{zeroEnded, stringsBytes, pushBytes, opcode, payload, paramsBytes, ownerFields, catchName, headed, framed}
+use Rattle.layout.specs.Payload.{opcode, payload, headed, framed}
 use Rattle.layout.specs.Write.{size, sizes, bodySize, catchSize, finallySize}
-use Rattle.layout.specs.Lengths.{total, stringLength, paramLength, pushLength, gotoFrame2Length, payloadLength, ownerLength, nameLength, length-zeroEnded, length-push, length-payload, length-ownerFields, length-catchName}
-use Rattle.laws.specs.Fits.{Bytes, Clean, ValueFits, ParamFits, Listed, FlatFits, OwnerFits, TargetFits, NameFits, Well, WellActions, WellBody, WellCatch, WellFinally}
+use Rattle.layout.specs.Lengths.{total, stringLength, paramLength, pushLength, gotoFrame2Length, payloadLength, ownerLength, nameLength, length-payload, length-ownerFields, length-catchName}
+use Rattle.laws.specs.Fits.{Bytes, Clean, ValueFits, ParamFits, Listed, FlatFits, TargetFits, NameFits, Well, WellActions, WellBody, WellCatch, WellFinally}
 
 -- ---- a reading of n bytes: the value and the next place have a property, and every place lies within
 

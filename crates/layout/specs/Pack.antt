@@ -8,7 +8,7 @@ use mathlib.Core.List.{List, _++_}
 use lib.ListN.{length, drop}
 use lib.IntN.{ℤ}
 use lib.Dec.{leb}
-use Rattle.layout.specs.Answers.{Fault, Refusal, ReadingFault, NoRoom, Answer, Done, Refused, Told, lengthOf}
+use Rattle.layout.specs.Answers.{Refusal, ReadingFault, NoRoom, Answer, Done, Refused, Told, lengthOf}
 use Rattle.layout.specs.Tree.{Actions, ActionsOf}
 use Rattle.layout.specs.Read.{Text, plain, edition1, deepest, Place, Read, got, bad, readMain}
 use Rattle.layout.specs.Strings.{mapBody}

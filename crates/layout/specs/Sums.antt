@@ -5,7 +5,7 @@ use mathlib.Core.List.{List, [], _∷_, _++_}
 use lib.ListN.{length}
 use Rattle.layout.specs.Lists.{each, pick, firstWith}
 use Rattle.layout.specs.Numbers.{le16, le32, bit}
-use Rattle.layout.specs.Answers.{Answer, Done}
+use Rattle.layout.specs.Answers.{Done}
 use Rattle.layout.specs.OpCode.{smallByte, byte, smallOpCodes, opcodes, opcodeOf}
 use Rattle.layout.specs.PushKind.{kindByte, pushKinds, kindOf}
 use Rattle.layout.specs.Read.{edition1, ifWhole, ifWithin, tested, repeat, firstZero, ifNoZero, ifNothingLeft, readU8, readU16, readU32, readU64, readBytes, readFlag, readSpelling, readCounted, hasCatch, hasFinally, hasRegister, isShape, readString, readValueOf, readValueIf, readValue, readParam, readLabel, readEntries, readCatchTarget, readCatch, readFinally, readTry, readFields, readFieldsIf, readAction, readActions, readBodyWith, readBody, readMain}
