@@ -7,7 +7,8 @@ use lib.ListN.{length, getD, set, length-set}
 use lib.Seq.{getD-set-same, getD-set-other}
 use borrow.Author.Tests.{eq-eqb, ne-eqb}
 use Rattle.layout.specs.Lists.{pick}
-use Rattle.layout.specs.Answers.{LeftOver}
+use lib.IntN.{pos}
+use Rattle.layout.specs.Answers.{refusalNumber, refusalValue, LeftOver}
 use Rattle.layout.specs.Answers as answers
 use Rattle.layout.specs.Tree.{ActionsOf}
 use Rattle.layout.specs.Read.{Text, edition1, deepest, Place, Read, got, bad, ifNothingLeft, readBody, readMain}
@@ -25,7 +26,7 @@ use Rattle.operands.specs.declared.Scan.the-variants as scan
 use Rattle.operands.specs.declared.Fault.{Fault}
 use Rattle.operands.specs.Scanned.{placed, faultOf}
 use Rattle.payload.specs.Walk.{State, state, noted, noteAll, run, fault, outcome, Ran, bodyLength, bodyEvents}
-use Rattle.scan.specs.Bodies.{Ready, Empty, overflow, MainScanned, whole, stopped}
+use Rattle.scan.specs.Bodies.{Ready, Empty, Holds, MainScanned, whole, stopped}
 use Rattle.scan.proofs.Walks.{ran-is, ran-bad, outcome-is}
 
 -- ---- every element of a slice of bytes is one
@@ -63,13 +64,13 @@ module _ (over : List ℕ) (two : length over ≡ 2) (number n : ℕ) where
   kept-first : (es : List Event) → 0 < number → getD over 0 0 ≡ 0 → noteAll es (noted number n over) ≡ set (set over 0 number) 1 n
   kept-first es l e = ap (noteAll es) (noted-first e) ∙ all-kept es (set (set over 0 number) 1 n) (λ z. omega (arith, zeroth))
 
-pub first-overflow : (es : List Event) (over : List ℕ) → length over ≡ 2 → getD over 0 0 ≡ 0 → overflow (noteAll es over) ≡ tooLong es
-unfolding noteAll tooLong overflow pick
-first-overflow [] over l e = rw e
-first-overflow (labelAt m s ∷ es) over l e = first-overflow es over l e
-first-overflow (branchAt m s ∷ es) over l e = first-overflow es over l e
-first-overflow (payloadTooLong n s ∷ es) over l e = ap overflow (kept-first over l 8 n es (omega arith) e) ∙ rw (zeroth over l 8 n, oneth over l 8 n)
-first-overflow (bodyTooLong n s ∷ es) over l e = ap overflow (kept-first over l 9 n es (omega arith) e) ∙ rw (zeroth over l 9 n, oneth over l 9 n)
+first-held : (es : List Event) (over : List ℕ) → length over ≡ 2 → getD over 0 0 ≡ 0 → Holds (tooLong es) (noteAll es over)
+unfolding noteAll tooLong refusalNumber refusalValue
+first-held [] over l e = e
+first-held (labelAt m s ∷ es) over l e = first-held es over l e
+first-held (branchAt m s ∷ es) over l e = first-held es over l e
+first-held (payloadTooLong n s ∷ es) over l e = rw (kept-first over l 8 n es (omega arith) e) (zeroth over l 8 n, ap pos (oneth over l 8 n))
+first-held (bodyTooLong n s ∷ es) over l e = rw (kept-first over l 9 n es (omega arith) e) (zeroth over l 9 n, ap pos (oneth over l 9 n))
 
 -- ---- what scan_main answers
 
@@ -116,4 +117,4 @@ module _ (b tab over : List ℕ) (small : Bytes b) (e : Empty tab over) where
                 slots = ap length a ∙ length-recordAll (bodyEvents t 0) tab ∙ e .full;
                 holds = λ l i. ap (λ v. getD v l 0) a ∙ table-holds l (bodyEvents t 0) tab (omega (arith, e .full)) (e .zeros l i);
               })
-              (ap overflow c ∙ first-overflow (bodyEvents t 0) over (e .two) (e .zero)))
+              (rw c (first-held (bodyEvents t 0) over (e .two) (e .zero))))

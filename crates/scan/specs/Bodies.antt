@@ -6,7 +6,8 @@ use mathlib.Core.List.{List}
 use lib.ListN.{length, getD}
 use lib.Dec.{ltb, eqb}
 use Rattle.layout.specs.Lists.{pick}
-use Rattle.layout.specs.Answers.{Refusal, ActionLenOverflow, BlockLenOverflow}
+use lib.IntN.{pos}
+use Rattle.layout.specs.Answers.{Refusal, refusalNumber, refusalValue}
 use Rattle.layout.specs.Answers as answers
 use Rattle.layout.specs.Tree.{Entry, ActionsOf}
 use Rattle.layout.specs.Read.{Text, edition1, Reader, Place, Read, got, bad, give, _>>=_, readU16, readEntries}
@@ -59,12 +60,13 @@ pub record Empty (tab over : List ℕ) : Type 0 where
   pub two : length over ≡ 2
   pub zero : getD over 0 0 ≡ 0
 
--- the refusal that two numbers stand for: 8 or 9 with its length, or none
-unfoldable pub overflow : List ℕ → Option Refusal
-overflow over = pick (eqb (getD over 0 0) 0) none (pick (eqb (getD over 0 0) 8) (some (ActionLenOverflow (getD over 1 0))) (some (BlockLenOverflow (getD over 1 0))))
+-- two numbers hold the first of 8 and 9: its number and its value; without one the first is 0
+abbrev pub Holds : Option Refusal → List ℕ → Type 0
+Holds none over = getD over 0 0 ≡ 0
+Holds (some r) over = (getD over 0 0 ≡ refusalNumber r) × (pos (getD over 1 0) ≡ refusalValue r)
 
 -- the answer to a main body: where it reads whole, its size, every label's final record, and the first of 8 and 9
 pub data MainScanned (tab over : List ℕ) : Read (ActionsOf Text ℕ) → Scan → Type 0 where
   whole : {x : ActionsOf Text ℕ} {p : Place} {w : BytePosition} → w .0 ≡ bodySize (mapBody spelling x) → TableHolds 1024 tab (events (mapBody spelling x))
-      → overflow over ≡ tooLong (events (mapBody spelling x)) → MainScanned tab over (got x p) (scan.Ends (p .at) w)
+      → Holds (tooLong (events (mapBody spelling x))) over → MainScanned tab over (got x p) (scan.Ends (p .at) w)
   stopped : {f : answers.Fault} {p : Place} → MainScanned tab over (bad f p) (scan.Stops (faultOf f) (p .at))
