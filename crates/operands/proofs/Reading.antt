@@ -73,24 +73,29 @@ module _ (b : List ℕ) (at : ℕ) where
       let l : getD b at 0 < 2 = omega arith in
       rw (u8-in h, lt-ltb (getD b at 0) 2 l)
 
-  -- ---- a branch's label number
+  -- ---- a label number, not under `least`: a branch's, with 0, or an entry's
 
-  pub label-out : length b < at + 2 → readLabel edition1 b 0 (placed at) ≡ bad CutShort (placed at)
+  pub label-out : (least : ℕ) → length b < at + 2 → readLabel edition1 b least (placed at) ≡ bad CutShort (placed at)
   unfolding readLabel tested
-  label-out h = rw (u16-out h)
+  label-out least h = rw (u16-out h)
 
-  pub label-big : at + 2 ≤ length b → 1023 < u16At b at → readLabel edition1 b 0 (placed at) ≡ bad BadField (placed at)
+  pub label-big : (least : ℕ) → at + 2 ≤ length b → 1023 < u16At b at → readLabel edition1 b least (placed at) ≡ bad BadField (placed at)
   unfolding readLabel tested ifWithin edition1
-  label-big h k =
+  label-big least h k =
       let l : 1024 ≤ u16At b at = omega arith in
       rw (u16-in h, le-ltb (u16At b at) 1024 l)
 
-  pub label-in : at + 2 ≤ length b → u16At b at ≤ 1023 → readLabel edition1 b 0 (placed at) ≡ got (u16At b at) (placed (at + 2))
+  pub label-low : (least : ℕ) → at + 2 ≤ length b → u16At b at ≤ 1023 → u16At b at < least → readLabel edition1 b least (placed at) ≡ bad BadField (placed at)
   unfolding readLabel tested ifWithin edition1
-  label-in h k =
+  label-low least h k m =
       let l : u16At b at < 1024 = omega arith in
-      let z : 0 ≤ u16At b at = omega arith in
-      rw (u16-in h, lt-ltb (u16At b at) 1024 l, le-leb 0 (u16At b at) z)
+      rw (u16-in h, lt-ltb (u16At b at) 1024 l, lt-leb least (u16At b at) m)
+
+  pub label-in : (least : ℕ) → at + 2 ≤ length b → u16At b at ≤ 1023 → least ≤ u16At b at → readLabel edition1 b least (placed at) ≡ got (u16At b at) (placed (at + 2))
+  unfolding readLabel tested ifWithin edition1
+  label-in least h k m =
+      let l : u16At b at < 1024 = omega arith in
+      rw (u16-in h, lt-ltb (u16At b at) 1024 l, le-leb least (u16At b at) m)
 
 -- ---- a string
 

@@ -7,12 +7,12 @@ use mathlib.Core.Bool.{Bool, true, false}
 use mathlib.Core.List.{List, [], _∷_}
 use lib.ListN.{length}
 use lib.Dec.{leb}
-use borrow.Author.Tests.{le-leb, lt-leb, lt-ltb, le-ltb, leb-true, leb-false}
+use borrow.Author.Tests.{leb-true, leb-false}
 use Rattle.layout.specs.Numbers.{u16At}
 use Rattle.layout.specs.Answers.{CutShort, BadField}
 use Rattle.layout.specs.Answers as answers
 use Rattle.layout.specs.Tree.{Entry, entry}
-use Rattle.layout.specs.Read.{edition1, Place, Read, got, bad, chain, ifWithin, tested, readU16, readBytes, readLabel, readEntries}
+use Rattle.layout.specs.Read.{edition1, Place, Read, got, bad, chain, readU16, readBytes, readLabel, readEntries}
 use Rattle.labels.specs.Table.{entriesAt, Rising}
 use Rattle.labels.proofs.Labels.{EntriesRead, entries-read}
 use Rattle.labels.specs.declared.BytePosition.{BytePosition}
@@ -21,34 +21,8 @@ use Rattle.operands.specs.declared.Scan.the-variants as scan
 use Rattle.operands.specs.declared.Fault.{Fault}
 use Rattle.operands.specs.Scanned.{placed, faultOf, scanned}
 use Rattle.operands.proofs.Scans.{ends, stops, scanned-as, ends-is, stops-then, number-as}
-use Rattle.operands.proofs.Reading.{u16-in, u16-out}
+use Rattle.operands.proofs.Reading.{u16-in, u16-out, label-out, label-big, label-low, label-in}
 use Rattle.scan.specs.Bodies.{Front, readFront}
-
--- ---- a label number, not under `least`
-
-module _ (b : List ℕ) (least p : ℕ) where
-  label-out : length b < p + 2 → readLabel edition1 b least (placed p) ≡ bad CutShort (placed p)
-  unfolding readLabel tested
-  label-out h = rw (u16-out b p h)
-
-  module _ (h : p + 2 ≤ length b) where
-    label-big : 1023 < u16At b p → readLabel edition1 b least (placed p) ≡ bad BadField (placed p)
-    unfolding readLabel tested ifWithin edition1
-    label-big k =
-        let l : 1024 ≤ u16At b p = omega arith in
-        rw (u16-in b p h, le-ltb (u16At b p) 1024 l)
-
-    label-low : u16At b p ≤ 1023 → u16At b p < least → readLabel edition1 b least (placed p) ≡ bad BadField (placed p)
-    unfolding readLabel tested ifWithin edition1
-    label-low k m =
-        let l : u16At b p < 1024 = omega arith in
-        rw (u16-in b p h, lt-ltb (u16At b p) 1024 l, lt-leb least (u16At b p) m)
-
-    label-in : u16At b p ≤ 1023 → least ≤ u16At b p → readLabel edition1 b least (placed p) ≡ got (u16At b p) (placed (p + 2))
-    unfolding readLabel tested ifWithin edition1
-    label-in k m =
-        let l : u16At b p < 1024 = omega arith in
-        rw (u16-in b p h, lt-ltb (u16At b p) 1024 l, le-leb least (u16At b p) m)
 
 -- ---- the entries
 
@@ -74,25 +48,25 @@ module _ (b : List ℕ) (n least p pos : ℕ) where
 
   module _ (h : 0 < n) where
     pub entries-cut : length b < p + 2 → scan.Stops (faultOf CutShort) p ≡ scanned (λ _. 0) pos (readEntries edition1 b n least (placed p))
-    entries-cut l = stops (λ _. 0) pos (rw (entries-step h, label-out b least p l))
+    entries-cut l = stops (λ _. 0) pos (rw (entries-step h, label-out b p least l))
 
     module _ (i : p + 2 ≤ length b) (m : ℕ) (e : m ≡ u16At b p) where
       pub entries-big : 1023 < m → scan.Stops (faultOf BadField) p ≡ scanned (λ _. 0) pos (readEntries edition1 b n least (placed p))
-      entries-big l = stops (λ _. 0) pos (rw (entries-step h, label-big b least p i (omega arith)))
+      entries-big l = stops (λ _. 0) pos (rw (entries-step h, label-big b p least i (omega arith)))
 
       module _ (l : m ≤ 1023) where
         pub entries-low : m < least → scan.Stops (faultOf BadField) p ≡ scanned (λ _. 0) pos (readEntries edition1 b n least (placed p))
-        entries-low k = stops (λ _. 0) pos (rw (entries-step h, label-low b least p i (omega arith) (omega arith)))
+        entries-low k = stops (λ _. 0) pos (rw (entries-step h, label-low b p least i (omega arith) (omega arith)))
 
         pub entries-half : least ≤ m → length b < p + 4 → scan.Stops (faultOf CutShort) (p + 2) ≡ scanned (λ _. 0) pos (readEntries edition1 b n least (placed p))
-        entries-half k o = stops (λ _. 0) pos (rw (entries-step h, label-in b least p i (omega arith) (omega arith), u16-out b (p + 2) (omega arith)))
+        entries-half k o = stops (λ _. 0) pos (rw (entries-step h, label-in b p least i (omega arith) (omega arith), u16-out b (p + 2) (omega arith)))
 
         pub entries-more : least ≤ m → p + 4 ≤ length b
             → scanned (λ _. 0) pos (readEntries edition1 b (n - 1) (m + 1) (placed (p + 4))) ≡ scanned (λ _. 0) pos (readEntries edition1 b n least (placed p))
         entries-more k o =
             let s : m + 1 ≡ suc (u16At b p) = ap (λ x. x + 1) e ∙ add-one (u16At b p) in
             let f : p + 4 ≡ p + 2 + 2 = omega arith in
-            rw (s, f, entries-step h, label-in b least p i (omega arith) (omega arith), u16-in b (p + 2) (omega arith))
+            rw (s, f, entries-step h, label-in b p least i (omega arith) (omega arith), u16-in b (p + 2) (omega arith))
             (scanned-as (λ _. 0) pos (λ es. entry (u16At b p) (record { index = u16At b (p + 2) }) ∷ es) (λ _. 0) pos (readEntries edition1 b (n - 1) (suc (u16At b p)) (placed (p + 2 + 2))) (λ es. refl))
 
 -- ---- the front
