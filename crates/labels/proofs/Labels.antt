@@ -91,7 +91,7 @@ pub record EntriesRead (bound : ℕ) (b : List ℕ) (n least : ℕ) (p : Place) 
 
 module _ (k : Terms) (b : List ℕ) where
   -- the u16 at p, and the place after it
-  abbrev Word : Place → ℕ → Place → Type 0
+  abbrev pub Word : Place → ℕ → Place → Type 0
   Word p n q = (n ≡ u16At b (p .at)) × (q .at ≡ p .at + 2)
 
   -- what readU16 gives
@@ -104,11 +104,11 @@ module _ (k : Terms) (b : List ℕ) where
       go false e = refused h
 
   -- the label at p, in its range and order, and the place after it
-  abbrev Label : ℕ → Place → ℕ → Place → Type 0
+  abbrev pub Label : ℕ → Place → ℕ → Place → Type 0
   Label least p l q = Word p l q × (least ≤ l) × (l < k .labelBound)
 
   -- what readLabel gives
-  label-is : (least : ℕ) (p : Place) → p .at ≤ length b → Good (length b) (Label least p) (readLabel k b least p)
+  pub label-is : (least : ℕ) (p : Place) → p .at ≤ length b → Good (length b) (Label least p) (readLabel k b least p)
   unfolding readLabel tested ifWithin
   label-is least p h = good-then (u16-is p h) (λ l q g m. go l q g m (ltb l (k .labelBound)) (leb least l) refl refl)
     where

@@ -28,13 +28,13 @@ use Rattle.operands.proofs.Scans.{number-as}
 use Rattle.payload.specs.declared.Laid.{Laid}
 use Rattle.payload.specs.declared.Laid.the-variants as laid
 use Rattle.payload.specs.Fields.{readWaitForFrame, readGotoFrame2, readGetUrl2, readGetUrl, flatSize, readFunction, readFunction2, ownerSize, readCaught, caughtSize, bodiesAfter}
-use Rattle.payload.specs.Walk.{state, notedIf, noteAll, run, outcome, actionSize, actionTrace, bodyLength, bodiesEvents, Onward, Laying, laidAs, notedFrom, Tried}
-use Rattle.payload.proofs.Runs.{noted-short, outcome-got}
+use Rattle.payload.specs.Walk.{state, notedIf, noteAll, run, outcome, branches, measured, actionSize, actionTrace, bodyLength, inBodies, bodiesEvents, Onward, Laying, laidAs, branchLaid, notedFrom, Tried}
+use Rattle.payload.proofs.Runs.{noted-short, outcome-got, measured-got}
 use Rattle.labels.specs.Table.{recordAll}
 use Rattle.operands.specs.declared.Fault.the-variants as fault
-use Rattle.payload.proofs.Steps.{total-each, strings-total, scanned-list, named-plain}
+use Rattle.payload.proofs.Steps.{total-each, strings-total, scanned-list, named-plain, label-here}
 use Rattle.payload.proofs.Tries.{lay-try}
-use Rattle.payload.proofs.Layings.{Long, lay-long, lay-flat, lay-branch, owner-outcome, lay-owner}
+use Rattle.payload.proofs.Layings.{Long, lay-long, lay-flat, lay-branch, owner-outcome, owner-measured, lay-owner}
 
 -- two chains in a row are one
 regroup : {A B C : Type 0} (x : Read A) (k : A → B) (g : B → C) → chain x (λ a q. got (g (k a)) q) ≡ chain (chain x (λ a q. got (k a) q)) (λ y r. got (g y) r)
@@ -278,14 +278,6 @@ module _ (b : List ℕ) (op at pos : ℕ) (over : List ℕ) (r : Scan) (l : Laid
   arm-push over′ o e m n =
       named 0x96 OpCode.Push over′ (codes .11) o (lay-long (fieldsOf OpCode.Push) Push at (length b) pos over (total valueSize) (pos + 3) (λ vs. omega (arith, values-total vs)) (readCounted b (readValue edition1 b) (placed (at + 1))) (λ inner. refl) (λ a q g. refl) over′ r l e m n)
 
-  pub arm-jump : op ≡ 0x99 → r ≡ scanned (λ _. 0) (pos + 3 + 2) (readLabel edition1 b 0 (placed (at + 1))) → l ≡ laidAs 0 r → Here over
-  unfolding readFields
-  arm-jump o e m = named 0x99 OpCode.Jump over (codes .12) o (lay-branch (fieldsOf OpCode.Jump) Jump (readLabel edition1 b 0 (placed (at + 1))) (λ inner. refl) at (length b) pos (pos + 3 + 2) over r l (omega arith) e m)
-
-  pub arm-if : op ≡ 0x9D → r ≡ scanned (λ _. 0) (pos + 3 + 2) (readLabel edition1 b 0 (placed (at + 1))) → l ≡ laidAs 0 r → Here over
-  unfolding readFields
-  arm-if o e m = named 0x9D OpCode.If over (codes .15) o (lay-branch (fieldsOf OpCode.If) If (readLabel edition1 b 0 (placed (at + 1))) (λ inner. refl) at (length b) pos (pos + 3 + 2) over r l (omega arith) e m)
-
   module _ (small : Bytes b) (inside : at + 1 ≤ length b) where
     pub arm-define-function : (over′ : List ℕ) → op ≡ 0x9B → r ≡ scanned ownerSize (pos + 3) (readFunction b (placed (at + 1))) → l ≡ laidAs 1 r → over′ ≡ notedFrom (pos + 3) r over → Here over′
     arm-define-function over′ o e m n =
@@ -294,6 +286,22 @@ module _ (b : List ℕ) (op at pos : ℕ) (over : List ℕ) (r : Scan) (l : Laid
     pub arm-define-function2 : (over′ : List ℕ) → op ≡ 0x8E → r ≡ scanned ownerSize (pos + 3) (readFunction2 b (placed (at + 1))) → l ≡ laidAs 1 r → over′ ≡ notedFrom (pos + 3) r over → Here over′
     arm-define-function2 over′ o e m n =
         named 0x8E OpCode.DefineFunction2 over′ (codes .8) o (lay-owner (fieldsOf OpCode.DefineFunction2) (readFunction2 b (placed (at + 1))) (function2-fields b (placed (at + 1))) at (length b) pos (λ x q g. owner-onward b (placed (at + 1)) at x q (good-got x q (function2-good b (placed (at + 1)) small inside) g) refl pos) over over′ r l e m n)
+
+-- ---- branches
+
+module _ (b : List ℕ) (op at pos : ℕ) (over : List ℕ) (l : Laid) (inside : at + 1 ≤ length b) where
+  abbrev Led : Type 0
+  Led = Laying (λ inner. readFieldsIf edition1 b inner (opcodeOf op) (placed at) (placed (at + 1))) at (length b) pos over over l
+
+  pub arm-jump : op ≡ 0x99 → l ≡ branchLaid (pos + 3) (readLabel edition1 b 0 (placed (at + 1))) → Led
+  unfolding readFieldsIf readFields
+  arm-jump o m =
+      rw (o, codes .12) (lay-branch (λ inner. readFields edition1 b inner OpCode.Jump (placed (at + 1))) Jump (readLabel edition1 b 0 (placed (at + 1))) (λ inner. refl) (λ n q e. label-here b (at + 1) inside n q e .1) at (length b) pos (pos + 3) over l refl m)
+
+  pub arm-if : op ≡ 0x9D → l ≡ branchLaid (pos + 3) (readLabel edition1 b 0 (placed (at + 1))) → Led
+  unfolding readFieldsIf readFields
+  arm-if o m =
+      rw (o, codes .15) (lay-branch (λ inner. readFields edition1 b inner OpCode.If (placed (at + 1))) If (readLabel edition1 b 0 (placed (at + 1))) (λ inner. refl) (λ n q e. label-here b (at + 1) inside n q e .1) at (length b) pos (pos + 3) over l refl m)
 
 -- ---- opcodes whose bodies follow at once, or that have no field
 
@@ -307,7 +315,7 @@ module _ (b : List ℕ) (op at pos : ℕ) (over : List ℕ) where
   pub arm-with : op ≡ 0x94 → at + 1 ≤ length b
       → Laying (λ inner. readFieldsIf edition1 b inner (opcodeOf op) (placed at) (placed (at + 1))) at (length b) pos over over (laid.Bodies (at + 1) (record { 0 = pos + 3 + 2 }) 1)
   unfolding readFieldsIf
-  arm-with o h = rw (o, codes .10) (Laying.bodies {q = at + 1} {n = 1} {w = record { 0 = pos + 3 + 2 }} (record { beyond = omega arith; within = h; written = omega arith }) (λ inner tab. with-outcome inner tab))
+  arm-with o h = rw (o, codes .10) (Laying.bodies {q = at + 1} {n = 1} {w = record { 0 = pos + 3 + 2 }} (record { beyond = omega arith; within = h; written = omega arith }) (λ inner tab. with-outcome inner tab) (λ inner. with-measured inner))
     where
       with-size : ownerSize With ≡ 2
       with-size = unfold ownerSize mapOwner ownerLength in refl
@@ -318,12 +326,17 @@ module _ (b : List ℕ) (op at pos : ℕ) (over : List ℕ) where
           owner-outcome (λ inner. readFields edition1 b inner OpCode.With (placed (at + 1))) With inner pos (pos + 3 + 2) (at + 1) tab over (ap (λ (n : ℕ). pos + 3 + n) (sym with-size)) (unfold readFields in refl)
           ∙ ap (λ (v : List ℕ). outcome (total bodyLength) bodiesEvents (pos + 3 + 2) (state tab v) (repeat inner 1 (placed (at + 1)))) (ap (λ (n : ℕ). notedIf 8 n over) with-size ∙ sym (noted-short 8 2 over (omega arith)))
 
+      with-measured : (inner : Reader (ActionsOf Text ℕ)) → measured actionSize actionTrace pos (readFields edition1 b inner OpCode.With (placed (at + 1))) ≡ measured (total bodyLength) inBodies (pos + 3 + 2) (repeat inner 1 (placed (at + 1)))
+      with-measured inner =
+          owner-measured (λ inner. readFields edition1 b inner OpCode.With (placed (at + 1))) With inner pos (pos + 3 + 2) (at + 1) [] over (ap (λ (n : ℕ). pos + 3 + n) (sym with-size)) (unfold readFields in refl)
+
   pub arm-call : op ≡ 0x9E
       → Laying (λ inner. readFieldsIf edition1 b inner (opcodeOf op) (placed at) (placed (at + 1))) at (length b) pos over over (laid.Flat (at + 1) (record { 0 = pos + 3 }))
   unfolding readFieldsIf readFields
   arm-call o =
       rw (o, codes .16) (Laying.flat {q = at + 1} {w = record { 0 = pos + 3 }} (λ inner tab. outcome-got actionSize actionTrace pos (state tab over) refl
-      (unfold size mapAction mapFlat opcode payload framed headed byte smallByte le16 in refl) (unfold trace mapAction mapFlat payload payloadTest eventIf run recordAll noteAll in refl)))
+      (unfold size mapAction mapFlat opcode payload framed headed byte smallByte le16 in refl) (unfold trace mapAction mapFlat payload payloadTest eventIf run recordAll noteAll in refl))
+      (λ inner. measured-got actionSize actionTrace pos refl (unfold size mapAction mapFlat opcode payload framed headed byte smallByte le16 in refl) (unfold trace mapAction mapFlat payload payloadTest eventIf branches in refl)))
 
   pub arm-unknown : opcodeOf op ≡ none
       → Laying (λ inner. readFieldsIf edition1 b inner (opcodeOf op) (placed at) (placed (at + 1))) at (length b) pos over over (laid.Stops fault.UnknownCode at)

@@ -14,7 +14,7 @@ use Rattle.layout.specs.Tree.{FlatOf, OwnerOf, ActionOf, flat, branch, Branch, 
 use Rattle.layout.specs.Read.{Text, Place, Read, got, bad, Reader, chain, repeat}
 use Rattle.layout.specs.Strings.{mapFlat, mapOwner, mapAction, mapBody}
 use Rattle.layout.specs.Payload.{opcode, payload, ownerFields}
-use Rattle.layout.specs.Write.{size, bodySize, Position, moved, payloadTest, bodyTest, trace, traceBody}
+use Rattle.layout.specs.Write.{size, bodySize, Position, Event, moved, payloadTest, bodyTest, trace, traceBody}
 use Rattle.layout.specs.Lengths.{total, ownerLength, length-payload, length-framed, length-ownerFields}
 use Rattle.layout.specs.Pack.{spelling}
 use Rattle.labels.specs.Table.{recordAll}
@@ -26,9 +26,9 @@ use Rattle.operands.specs.declared.Scan.the-variants as scan
 use Rattle.payload.specs.declared.Laid.{Laid}
 use Rattle.payload.specs.declared.Laid.the-variants as laid
 use Rattle.payload.specs.Fields.{flatSize, ownerSize, readCaught, caughtSize}
-use Rattle.payload.specs.Walk.{State, state, notedIf, noteAll, run, done, outcome, actionSize, actionTrace, bodyLength, inBodies, bodyTests, bodiesEvents, Onward, Laying, laidAs, notedFrom, EndsFrom, Tried}
+use Rattle.payload.specs.Walk.{State, state, notedIf, noteAll, run, done, outcome, branches, measure, measured, actionSize, actionTrace, bodyLength, inBodies, bodyTests, bodiesEvents, Onward, Laying, laidAs, branchLaid, notedFrom, EndsFrom, Tried}
 use Rattle.payload.proofs.Steps.{caught-out}
-use Rattle.payload.proofs.Runs.{run-append, run-payload, run-body, noted-short, outcome-got}
+use Rattle.payload.proofs.Runs.{run-append, run-payload, run-body, noted-short, outcome-got, branches-append, branches-payload, branches-after, branches-body, measured-got}
 
 -- ---- an action without a body
 
@@ -39,6 +39,10 @@ flat-size f h = length-framed (opcode (mapFlat spelling f)) (payload (mapFlat sp
 flat-run : (f : FlatOf Text) (pos : ℕ) (tab over : List ℕ) → run (actionTrace (flat f) pos) (state tab over) ≡ state tab (notedIf 8 (flatSize f) over)
 unfolding trace mapAction flatSize
 flat-run f pos tab over = run-payload (length (payload (mapFlat spelling f))) _ tab over ∙ ap (λ (n : ℕ). state tab (notedIf 8 n over)) (length-payload (mapFlat spelling f))
+
+flat-branches : (f : FlatOf Text) (pos : ℕ) → [] ≡ branches (actionTrace (flat f) pos)
+unfolding trace mapAction
+flat-branches f pos = sym (branches-payload (length (payload (mapFlat spelling f))) _)
 
 -- an opcode from 80 on
 abbrev pub Long : FlatOf Text → Type 0
@@ -56,6 +60,7 @@ module _ {A : Type 0} (read : Reader (ActionsOf Text ℕ) → Read (ActionOf Tex
       Laying.flat {q = q .at} {w = record { 0 = w + s a }}
       (λ inner tab. outcome-got actionSize actionTrace pos (state tab over) (h inner) (omega (arith, is-size a, flat-size (g a) l))
       (ap (λ (n : ℕ). state tab (notedIf 8 n over)) (omega (arith, is-size a)) ∙ sym (flat-run (g a) pos tab over)))
+      (λ inner. measured-got actionSize actionTrace pos (h inner) (omega (arith, is-size a, flat-size (g a) l)) (flat-branches (g a) pos))
 
   flat-got : (a : A) (q : Place) → Reads (got a q) → Long (g a) → flatSize (g a) ≤ 65535 → Laying read at end pos over over (laidAs 0 (scanned s w (got a q)))
   unfolding scanned laidAs pick
@@ -63,6 +68,7 @@ module _ {A : Type 0} (read : Reader (ActionsOf Text ℕ) → Read (ActionOf Tex
       Laying.flat {q = q .at} {w = record { 0 = w + s a }}
       (λ inner tab. outcome-got actionSize actionTrace pos (state tab over) (h inner) (omega (arith, is-size a, flat-size (g a) l))
       (ap (state tab) (noted-short 8 (flatSize (g a)) over short) ∙ sym (flat-run (g a) pos tab over)))
+      (λ inner. measured-got actionSize actionTrace pos (h inner) (omega (arith, is-size a, flat-size (g a) l)) (flat-branches (g a) pos))
 
   flat-bad : (f : answers.Fault) (q : Place) (over′ : List ℕ) → Reads (bad f q) → Laying read at end pos over over′ (laidAs 0 (scanned s w (bad f q)))
   unfolding scanned laidAs outcome
@@ -88,16 +94,15 @@ module _ {A : Type 0} (read : Reader (ActionsOf Text ℕ) → Read (ActionOf Tex
 
 -- ---- a branch
 
-module _ (read : Reader (ActionsOf Text ℕ) → Read (ActionOf Text ℕ)) (k : Branch) (x : Read ℕ) (is-read : (inner : Reader (ActionsOf Text ℕ)) → read inner ≡ chain x (λ l q. got (branch k l) q)) where
-  pub lay-branch : (at end pos w : ℕ) (over : List ℕ) (r : Scan) (l : Laid) → w ≡ pos + 5 → r ≡ scanned (λ _. 0) w x → l ≡ laidAs 0 r → Laying read at end pos over over l
-  lay-branch at end pos w over r l f e m = rw (m, e, f) (go x is-read)
+module _ (read : Reader (ActionsOf Text ℕ) → Read (ActionOf Text ℕ)) (k : Branch) (x : Read ℕ) (is-read : (inner : Reader (ActionsOf Text ℕ)) → read inner ≡ chain x (λ l q. got (branch k l) q))
+    (under : (l : ℕ) (q : Place) → x ≡ got l q → l < 1024) where
+  pub lay-branch : (at end pos w : ℕ) (over : List ℕ) (l : Laid) → w ≡ pos + 3 → l ≡ branchLaid w x → Laying read at end pos over over l
+  lay-branch at end pos w over l f m = rw (m, f) (go x is-read under)
     where
-      go : (x : Read ℕ) → ((inner : Reader (ActionsOf Text ℕ)) → read inner ≡ chain x (λ l q. got (branch k l) q)) → Laying read at end pos over over (laidAs 0 (scanned (λ _. 0) (pos + 5) x))
-      go (got n q) h =
-          unfold scanned laidAs pick in
-          Laying.flat {q = q .at} {w = record { 0 = pos + 5 + 0 }}
-          (λ inner tab. outcome-got actionSize actionTrace pos (state tab over) (h inner) (unfold size mapAction in omega arith) (unfold trace mapAction run recordAll noteAll in refl))
-      go (bad f q) h = unfold scanned laidAs in Laying.stops {f = faultOf f} {q = q .at} (λ inner t. unfold outcome in rw (h inner))
+      go : (x : Read ℕ) → ((inner : Reader (ActionsOf Text ℕ)) → read inner ≡ chain x (λ l q. got (branch k l) q)) → ((l : ℕ) (q : Place) → x ≡ got l q → l < 1024)
+          → Laying read at end pos over over (branchLaid (pos + 3) x)
+      go (got n q) h u = unfold branchLaid in Laying.to-label {q = q .at} {label = n} {w = record { 0 = pos + 3 + 2 }} {k = k} (omega arith) (u n q refl) refl h
+      go (bad f q) h u = unfold branchLaid in Laying.stops {f = faultOf f} {q = q .at} (λ inner t. unfold outcome in rw (h inner))
 
 -- ---- an action that owns a body
 
@@ -138,6 +143,27 @@ module _ (read : Reader (ActionsOf Text ℕ) → Read (ActionOf Text ℕ)) (o : 
           ap₂ (λ (n : ℕ) (s : State). done (r .at) n s) (unfold size mapAction total in omega (arith, body-at)) (owner-run y)
       go (bad f r) = unfold outcome in refl
 
+  -- and its branches are those of its body
+  owner-branches : (y : ActionsOf Text ℕ) → branches (actionTrace (owner o y) pos) ≡ branches (inBodies (y ∷ []) w)
+  unfolding trace mapAction inBodies moved
+  owner-branches y =
+      let u : Position = record { at = pos + (5 + length (ownerFields (mapOwner spelling o))) } in
+      let b = mapBody spelling y in
+      branches-after _ _ (traceBody b u ++ bodyTest (bodySize b) (record { at = pos }))
+      ∙ branches-append (traceBody b u) (bodyTest (bodySize b) (record { at = pos }))
+      ∙ ap (λ (es : List Event). branches (traceBody b u) ++ es) (branches-body (bodySize b) (record { at = pos }))
+      ∙ append-nil (branches (traceBody b u))
+      ∙ ap (λ (v : ℕ). branches (traceBody b (record { at = v }))) body-at
+      ∙ ap branches (sym (append-nil (traceBody b (record { at = w }))))
+
+  pub owner-measured : read inner ≡ chain (inner (placed q)) (λ y r. got (owner o y) r) → measured actionSize actionTrace pos (read inner) ≡ measured (total bodyLength) inBodies w (repeat inner 1 (placed q))
+  unfolding repeat
+  owner-measured e = rw e (go (inner (placed q)))
+    where
+      go : (y : Read (ActionsOf Text ℕ)) → measured actionSize actionTrace pos (chain y (λ y r. got (owner o y) r)) ≡ measured (total bodyLength) inBodies w (chain y (λ a u. chain (got [] u) (λ xs v. got (a ∷ xs) v)))
+      go (got y r) = unfold measured in ap₂ (λ (n : ℕ) (es : List Event). got (measure n es) r) (unfold size mapAction total in omega (arith, body-at)) (owner-branches y)
+      go (bad f r) = unfold measured in refl
+
 module _ (read : Reader (ActionsOf Text ℕ) → Read (ActionOf Text ℕ)) (x : Read (OwnerOf Text))
     (is-read : (inner : Reader (ActionsOf Text ℕ)) → read inner ≡ chain x (λ o q. chain (inner q) (λ y r. got (owner o y) r)))
     (at end pos : ℕ) (onward : (o : OwnerOf Text) (q : Place) → x ≡ got o q → Onward at end pos (q .at) (pos + 3 + ownerSize o)) where
@@ -152,6 +178,7 @@ module _ (read : Reader (ActionsOf Text ℕ) → Read (ActionOf Text ℕ)) (x : 
           Laying.bodies {q = q .at} {n = 1} {w = record { 0 = pos + 3 + ownerSize o }} (i o q refl)
           (λ inner tab. owner-outcome read o inner pos (pos + 3 + ownerSize o) (q .at) tab over refl (h inner)
           ∙ ap (λ (n : ℕ). outcome (total bodyLength) bodiesEvents (pos + 3 + ownerSize o) (state tab (notedIf 8 n over)) (repeat inner 1 (placed (q .at)))) (omega arith))
+          (λ inner. owner-measured read o inner pos (pos + 3 + ownerSize o) (q .at) [] over refl (h inner))
       go (bad f q) h i = unfold scanned laidAs notedFrom in Laying.stops {f = faultOf f} {q = q .at} (λ inner t. unfold outcome in rw (h inner))
 
 -- ---- as the code makes them

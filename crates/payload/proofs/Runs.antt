@@ -1,5 +1,5 @@
 -- Laws of the state that a walk keeps, and of its outcomes. Assumes nothing.
-use mathlib.Core.Path.{_≡_, refl, ap₂}
+use mathlib.Core.Path.{_≡_, refl, ap, ap₂, _∙_}
 use Prim.Native.Nat.{ℕ, _+_, _≤_, _<_}
 use mathlib.Core.Bool.{Bool, true, false}
 use mathlib.Core.List.{List, [], _∷_, _++_}
@@ -12,7 +12,7 @@ use Rattle.layout.specs.Write.{Position, Event, labelAt, branchAt, payloadTooLo
 use Rattle.labels.specs.Table.{recordAll}
 use Rattle.labels.proofs.Labels.{recordAll-append}
 use Rattle.operands.specs.Scanned.{placed}
-use Rattle.payload.specs.Walk.{State, state, noted, notedIf, noteAll, run, done, outcome}
+use Rattle.payload.specs.Walk.{State, state, noted, notedIf, noteAll, run, done, outcome, branches, measure, measured}
 
 noteAll-append : (xs ys : List Event) (over : List ℕ) → noteAll (xs ++ ys) over ≡ noteAll ys (noteAll xs over)
 unfolding noteAll
@@ -62,7 +62,46 @@ pub noted-now : (number n : ℕ) (over : List ℕ) → 65535 < n → getD over 0
 unfolding notedIf noted pick
 noted-now number n over h k = rw (lt-ltb 65535 n h, eq-eqb (getD over 0 0) 0 k)
 
--- ---- an outcome, from the reading
+-- ---- the branches among events
+
+pub branches-append : (xs ys : List Event) → branches (xs ++ ys) ≡ branches xs ++ branches ys
+unfolding branches
+branches-append [] ys = refl
+branches-append (labelAt l s ∷ xs) ys = branches-append xs ys
+branches-append (branchAt l s ∷ xs) ys = ap (λ (es : List Event). branchAt l s ∷ es) (branches-append xs ys)
+branches-append (payloadTooLong n s ∷ xs) ys = branches-append xs ys
+branches-append (bodyTooLong n s ∷ xs) ys = branches-append xs ys
+
+pub branches-none : branches [] ≡ []
+unfolding branches
+branches-none = refl
+
+-- neither test is one
+pub branches-payload : (n : ℕ) (p : Position) → branches (payloadTest n p) ≡ []
+unfolding payloadTest
+branches-payload n p = go (ltb 65535 n)
+  where
+    go : (t : Bool) → branches (eventIf t (payloadTooLong n p)) ≡ []
+    go true = unfold eventIf branches in refl
+    go false = unfold eventIf branches in refl
+
+pub branches-after : (n : ℕ) (p : Position) (es : List Event) → branches (payloadTest n p ++ es) ≡ branches es
+branches-after n p es = branches-append (payloadTest n p) es ∙ ap (λ (xs : List Event). xs ++ branches es) (branches-payload n p)
+
+pub branches-body : (n : ℕ) (p : Position) → branches (bodyTest n p) ≡ []
+unfolding bodyTest
+branches-body n p = go (ltb 65535 n)
+  where
+    go : (t : Bool) → branches (eventIf t (bodyTooLong n p)) ≡ []
+    go true = unfold eventIf branches in refl
+    go false = unfold eventIf branches in refl
+
+-- ---- a measure and an outcome, from the reading
+
+module _ {A : Type 0} (size : A → ℕ) (trace : A → ℕ → List Event) (pos : ℕ) where
+  pub measured-got : {a : A} {q w : ℕ} {es : List Event} {x : Read A} → x ≡ got a (placed q) → w ≡ pos + size a → es ≡ branches (trace a pos) → measured size trace pos x ≡ got (measure w es) (placed q)
+  unfolding measured
+  measured-got e f g = rw (e, f, g)
 
 module _ {A : Type 0} (size : A → ℕ) (trace : A → ℕ → List Event) (pos : ℕ) (s : State) where
   pub outcome-got : {a : A} {q w : ℕ} {u : State} {x : Read A} → x ≡ got a (placed q) → w ≡ pos + size a → u ≡ run (trace a pos) s → outcome size trace pos s x ≡ done q w u

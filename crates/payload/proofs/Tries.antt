@@ -3,7 +3,7 @@ use mathlib.Core.Path.{_≡_, refl, sym, ap, ap₂, _∙_}
 use Prim.Native.Nat.{ℕ, _+_, _-_, _/_, _%_, _≤_, _<_}
 use native.Mathlib.Omega.{arith}
 use mathlib.Core.Bool.{Bool, true, false, false≢true}
-use mathlib.Core.List.{List, [], _∷_, _++_}
+use mathlib.Core.List.{List, [], _∷_, _++_, append-nil}
 use lib.ListN.{length, getD}
 use lib.Dec.{leb, eqb}
 use borrow.Author.Tests.{eqb-true, eqb-false, leb-true, ne-eqb}
@@ -15,7 +15,7 @@ use Rattle.layout.specs.Tree.{CatchTargetOf, Variable, Register, ActionOf, Try,
 use Rattle.layout.specs.Read.{Text, plain, edition1, Place, ahead, Read, got, bad, Reader, chain, ifWhole, repeat, tested, isShape, readU8, hasCatch, hasFinally, hasRegister, readCatchTarget, readCatch, readFinally, readTry, readFields}
 use Rattle.layout.specs.Strings.{mapTarget, mapAction, mapBody, mapCatch, mapFinally}
 use Rattle.layout.specs.Payload.{catchName}
-use Rattle.layout.specs.Write.{size, catchSize, finallySize, Position, moved, payloadTest, bodyTest, trace, traceBody, traceCatch, traceFinally}
+use Rattle.layout.specs.Write.{size, catchSize, finallySize, Position, Event, moved, payloadTest, bodyTest, trace, traceBody, traceCatch, traceFinally}
 use Rattle.layout.specs.Lengths.{total, nameLength, stringLength, length-catchName}
 use Rattle.layout.specs.Pack.{spelling}
 use Rattle.laws.specs.Fits.{Bytes}
@@ -28,8 +28,8 @@ use Rattle.operands.specs.declared.Scan.the-variants as scan
 use Rattle.payload.specs.declared.Laid.{Laid}
 use Rattle.payload.specs.declared.Laid.the-variants as laid
 use Rattle.payload.specs.Fields.{readCaught, targetSize, caughtSize, bodiesAfter}
-use Rattle.payload.specs.Walk.{State, state, notedIf, run, Outcome, done, outcome, actionSize, actionTrace, bodyLength, inBodies, bodyTests, bodiesEvents, Onward, Laying, laidAs, notedFrom, Tried}
-use Rattle.payload.proofs.Runs.{run-append, run-none, run-payload, run-body}
+use Rattle.payload.specs.Walk.{State, state, notedIf, run, done, outcome, Measure, branches, measure, measured, actionSize, actionTrace, bodyLength, inBodies, bodyTests, bodiesEvents, Onward, Laying, laidAs, notedFrom, Tried}
+use Rattle.payload.proofs.Runs.{run-append, run-none, run-payload, run-body, branches-append, branches-none, branches-after, branches-body}
 
 -- ---- a body's test, as a change of the state
 
@@ -75,6 +75,23 @@ module _ (t : ActionsOf Text ℕ) (w : ℕ) (p : Position) (s : State) where
       let e : w + (bodyLength t + bodyLength x) ≡ w + bodyLength t + bodyLength x = omega arith in
       rw e (simp (run-append, run-none, run-closed, closed-none))
 
+-- their branches
+module _ (t : ActionsOf Text ℕ) (w : ℕ) (p : Position) where
+  bodies-branches : (c : CatchOf Text ℕ) (f : FinallyOf Text ℕ) →
+      branches (traceBody (mapBody spelling t) (record { at = w }) ++ (traceCatch (mapCatch spelling c) (moved (bodyLength t) (record { at = w }))
+      ++ (traceFinally (mapFinally spelling f) (moved (bodyLength t + catchSize (mapCatch spelling c)) (record { at = w }))
+      ++ (bodyTest (bodyLength t) p ++ (bodyTest (catchSize (mapCatch spelling c)) p ++ bodyTest (finallySize (mapFinally spelling f)) p)))))
+      ≡ branches (inBodies (tryBodies t c f) w)
+  unfolding traceCatch catchSize mapCatch moved inBodies
+  bodies-branches noCatch noFinally = simp (branches-append, branches-none, branches-body, append-nil)
+  bodies-branches (catch u x) noFinally = simp (branches-append, branches-none, branches-body, append-nil)
+  bodies-branches noCatch (finally y) =
+      let e : w + (bodyLength t + 0) ≡ w + bodyLength t = omega arith in
+      rw e (simp (branches-append, branches-none, branches-body, append-nil))
+  bodies-branches (catch u x) (finally y) =
+      let e : w + (bodyLength t + bodyLength x) ≡ w + bodyLength t + bodyLength x = omega arith in
+      rw e (simp (branches-append, branches-none, branches-body, append-nil))
+
 -- ---- a Try that was read
 
 name-size : (u : CatchTargetOf Text) (x : ActionsOf Text ℕ) → nameLength (mapCatch spelling (catch u x)) ≡ targetSize u
@@ -100,6 +117,9 @@ module _ (t : ActionsOf Text ℕ) (c : CatchOf Text ℕ) (f : FinallyOf Text ℕ
   unfolding size mapAction
   try-size = omega (arith, is-name, length-catchName (mapCatch spelling c), bodies-total)
 
+  moved-is : moved (10 + length (catchName (mapCatch spelling c))) (record { at = pos }) ≡ record { at = w }
+  moved-is = unfold moved in ap (λ (v : ℕ). record { at = v }) body-at
+
   try-run : (tab over : List ℕ) → run (actionTrace (Try t c f) pos) (state tab over) ≡ run (bodiesEvents (tryBodies t c f) w) (state tab (notedIf 8 (7 + m) over))
   unfolding trace mapAction
   try-run tab over =
@@ -112,14 +132,26 @@ module _ (t : ActionsOf Text ℕ) (c : CatchOf Text ℕ) (f : FinallyOf Text ℕ
       ++ (traceFinally (mapFinally spelling f) (moved (bodyLength t + catchSize (mapCatch spelling c)) v)
       ++ (bodyTest (bodyLength t) p ++ (bodyTest (catchSize (mapCatch spelling c)) p ++ bodyTest (finallySize (mapFinally spelling f)) p))))) (state tab (notedIf 8 (7 + m) over))) moved-is
       ∙ bodies-run t w p (state tab (notedIf 8 (7 + m) over)) c f
-    where
-      moved-is : moved (10 + length (catchName (mapCatch spelling c))) (record { at = pos }) ≡ record { at = w }
-      moved-is = unfold moved in ap (λ (v : ℕ). record { at = v }) body-at
+
+  try-branches : branches (actionTrace (Try t c f) pos) ≡ branches (inBodies (tryBodies t c f) w)
+  unfolding trace mapAction
+  try-branches =
+      let n : ℕ = length (catchName (mapCatch spelling c)) in
+      let p : Position = record { at = pos } in
+      branches-after (7 + n) p _
+      ∙ ap (λ (v : Position). branches (traceBody (mapBody spelling t) v ++ (traceCatch (mapCatch spelling c) (moved (bodyLength t) v)
+      ++ (traceFinally (mapFinally spelling f) (moved (bodyLength t + catchSize (mapCatch spelling c)) v)
+      ++ (bodyTest (bodyLength t) p ++ (bodyTest (catchSize (mapCatch spelling c)) p ++ bodyTest (finallySize (mapFinally spelling f)) p)))))) moved-is
+      ∙ bodies-branches t w p c f
 
   try-done : (tab over : List ℕ) (r : Place) → outcome actionSize actionTrace pos (state tab over) (got (Try t c f) r)
       ≡ outcome (total bodyLength) bodiesEvents w (state tab (notedIf 8 (7 + m) over)) (got (tryBodies t c f) r)
   unfolding outcome
   try-done tab over r = ap₂ (λ (n : ℕ) (s : State). done (r .at) n s) (omega (arith, try-size, is-size)) (try-run tab over)
+
+  try-measured : (r : Place) → measured actionSize actionTrace pos (got (Try t c f) r) ≡ measured (total bodyLength) inBodies w (got (tryBodies t c f) r)
+  unfolding measured
+  try-measured r = ap₂ (λ (n : ℕ) (es : List Event). got (measure n es) r) (omega (arith, try-size, is-size)) try-branches
 
 -- ---- its bodies, read one after the other
 
@@ -151,35 +183,28 @@ count-is n =
     let f = bit-of (n / 2 % 2) (omega arith) (eqb (n / 2 % 2) 1) refl in
     omega (arith, count-bits (eqb (n % 2) 1) (eqb (n / 2 % 2) 1), c, f)
 
-module _ (b : List ℕ) (inner : Reader (ActionsOf Text ℕ)) (target : CatchTargetOf Text) (m pos w : ℕ) (tab over : List ℕ) (is-size : w ≡ pos + 3 + (7 + m)) where
-  abbrev whole : Read (ActionOf Text ℕ) → Outcome
-  whole x = outcome actionSize actionTrace pos (state tab over) x
-
-  abbrev parts : Read (List (ActionsOf Text ℕ)) → Outcome
-  parts x = outcome (total bodyLength) bodiesEvents w (state tab (notedIf 8 (7 + m) over)) x
-
+-- whatever is told of a whole Try and of its bodies alike, its name m bytes long
+module _ {O : Type 0} (b : List ℕ) (inner : Reader (ActionsOf Text ℕ)) (target : CatchTargetOf Text) (m : ℕ) (whole : Read (ActionOf Text ℕ) → O) (parts : Read (List (ActionsOf Text ℕ)) → O)
+    (try-alike : (t : ActionsOf Text ℕ) (c : CatchOf Text ℕ) (f : FinallyOf Text ℕ) → nameLength (mapCatch spelling c) ≡ m → (r : Place) → whole (got (Try t c f) r) ≡ parts (got (tryBodies t c f) r))
+    (no-fault : (f : answers.Fault) (p : Place) → whole (bad f p) ≡ parts (bad f p)) where
   abbrev after-try : Bool → Bool → ActionsOf Text ℕ → Reader (ActionOf Text ℕ)
   after-try c f t r = chain (readCatch edition1 b inner c target r) (λ x u. chain (readFinally edition1 b inner f u) (λ y v. got (Try t x y) v))
-
-  no-fault : (f : answers.Fault) (p : Place) → whole (bad f p) ≡ parts (bad f p)
-  unfolding outcome
-  no-fault f p = refl
 
   -- the bodies after the first
   one : nameLength (mapCatch spelling noCatch) ≡ m → (t : ActionsOf Text ℕ) (r : Place) → whole (after-try false false t r) ≡ parts (got (t ∷ []) r)
   unfolding readCatch readFinally
-  one h t r = try-done t noCatch noFinally m pos w h is-size tab over r
+  one h t r = try-alike t noCatch noFinally h r
 
   only-catch : ((x : ActionsOf Text ℕ) → nameLength (mapCatch spelling (catch target x)) ≡ m) → (t : ActionsOf Text ℕ) (y : Read (ActionsOf Text ℕ)) (r : Place) → inner r ≡ y
       → whole (after-try true false t r) ≡ parts (chain y (λ x u. got (t ∷ x ∷ []) u))
   unfolding readCatch readFinally
-  only-catch h t (got x u) r e = rw e (try-done t (catch target x) noFinally m pos w (h x) is-size tab over u)
+  only-catch h t (got x u) r e = rw e (try-alike t (catch target x) noFinally (h x) u)
   only-catch h t (bad f u) r e = rw e (no-fault f u)
 
   only-finally : nameLength (mapCatch spelling noCatch) ≡ m → (t : ActionsOf Text ℕ) (y : Read (ActionsOf Text ℕ)) (r : Place) → inner r ≡ y
       → whole (after-try false true t r) ≡ parts (chain y (λ x u. got (t ∷ x ∷ []) u))
   unfolding readCatch readFinally
-  only-finally h t (got x u) r e = rw e (try-done t noCatch (finally x) m pos w h is-size tab over u)
+  only-finally h t (got x u) r e = rw e (try-alike t noCatch (finally x) h u)
   only-finally h t (bad f u) r e = rw e (no-fault f u)
 
   both : ((x : ActionsOf Text ℕ) → nameLength (mapCatch spelling (catch target x)) ≡ m) → (t : ActionsOf Text ℕ) (y : Read (ActionsOf Text ℕ)) (r : Place) → inner r ≡ y
@@ -188,7 +213,7 @@ module _ (b : List ℕ) (inner : Reader (ActionsOf Text ℕ)) (target : CatchTar
   both h t (got x u) r e = rw e (last (inner u) refl)
     where
       last : (z : Read (ActionsOf Text ℕ)) → inner u ≡ z → whole (chain (readFinally edition1 b inner true u) (λ y v. got (Try t (catch target x) y) v)) ≡ parts (chain z (λ z v. got (t ∷ x ∷ z ∷ []) v))
-      last (got z v) g = unfold readFinally in rw g (try-done t (catch target x) (finally z) m pos w (h x) is-size tab over v)
+      last (got z v) g = unfold readFinally in rw g (try-alike t (catch target x) (finally z) (h x) v)
       last (bad f v) g = unfold readFinally in rw g (no-fault f v)
   both h t (bad f u) r e = rw e (no-fault f u)
 
@@ -287,17 +312,33 @@ after-some : (n : ℕ) → 1 ≤ bodiesAfter n
 unfolding bodiesAfter
 after-some n = omega arith
 
-try-outcome : (b : List ℕ) (p pos : ℕ) (over : List ℕ) (x : ℕ × CatchTargetOf Text) (q : Place) → readCaught b (placed p) ≡ got x q → (inner : Reader (ActionsOf Text ℕ)) (tab : List ℕ)
-    → (hasCatch (x .0) ≡ false → 1 ≡ targetSize (x .1))
-    → outcome actionSize actionTrace pos (state tab over) (readFields edition1 b inner OpCode.Try (placed p))
-    ≡ outcome (total bodyLength) bodiesEvents (pos + 3 + caughtSize x) (state tab (notedIf 8 (7 + targetSize (x .1)) over)) (repeat inner (count (hasCatch (x .0)) (hasFinally (x .0))) q)
-unfolding caughtSize
-try-outcome b p pos over x q e inner tab h =
-    rw (try-fields b inner (placed p), e)
-    (try-bodies b inner (x .1) (targetSize (x .1)) pos (pos + 3 + (7 + targetSize (x .1))) tab over refl (hasCatch (x .0)) (hasFinally (x .0)) q (λ c y. name-size (x .1) y) (λ c. no-name ∙ h c))
-  where
-    no-name : nameLength (mapCatch spelling noCatch) ≡ 1
-    no-name = unfold nameLength mapCatch in refl
+-- a Try whose shape and target were read is told of as its bodies are
+module _ (b : List ℕ) (p pos : ℕ) (x : ℕ × CatchTargetOf Text) (q : Place) (is-read : readCaught b (placed p) ≡ got x q) (inner : Reader (ActionsOf Text ℕ)) (one-byte : hasCatch (x .0) ≡ false → 1 ≡ targetSize (x .1)) where
+  abbrev named : ℕ
+  named = targetSize (x .1)
+
+  alike : {O : Type 0} (whole : Read (ActionOf Text ℕ) → O) (parts : Read (List (ActionsOf Text ℕ)) → O)
+      → ((t : ActionsOf Text ℕ) (c : CatchOf Text ℕ) (f : FinallyOf Text ℕ) → nameLength (mapCatch spelling c) ≡ named → (r : Place) → whole (got (Try t c f) r) ≡ parts (got (tryBodies t c f) r))
+      → ((f : answers.Fault) (r : Place) → whole (bad f r) ≡ parts (bad f r))
+      → whole (readFields edition1 b inner OpCode.Try (placed p)) ≡ parts (repeat inner (count (hasCatch (x .0)) (hasFinally (x .0))) q)
+  alike whole parts h k =
+      rw (try-fields b inner (placed p), is-read) (try-bodies b inner (x .1) named whole parts h k (hasCatch (x .0)) (hasFinally (x .0)) q (λ c y. name-size (x .1) y) (λ c. no-name ∙ one-byte c))
+    where
+      no-name : nameLength (mapCatch spelling noCatch) ≡ 1
+      no-name = unfold nameLength mapCatch in refl
+
+  try-outcome : (over tab : List ℕ)
+      → outcome actionSize actionTrace pos (state tab over) (readFields edition1 b inner OpCode.Try (placed p))
+      ≡ outcome (total bodyLength) bodiesEvents (pos + 3 + (7 + named)) (state tab (notedIf 8 (7 + named) over)) (repeat inner (count (hasCatch (x .0)) (hasFinally (x .0))) q)
+  try-outcome over tab =
+      alike (outcome actionSize actionTrace pos (state tab over)) (outcome (total bodyLength) bodiesEvents (pos + 3 + (7 + named)) (state tab (notedIf 8 (7 + named) over)))
+      (λ t c f h r. try-done t c f named pos (pos + 3 + (7 + named)) h refl tab over r) (λ f r. unfold outcome in refl)
+
+  pub try-measure : measured actionSize actionTrace pos (readFields edition1 b inner OpCode.Try (placed p))
+      ≡ measured (total bodyLength) inBodies (pos + 3 + (7 + named)) (repeat inner (count (hasCatch (x .0)) (hasFinally (x .0))) q)
+  try-measure =
+      alike (measured actionSize actionTrace pos) (measured (total bodyLength) inBodies (pos + 3 + (7 + named)))
+      (λ t c f h r. try-measured t c f named pos (pos + 3 + (7 + named)) h refl r) (λ f r. unfold measured in refl)
 
 module _ (b : List ℕ) (small : Bytes b) (at p pos : ℕ) (is-next : p ≡ at + 1) (inside : p ≤ length b) (over over′ : List ℕ) (l : Laid) where
   onward : (x : ℕ × CatchTargetOf Text) (q : Place) → (x .0 ≡ getD b p 0) × (hasCatch (x .0) ≡ false → targetSize (x .1) ≡ 1) × (targetSize (x .1) + p ≤ q .at + 1) × (p ≤ q .at) → q .at ≤ length b
@@ -309,14 +350,16 @@ module _ (b : List ℕ) (small : Bytes b) (at p pos : ℕ) (is-next : p ≡ at +
       → (x .0 ≡ getD b p 0) × (hasCatch (x .0) ≡ false → targetSize (x .1) ≡ 1) × (targetSize (x .1) + p ≤ q .at + 1) × (p ≤ q .at) → q .at ≤ length b
       → Laying (λ inner. readFields edition1 b inner OpCode.Try (placed p)) at (length b) pos over (notedFrom (pos + 3) (scanned caughtSize (pos + 3) (got x q)) over)
       (laidAs (bodiesAfter (getD b p 0)) (scanned caughtSize (pos + 3) (got x q)))
-  unfolding scanned notedFrom
+  unfolding scanned notedFrom caughtSize
   lay-caught x q e g o =
       let k : count (hasCatch (x .0)) (hasFinally (x .0)) ≡ bodiesAfter (getD b p 0) = count-is (x .0) ∙ ap bodiesAfter (g .0) in
-      let m : 7 + targetSize (x .1) ≡ pos + 3 + caughtSize x - (pos + 3) = unfold caughtSize in omega arith in
+      let m : 7 + targetSize (x .1) ≡ pos + 3 + (7 + targetSize (x .1)) - (pos + 3) = omega arith in
       rw (laid-some (bodiesAfter (getD b p 0)) (q .at) (record { 0 = pos + 3 + caughtSize x }) (after-some (getD b p 0)))
       (Laying.bodies {q = q .at} {n = bodiesAfter (getD b p 0)} {w = record { 0 = pos + 3 + caughtSize x }} (onward x q g o)
-      (λ inner tab. try-outcome b p pos over x q e inner tab (λ c. sym (g .1 c))
-      ∙ ap₂ (λ (i j : ℕ). outcome (total bodyLength) bodiesEvents (pos + 3 + caughtSize x) (state tab (notedIf 8 i over)) (repeat inner j q)) m k))
+      (λ inner tab. try-outcome b p pos x q e inner (λ c. sym (g .1 c)) over tab
+      ∙ ap₂ (λ (i j : ℕ). outcome (total bodyLength) bodiesEvents (pos + 3 + caughtSize x) (state tab (notedIf 8 i over)) (repeat inner j q)) m k)
+      (λ inner. try-measure b p pos x q e inner (λ c. sym (g .1 c))
+      ∙ ap (λ (j : ℕ). measured (total bodyLength) inBodies (pos + 3 + caughtSize x) (repeat inner j q)) k))
 
   lay-uncaught : (f : answers.Fault) (q : Place) → readCaught b (placed p) ≡ bad f q
       → Laying (λ inner. readFields edition1 b inner OpCode.Try (placed p)) at (length b) pos over (notedFrom (pos + 3) (scanned caughtSize (pos + 3) (bad f q)) over)

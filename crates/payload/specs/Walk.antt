@@ -6,8 +6,8 @@ use mathlib.Core.List.{List, [], _∷_, _++_}
 use lib.ListN.{getD, set}
 use lib.Dec.{ltb, eqb}
 use Rattle.layout.specs.Lists.{pick}
-use Rattle.layout.specs.Tree.{ActionOf, ActionsOf}
-use Rattle.layout.specs.Read.{Text, Read, got, bad, Reader, repeat}
+use Rattle.layout.specs.Tree.{Branch, ActionOf, branch, ActionsOf}
+use Rattle.layout.specs.Read.{Text, Read, got, bad, Reader, chain, repeat}
 use Rattle.layout.specs.Strings.{mapAction, mapBody}
 use Rattle.layout.specs.Write.{size, bodySize, Event, labelAt, branchAt, payloadTooLong, bodyTooLong, trace, traceBody, bodyTest}
 use Rattle.layout.specs.Lengths.{total}
@@ -89,6 +89,27 @@ bodyTests (x ∷ xs) p = bodyTest (bodyLength x) (record { at = p }) ++ bodyTest
 unfoldable pub bodiesEvents : List (ActionsOf Text ℕ) → ℕ → List Event
 bodiesEvents xs p = inBodies xs p ++ bodyTests xs p
 
+-- ---- what was read, measured: where its writing ends, and the branches in it
+
+-- the branches among these events
+unfoldable pub branches : List Event → List Event
+branches [] = []
+branches (labelAt l s ∷ es) = branches es
+branches (branchAt l s ∷ es) = branchAt l s ∷ branches es
+branches (payloadTooLong n s ∷ es) = branches es
+branches (bodyTooLong n s ∷ es) = branches es
+
+pub record Measure : Type 0 where
+  pub end : ℕ
+  pub branching : List Event
+
+abbrev pub measure : ℕ → List Event → Measure
+measure w es = record { end = w; branching = es }
+
+-- from a position on
+unfoldable pub measured : {A : Type 0} → (A → ℕ) → (A → ℕ → List Event) → ℕ → Read A → Read Measure
+measured size trace pos x = chain x (λ a q. got (measure (pos + size a) (branches (trace a pos))) q)
+
 -- from place `at` and position pos on: q lies beyond and within, and each byte read on the way is written in at most 65,536
 pub record Onward (at end pos q w : ℕ) : Type 0 where
   pub beyond : at < q
@@ -100,10 +121,15 @@ pub record Onward (at end pos q w : ℕ) : Type 0 where
 pub data Laying (read : Reader (ActionsOf Text ℕ) → Read (ActionOf Text ℕ)) (at end pos : ℕ) (over over′ : List ℕ) : Laid → Type 0 where
   flat : {q : ℕ} {w : BytePosition}
       → ((inner : Reader (ActionsOf Text ℕ)) (tab : List ℕ) → outcome actionSize actionTrace pos (state tab over) (read inner) ≡ done q (w .0) (state tab over′))
+      → ((inner : Reader (ActionsOf Text ℕ)) → measured actionSize actionTrace pos (read inner) ≡ got (measure (w .0) []) (placed q))
       → Laying read at end pos over over′ (laid.Flat q w)
+  to-label : {q label : ℕ} {w : BytePosition} {k : Branch} → w .0 ≡ pos + 5 → label < 1024 → over ≡ over′
+      → ((inner : Reader (ActionsOf Text ℕ)) → read inner ≡ got (branch k label) (placed q))
+      → Laying read at end pos over over′ (laid.Branch q w label)
   bodies : {q n : ℕ} {w : BytePosition} → Onward at end pos q (w .0)
       → ((inner : Reader (ActionsOf Text ℕ)) (tab : List ℕ)
       → outcome actionSize actionTrace pos (state tab over) (read inner) ≡ outcome (total bodyLength) bodiesEvents (w .0) (state tab over′) (repeat inner n (placed q)))
+      → ((inner : Reader (ActionsOf Text ℕ)) → measured actionSize actionTrace pos (read inner) ≡ measured (total bodyLength) inBodies (w .0) (repeat inner n (placed q)))
       → Laying read at end pos over over′ (laid.Bodies q w n)
   stops : {f : Fault} {q : ℕ}
       → ((inner : Reader (ActionsOf Text ℕ)) (s : State) → outcome actionSize actionTrace pos s (read inner) ≡ fault f q) → Laying read at end pos over over′ (laid.Stops f q)
@@ -113,6 +139,11 @@ pub data Laying (read : Reader (ActionsOf Text ℕ) → Read (ActionOf Text ℕ)
 unfoldable pub laidAs : ℕ → Scan → Laid
 laidAs n (scan.Ends q w) = pick (eqb n 0) (laid.Flat q w) (laid.Bodies q w n)
 laidAs n (scan.Stops f q) = laid.Stops f q
+
+-- a branch whose label was read, after its header
+unfoldable pub branchLaid : ℕ → Read ℕ → Laid
+branchLaid pos (got l q) = laid.Branch (q .at) (record { 0 = pos + 2 }) l
+branchLaid pos (bad f q) = laid.Stops (faultOf f) (q .at)
 
 -- 8 for a payload that starts at a position
 unfoldable pub notedFrom : ℕ → Scan → List ℕ → List ℕ

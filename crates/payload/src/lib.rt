@@ -4,9 +4,9 @@ ghost use mathlib.Core.Path.{_≡_};
 ghost use Prim.Native.Nat.{_+_, _≤_, _<_};
 ghost use lib.ListN.{length, getD};
 ghost use Rattle.layout.specs.OpCode.{opcodeOf};
-ghost use Rattle.layout.specs.Read.{edition1, readFieldsIf};
+ghost use Rattle.layout.specs.Read.{edition1, readLabel, readFieldsIf};
 ghost use Rattle.operands.specs.Scanned.{placed, scanned, Roomy};
-ghost use Rattle.payload.specs.Walk.{notedIf, Laying, laidAs, notedFrom, EndsFrom, Tried};
+ghost use Rattle.payload.specs.Walk.{notedIf, Laying, laidAs, branchLaid, notedFrom, EndsFrom, Tried};
 ghost use Rattle.payload.specs.Fields.{readWaitForFrame, readGotoFrame2, readGetUrl2, readGetUrl, flatSize, readFunction, readRegisters, readFunction2, ownerSize, readCaught, caughtSize, bodiesAfter};
 use fields::u16_at;
 use labels::BytePosition;
@@ -20,9 +20,10 @@ use operands::scan_string;
 use operands::scan_strings;
 use pcode::OpCode;
 
-// The place and the position after a payload, and how many bodies follow it, or a fault and its place.
+// The place and the position after a payload, with a branch's label, or how many bodies follow; or a fault and its place.
 pub enum Laid {
     Flat(usize, BytePosition),
+    Branch(usize, BytePosition, usize),
     Bodies(usize, BytePosition, usize),
     Stops(Fault, usize),
 }
@@ -91,6 +92,19 @@ fn scan_get_url(b: &[u8], at: usize, pos: BytePosition) -> Scan
     match scan_string(b, at, pos) {
         Scan::Stops(f, p) => Scan::Stops(f, p),
         Scan::Ends(p, w) => scan_string(b, p, w),
+    }
+}
+
+// ---- branches
+
+// Jump and If: a label.
+fn scan_branch(b: &[u8], at: usize, pos: BytePosition) -> Laid
+    requires { ⌜ Roomy (now b) at pos ⌝ }
+    ensures { λ l. ⌜ l ≡ branchLaid (pos .0) (readLabel edition1 (now (b .entry)) 0 (placed at)) ⌝ }
+{
+    match scan_label(b, at, BytePosition(pos.0 + 2)) {
+        Scan::Stops(f, p) => Laid::Stops(f, p),
+        Scan::Ends(p, w) => Laid::Branch(p, w, u16_at(b, at)),
     }
 }
 
@@ -227,10 +241,10 @@ pub fn scan_payload(b: &[u8], op: u8, at: usize, pos: BytePosition, over: &mut [
         OpCode::TRY => scan_try(b, p, w, over),
         OpCode::WITH => Laid::Bodies(p, BytePosition(w.0 + 2), 1),
         OpCode::PUSH => long_payload(scan_push(b, p, w), w, 0, over),
-        OpCode::JUMP => flat_payload(scan_label(b, p, BytePosition(w.0 + 2))),
+        OpCode::JUMP => scan_branch(b, p, w),
         OpCode::GET_URL2 => flat_payload(scan_get_url2(b, p, w)),
         OpCode::DEFINE_FUNCTION => long_payload(scan_function(b, p, w), w, 1, over),
-        OpCode::IF => flat_payload(scan_label(b, p, BytePosition(w.0 + 2))),
+        OpCode::IF => scan_branch(b, p, w),
         OpCode::CALL => Laid::Flat(p, w),
         OpCode::GOTO_FRAME2 => flat_payload(scan_goto_frame2(b, p, w)),
         _ => Laid::Stops(Fault::UnknownCode, at),

@@ -36,8 +36,8 @@ use Rattle.operands.proofs.Scans.{stops-is}
 use Rattle.operands.proofs.Reading.{u8-in, u8-out}
 use Rattle.payload.specs.declared.Laid.{Laid}
 use Rattle.payload.specs.declared.Laid.the-variants as laid
-use Rattle.payload.specs.Walk.{State, state, notedIf, noteAll, run, Outcome, done, fault, outcome, Ran, ran, stopped, actionSize, actionTrace, bodyLength, bodyEvents, inBodies, bodyTests, bodiesEvents, Laying, flat, bodies, stops}
-use Rattle.payload.proofs.Runs.{run-append, run-none, run-body, noted-short, noted-after, noted-now}
+use Rattle.payload.specs.Walk.{State, state, notedIf, noteAll, run, Outcome, done, fault, outcome, Ran, ran, stopped, actionSize, actionTrace, bodyLength, bodyEvents, inBodies, bodyTests, bodiesEvents, Laying, flat, to-label, bodies, stops}
+use Rattle.payload.proofs.Runs.{outcome-got, run-append, run-none, run-body, noted-short, noted-after, noted-now}
 use Rattle.scan.specs.Bodies.{Front, readFront, Fronted, Ready, firstLong}
 use Rattle.scan.proofs.Fronts.{FrontRead, front-read}
 
@@ -171,20 +171,27 @@ module _ (b : List ℕ) (d at : ℕ) where
         did-flat q w e = go (rw e at y)
           where
             go : Here (laid.Flat q w) → Ran Out (scan.Ends q w) (state tab over′)
-            go (flat g) = ran-done (rw (action-in h) (g (readBody edition1 b d) tab))
+            go (flat g m) = ran-done (rw (action-in h) (g (readBody edition1 b d) tab))
+
+        pub did-branch : (q : ℕ) (w : BytePosition) (n : ℕ) → l ≡ laid.Branch q w n → Ran Out (scan.Ends q w) (state tab over′)
+        did-branch q w n e = go (rw e at y)
+          where
+            go : Here (laid.Branch q w n) → Ran Out (scan.Ends q w) (state tab over′)
+            go (to-label {k = k} i u v g) =
+                ran-done (rw (action-in h, ← v) (outcome-got actionSize actionTrace (pos .0) (state tab over) (g (readBody edition1 b d)) (unfold size mapAction in i) (unfold trace mapAction run recordAll noteAll in refl)))
 
         pub did-place : (q : ℕ) (w : BytePosition) (n : ℕ) → l ≡ laid.Bodies q w n → Roomy b at pos → Roomy b q w
         did-place q w n e r = go (rw e at y)
           where
             go : Here (laid.Bodies q w n) → Roomy b q w
-            go (bodies o g) = record { bytes = r .bytes; inside = o .within; room = omega (arith, r .room, r .inside, o .beyond, o .within, o .written) }
+            go (bodies o g m) = record { bytes = r .bytes; inside = o .within; room = omega (arith, r .room, r .inside, o .beyond, o .within, o .written) }
 
         pub did-bodies : (q : ℕ) (w : BytePosition) (n : ℕ) (r : Scan) (s′ : State) → l ≡ laid.Bodies q w n
             → Ran (outcome (total bodyLength) bodiesEvents (w .0) (state tab over′) (repeat (readBody edition1 b d) n (placed q))) r s′ → Ran Out r s′
         did-bodies q w n r s′ e o = go (rw e at y)
           where
             go : Here (laid.Bodies q w n) → Ran Out r s′
-            go (bodies a g) = rw (action-in h, g (readBody edition1 b d) tab) o
+            go (bodies a g m) = rw (action-in h, g (readBody edition1 b d) tab) o
 
 -- ---- the actions of a body, from index i on
 

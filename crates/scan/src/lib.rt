@@ -194,6 +194,7 @@ fn scan_action(
     match scan_payload(b, op, at, pos, over) {
         Laid::Stops(f, p) => Scan::Stops(f, p),
         Laid::Flat(p, w) => Scan::Ends(p, w),
+        Laid::Branch(p, w, _) => Scan::Ends(p, w),
         Laid::Bodies(p, w, n) => scan_bodies(b, p, depth, w, n, tab, over),
     }
 }

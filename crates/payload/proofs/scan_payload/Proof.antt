@@ -7,12 +7,12 @@ use Rattle.payload.proofs.scan_payload.Tie as tie
 use Rattle.payload.proofs.scan_payload.Reads as reads
 use Rattle.payload.proofs.scan_payload.Lts as lts
 use Rattle.operands.proofs.scan_bytes.Reads as scan-bytes-reads
-use Rattle.operands.proofs.scan_label.Reads as scan-label-reads
 use Rattle.operands.proofs.scan_push.Reads as scan-push-reads
 use Rattle.operands.proofs.scan_string.Reads as scan-string-reads
 use Rattle.operands.proofs.scan_strings.Reads as scan-strings-reads
 use Rattle.payload.proofs.flat_payload.Reads as flat-payload-reads
 use Rattle.payload.proofs.long_payload.Reads as long-payload-reads
+use Rattle.payload.proofs.scan_branch.Reads as scan-branch-reads
 use Rattle.payload.proofs.scan_function.Reads as scan-function-reads
 use Rattle.payload.proofs.scan_function2.Reads as scan-function2-reads
 use Rattle.payload.proofs.scan_get_url.Reads as scan-get-url-reads
@@ -105,20 +105,17 @@ scan-push-requires c κs = search needs
 long-payload-requires-6 : tie.Need-long-payload-requires-6
 long-payload-requires-6 c κs = (c .before .before .before .before .before .before .pre .2, lay.scanned-from-start _ _ _ _ _ (c .before .scan-push .ensures) (omega arith))
 
-add-t45 : tie.Need-add-t45
-add-t45 c = search needs
-
-scan-label-requires : tie.Need-scan-label-requires
-scan-label-requires c κs = search needs
-
-flat-payload-requires-5 : tie.Need-flat-payload-requires-5
-flat-payload-requires-5 c κs = search needs
-
 scan-get-url2-requires : tie.Need-scan-get-url2-requires
 scan-get-url2-requires c κs = search needs
 
-flat-payload-requires-6 : tie.Need-flat-payload-requires-6
-flat-payload-requires-6 c κs = search needs
+scan-branch-requires : tie.Need-scan-branch-requires
+scan-branch-requires c κs = search needs
+
+scan-branch-requires-2 : tie.Need-scan-branch-requires-2
+scan-branch-requires-2 c κs = search needs
+
+flat-payload-requires-5 : tie.Need-flat-payload-requires-5
+flat-payload-requires-5 c κs = search needs
 
 scan-function-requires : tie.Need-scan-function-requires
 scan-function-requires c κs = search needs
@@ -126,20 +123,11 @@ scan-function-requires c κs = search needs
 long-payload-requires-7 : tie.Need-long-payload-requires-7
 long-payload-requires-7 c κs = (c .before .before .before .before .before .before .pre .2, lay.scanned-from-start _ _ _ _ _ (c .before .scan-function .ensures) (omega arith))
 
-add-t52 : tie.Need-add-t52
-add-t52 c = search needs
-
-scan-label-requires-2 : tie.Need-scan-label-requires-2
-scan-label-requires-2 c κs = search needs
-
-flat-payload-requires-7 : tie.Need-flat-payload-requires-7
-flat-payload-requires-7 c κs = search needs
-
 scan-goto-frame2-requires : tie.Need-scan-goto-frame2-requires
 scan-goto-frame2-requires c κs = search needs
 
-flat-payload-requires-8 : tie.Need-flat-payload-requires-8
-flat-payload-requires-8 c κs = search needs
+flat-payload-requires-6 : tie.Need-flat-payload-requires-6
+flat-payload-requires-6 c κs = search needs
 
 returns : tie.Need-returns
 returns c = arms.arm-goto-frame _ _ _ _ _ _ _ (c .before .before .before .match .keys1) (c .before .scan-bytes .ensures) (c .flat-payload .ensures)
@@ -199,10 +187,10 @@ returns-12 : tie.Need-returns-12
 returns-12 c = arms.arm-push _ _ _ _ _ _ _ _ (c .before .before .before .before .before .match .keys12) (c .before .before .before .before .scan-push .ensures) (c .before .before .long-payload6 .ensures .0) (c .before .before .long-payload6 .ensures .1)
 
 returns-13 : tie.Need-returns-13
-returns-13 c = arms.arm-jump _ _ _ _ _ _ _ (c .before .before .before .match .keys13) (c .before .scan-label .ensures) (c .flat-payload5 .ensures)
+returns-13 c = arms.arm-jump _ _ _ _ _ _ (omega arith) (c .before .match .keys13) (c .scan-branch .ensures)
 
 returns-14 : tie.Need-returns-14
-returns-14 c = arms.arm-get-url2 _ _ _ _ _ _ _ (c .before .before .match .keys14) (c .before .scan-get-url2 .ensures) (c .flat-payload6 .ensures)
+returns-14 c = arms.arm-get-url2 _ _ _ _ _ _ _ (c .before .before .match .keys14) (c .before .scan-get-url2 .ensures) (c .flat-payload5 .ensures)
 
 same-length-8 : tie.Need-same-length-8
 same-length-8 c = search needs
@@ -211,13 +199,13 @@ returns-15 : tie.Need-returns-15
 returns-15 c = arms.arm-define-function _ _ _ _ _ _ _ (c .before .before .before .before .before .before .before .before .before .pre .3 .bytes) (omega arith) _ (c .before .before .before .before .before .match .keys15) (c .before .before .before .before .scan-function .ensures) (c .before .before .long-payload7 .ensures .0) (c .before .before .long-payload7 .ensures .1)
 
 returns-16 : tie.Need-returns-16
-returns-16 c = arms.arm-if _ _ _ _ _ _ _ (c .before .before .before .match .keys16) (c .before .scan-label2 .ensures) (c .flat-payload7 .ensures)
+returns-16 c = arms.arm-if _ _ _ _ _ _ (omega arith) (c .before .match .keys16) (c .scan-branch2 .ensures)
 
 returns-17 : tie.Need-returns-17
 returns-17 c = arms.arm-call _ _ _ _ _ (c .match .keys17)
 
 returns-18 : tie.Need-returns-18
-returns-18 c = arms.arm-goto-frame2 _ _ _ _ _ _ _ (c .before .before .match .keys18) (c .before .scan-goto-frame2 .ensures) (c .flat-payload8 .ensures)
+returns-18 c = arms.arm-goto-frame2 _ _ _ _ _ _ _ (c .before .before .match .keys18) (c .before .scan-goto-frame2 .ensures) (c .flat-payload6 .ensures)
 
 returns-19 : tie.Need-returns-19
 returns-19 c = let r = c .match .rest in arms.arm-unknown _ _ _ _ _ (arms.unlisted _ (c .before .before .before .before .pre .0) (omega arith) (r .0 .0 .0 .0 .0 .0 .0 .0 .0 .0 .0 .0 .0 .0 .0 .0 .0 .1, (r .0 .0 .0 .0 .0 .0 .0 .0 .0 .0 .0 .0 .0 .0 .0 .0 .1, (r .0 .0 .0 .0 .0 .0 .0 .0 .0 .0 .0 .0 .0 .0 .0 .1, (r .0 .0 .0 .0 .0 .0 .0 .0 .0 .0 .0 .0 .0 .0 .1, (r .0 .0 .0 .0 .0 .0 .0 .0 .0 .0 .0 .0 .0 .1, (r .0 .0 .0 .0 .0 .0 .0 .0 .0 .0 .0 .0 .1, (r .0 .0 .0 .0 .0 .0 .0 .0 .0 .0 .0 .1, (r .0 .0 .0 .0 .0 .0 .0 .0 .0 .0 .1, (r .0 .0 .0 .0 .0 .0 .0 .0 .0 .1, (r .0 .0 .0 .0 .0 .0 .0 .0 .1, (r .0 .0 .0 .0 .0 .0 .0 .1, (r .0 .0 .0 .0 .0 .0 .1, (r .0 .0 .0 .0 .0 .1, (r .0 .0 .0 .0 .1, (r .0 .0 .0 .1, (r .0 .0 .1, (r .0 .1, (r .1, tt)))))))))))))))))))
@@ -254,18 +242,14 @@ scan-payload-spec =
     add-t39
     scan-push-requires
     long-payload-requires-6
-    add-t45
-    scan-label-requires
-    flat-payload-requires-5
+    scan-branch-requires
     scan-get-url2-requires
-    flat-payload-requires-6
+    flat-payload-requires-5
     scan-function-requires
     long-payload-requires-7
-    add-t52
-    scan-label-requires-2
-    flat-payload-requires-7
+    scan-branch-requires-2
     scan-goto-frame2-requires
-    flat-payload-requires-8
+    flat-payload-requires-6
     returns
     same-length
     returns-2

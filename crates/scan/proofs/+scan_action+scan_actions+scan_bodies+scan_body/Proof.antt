@@ -106,11 +106,11 @@ scan-action-shared-slice-read-op t c = search needs
 scan-action-is-listed-requires : (t : ℕ) → scan-action-lts.Need-is-listed-requires (scan-action-calls t) (scan-action-at t) scan-action.Post
 scan-action-is-listed-requires t c κs = search needs
 
-scan-action-add-t21 : (t : ℕ) → scan-action-lts.Need-add-t21 (scan-action-calls t) (scan-action-at t) scan-action.Post
-scan-action-add-t21 t c = search needs
+scan-action-add-t23 : (t : ℕ) → scan-action-lts.Need-add-t23 (scan-action-calls t) (scan-action-at t) scan-action.Post
+scan-action-add-t23 t c = search needs
 
-scan-action-add-t22 : (t : ℕ) → scan-action-lts.Need-add-t22 (scan-action-calls t) (scan-action-at t) scan-action.Post
-scan-action-add-t22 t c = omega (arith, c .before .before .before .before .before .before .before .before .before .pre .1 .roomy .room)
+scan-action-add-t24 : (t : ℕ) → scan-action-lts.Need-add-t24 (scan-action-calls t) (scan-action-at t) scan-action.Post
+scan-action-add-t24 t c = omega (arith, c .before .before .before .before .before .before .before .before .before .pre .1 .roomy .room)
 
 scan-action-returns-2 : (t : ℕ) → scan-action-lts.Need-returns-2 (scan-action-calls t) (scan-action-at t) scan-action.Post
 scan-action-returns-2 t c = walk.did-small _ _ _ _ _ _ (c .before .before .before .before .before .if1 .left) (c .before .before .before .if2 .taken) (sym (c .before .before .is-listed .ensures) ∙ c .before .if3 .taken)
@@ -131,10 +131,13 @@ scan-action-enum-known-p t c = search needs
 scan-action-enum-known-p-2 : (t : ℕ) → scan-action-lts.Need-enum-known-p-2 (scan-action-calls t) (scan-action-at t) scan-action.Post
 scan-action-enum-known-p-2 t c = search needs
 
+scan-action-enum-known-p-3 : (t : ℕ) → scan-action-lts.Need-enum-known-p-3 (scan-action-calls t) (scan-action-at t) scan-action.Post
+scan-action-enum-known-p-3 t c = search needs
+
 scan-action-scan-bodies-requires : (t : ℕ) → scan-action-lts.Need-scan-bodies-requires (scan-action-calls t) (scan-action-at t) scan-action.Post
 scan-action-scan-bodies-requires t c κs =
     let p = c .before .before .before .before .before .before .before .before .before .before .before .before .before .before .before .pre .1 in
-    (omega arith, record { roomy = walk.did-place _ 0 _ _ [] _ (c .before .before .before .before .before .before .before .before .before .before .before .if1 .left) _ _ (c .before .before .before .before .before .before .before .scan-payload .ensures) _ _ _ (c .before .before .before .p2 .given .1) (p .roomy); full = p .full; two = c .before .before .before .before .before .before .before .scan-payload .kept .1 .1 .1 .1 .0 ∙ p .two })
+    (omega arith, record { roomy = walk.did-place _ 0 _ _ [] _ (c .before .before .before .before .before .before .before .before .before .before .before .if1 .left) _ _ (c .before .before .before .before .before .before .before .scan-payload .ensures) _ _ _ (c .before .before .before .p3 .given .1) (p .roomy); full = p .full; two = c .before .before .before .before .before .before .before .scan-payload .kept .1 .1 .1 .1 .0 ∙ p .two })
 
 scan-action-same-length : (t : ℕ) → scan-action-lts.Need-same-length (scan-action-calls t) (scan-action-at t) scan-action.Post
 scan-action-same-length t c = c .before .before .before .before .before .scan-payload .kept .1 .1 .1 .1 .0
@@ -149,13 +152,19 @@ scan-action-returns-5 : (t : ℕ) → scan-action-lts.Need-returns-5 (scan-actio
 scan-action-returns-5 t c = walk.did-flat _ _ _ _ _ _ (c .before .before .before .before .before .before .before .before .before .if1 .left) _ _ (c .before .before .before .before .before .scan-payload .ensures) _ _ (c .before .p .given .1)
 
 scan-action-same-length-3 : (t : ℕ) → scan-action-lts.Need-same-length-3 (scan-action-calls t) (scan-action-at t) scan-action.Post
-scan-action-same-length-3 t c = c .before .before .before .before .scan-bodies .kept .1 .1 .1 .1 .1 .0
-
-scan-action-same-length-4 : (t : ℕ) → scan-action-lts.Need-same-length-4 (scan-action-calls t) (scan-action-at t) scan-action.Post
-scan-action-same-length-4 t c = c .before .before .before .before .scan-bodies .kept .1 .1 .1 .1 .1 .1 .0 ∙ c .before .before .before .before .before .before .before .before .before .before .before .before .scan-payload .kept .1 .1 .1 .1 .0
+scan-action-same-length-3 t c = c .before .before .before .before .before .scan-payload .kept .1 .1 .1 .1 .0
 
 scan-action-returns-6 : (t : ℕ) → scan-action-lts.Need-returns-6 (scan-action-calls t) (scan-action-at t) scan-action.Post
-scan-action-returns-6 t c = walk.did-bodies _ _ _ _ _ _ (c .before .before .before .before .before .before .before .before .before .before .before .before .before .before .before .before .if1 .left) _ _ (c .before .before .before .before .before .before .before .before .before .before .before .before .scan-payload .ensures) _ _ _ _ _ (c .before .before .before .before .before .before .before .before .p2 .given .1) (c .before .before .before .before .scan-bodies .ensures)
+scan-action-returns-6 t c = walk.did-branch _ _ _ _ _ _ (c .before .before .before .before .before .before .before .before .before .if1 .left) _ _ (c .before .before .before .before .before .scan-payload .ensures) _ _ _ (c .before .p2 .given .1)
+
+scan-action-same-length-4 : (t : ℕ) → scan-action-lts.Need-same-length-4 (scan-action-calls t) (scan-action-at t) scan-action.Post
+scan-action-same-length-4 t c = c .before .before .before .before .scan-bodies .kept .1 .1 .1 .1 .1 .0
+
+scan-action-same-length-5 : (t : ℕ) → scan-action-lts.Need-same-length-5 (scan-action-calls t) (scan-action-at t) scan-action.Post
+scan-action-same-length-5 t c = c .before .before .before .before .scan-bodies .kept .1 .1 .1 .1 .1 .1 .0 ∙ c .before .before .before .before .before .before .before .before .before .before .before .before .scan-payload .kept .1 .1 .1 .1 .0
+
+scan-action-returns-7 : (t : ℕ) → scan-action-lts.Need-returns-7 (scan-action-calls t) (scan-action-at t) scan-action.Post
+scan-action-returns-7 t c = walk.did-bodies _ _ _ _ _ _ (c .before .before .before .before .before .before .before .before .before .before .before .before .before .before .before .before .if1 .left) _ _ (c .before .before .before .before .before .before .before .before .before .before .before .before .scan-payload .ensures) _ _ _ _ _ (c .before .before .before .before .before .before .before .before .p3 .given .1) (c .before .before .before .before .scan-bodies .ensures)
 
 abbrev scan-actions-Inv-loop : scan-actions-lts.InvT-loop
 scan-actions-Inv-loop b at front depth tab₀ over₀ n list count next₀ i₀ p₀ w₀ tab over next i p w =
@@ -322,22 +331,25 @@ pub +scan-action+scan-actions+scan-bodies+scan-body-spec : {M : Type 1} → stat
     (scan-action-returns t)
     (scan-action-shared-slice-read-op t)
     (scan-action-is-listed-requires t)
-    (scan-action-add-t21 t)
-    (scan-action-add-t22 t)
+    (scan-action-add-t23 t)
+    (scan-action-add-t24 t)
     (scan-action-returns-2 t)
     (scan-action-returns-3 t)
     (scan-action-scan-payload-requires t)
     (scan-action-enum-known-f t)
     (scan-action-enum-known-p t)
     (scan-action-enum-known-p-2 t)
+    (scan-action-enum-known-p-3 t)
     (scan-action-scan-bodies-requires t)
     (scan-action-same-length t)
     (scan-action-returns-4 t)
     (scan-action-same-length-2 t)
     (scan-action-returns-5 t)
     (scan-action-same-length-3 t)
+    (scan-action-returns-6 t)
     (scan-action-same-length-4 t)
-    (scan-action-returns-6 t))
+    (scan-action-same-length-5 t)
+    (scan-action-returns-7 t))
     (λ t. scan-actions-lts.spec (scan-actions-calls t) (scan-actions-at t)
     scan-actions.Post
     scan-actions-Inv-loop
