@@ -1,0 +1,180 @@
+-- What a call of the packer promises, over `Outcome s o n v after`: a sheet s, an output that held o, the number n, the value v,
+-- and what the output holds afterwards. That any two calls on one s and o tell and leave the same is `same-outcome`, in layout's
+-- Order. Assumes nothing.
+use mathlib.Core.Path.{_≡_, refl, sym, ap, _∙_, subst}
+use Prim.Native.Nat.{ℕ, _+_, _*_, _≤_, _<_}
+use native.Mathlib.Omega.{arith}
+use mathlib.Core.List.{List, _++_}
+use lib.ListN.{length, take, drop, length-append, length-drop, take-append-drop}
+use lib.Seq.{take-at, drop-at}
+use lib.IntN.{ℤ, pos}
+use Rattle.layout.specs.Answers.{Fault, CutShort, UnknownCode, BadField, TooDeep, LeftOver, Refusal, SheetTooLong, BadTrailer, ReadingFault, ActionLenOverflow, BlockLenOverflow, JumpOffsetOverflow, NoRoom, InputFull, Unclean, Answer, Done, Refused, faultNumber, refusalNumber, number, value, lengthOf, Told}
+use Rattle.layout.specs.Tree.{Actions}
+use Rattle.layout.specs.Pack.{pack, output, Outcome, ReadsAs}
+use Rattle.layout.specs.Order.{same-outcome}
+use Rattle.layout.specs.Lengths.{length-block}
+use Rattle.laws.specs.Meaning.{meaning}
+use Rattle.laws.specs.Fits.{Bytes}
+use Rattle.laws.specs.Packed.{Written, Packed, is-packed, sheetDistance}
+use Rattle.laws.specs.Demands.{same-meaning, length-done, noteLength, same-note, same-note-output}
+use Rattle.agreement.specs.Source.{ActionEncoder, Result, ok, err, encode}
+use Rattle.agreement.specs.SourceAgrees.{Agrees, in-room, no-room, overflowed, same-as-source, agrees-once}
+use Rattle.agreement.specs.Published.{Block, asWritten, asPublished, BodyUndisputed}
+use Rattle.agreement.specs.PublishedFollows.{follows-published, no-third-difference}
+
+-- ---- 0 is Done's number alone
+
+fault-over : (f : Fault) → 0 < faultNumber f
+unfolding faultNumber
+fault-over CutShort = omega arith
+fault-over UnknownCode = omega arith
+fault-over BadField = omega arith
+fault-over TooDeep = omega arith
+fault-over LeftOver = omega arith
+
+refusal-over : (r : Refusal) → 0 < refusalNumber r
+unfolding refusalNumber
+refusal-over (SheetTooLong n) = omega arith
+refusal-over BadTrailer = omega arith
+refusal-over (ReadingFault f p) = fault-over f
+refusal-over (ActionLenOverflow n) = omega arith
+refusal-over (BlockLenOverflow n) = omega arith
+refusal-over (JumpOffsetOverflow z) = omega arith
+refusal-over (NoRoom n) = omega arith
+refusal-over InputFull = omega arith
+refusal-over (Unclean p) = omega arith
+
+refused-done : {X A : Type 0} {r : Refusal} {a : A} → Refused r ≡ Done a → X
+refused-done j =
+    let z : _≡_ {A = ℕ} 0 1 = cc in
+    absurd (omega arith)
+
+-- ---- a call that answers 0 with value k, which is `Outcome s o 0 (pos k) after`
+
+-- the first k bytes of its output are the block that `pack` makes, and the others are as they were
+pub record Filled (s o : List ℕ) (k : ℕ) (after : List ℕ) : Type 0 where
+  pub packed : pack s (length o) ≡ Done (take k after)
+  pub is-long : length (take k after) ≡ k
+  pub is-within : k ≤ length o
+  pub is-rest : drop k after ≡ drop k o
+
+block-within : (s : List ℕ) (room : ℕ) (q : List ℕ) → pack s room ≡ Done q → length q ≤ room
+block-within s room q e =
+    let w : Written (is-packed s room q e .tree) room q = is-packed s room q e .written in
+    omega (arith, w .has-room, length-block (is-packed s room q e .tree), ap length (w .is-block))
+
+filled-by : (s o : List ℕ) (k : ℕ) (after q : List ℕ) → pack s (length o) ≡ Done q → length q ≡ k → after ≡ q ++ drop (length q) o → Filled s o k after
+filled-by s o k after q e l h =
+    let t : take k after ≡ q = ap (take k) h ∙ take-at q (drop (length q) o) k l in
+    let d : drop k after ≡ drop (length q) o = ap (drop k) h ∙ drop-at q (drop (length q) o) k l in
+    record {
+      packed = e ∙ ap Done (sym t);
+      is-long = ap length t ∙ l;
+      is-within = omega (arith, block-within s (length o) q e);
+      is-rest = d ∙ ap (λ (i : ℕ). drop i o) l;
+    }
+
+pub filled : (s o : List ℕ) (k : ℕ) (after : List ℕ) → Outcome s o 0 (pos k) after → Filled s o k after
+unfolding number value output
+filled s o k after h = go (pack s (length o)) refl (h .told .is-number) (h .told .is-value) (h .holds)
+  where
+    go : (a : Answer (List ℕ)) → pack s (length o) ≡ a → 0 ≡ number a → pos k ≡ value lengthOf a → after ≡ output a o → Filled s o k after
+    go (Done q) e en ev eo =
+        let l : length q ≡ k = cc in
+        filled-by s o k after q e l eo
+    go (Refused r) e en ev eo = absurd (omega (arith, refusal-over r, en))
+
+-- its sheet reads whole, nothing in it is too long or too far, and the first k bytes of the output are its tree's block
+pub done-packed : (s o : List ℕ) (k : ℕ) (after : List ℕ) → Outcome s o 0 (pos k) after → Packed s (length o) (take k after)
+done-packed s o k after h = is-packed s (length o) (take k after) (filled s o k after h .packed)
+
+-- ---- the value
+
+-- the value of a Done: a length k, "at most 3 x D - 11"
+pub record DoneValue (s : List ℕ) (v : ℤ) : Type 0 where
+  pub k : ℕ
+  pub is-value : v ≡ pos k
+  pub is-bounded : k + 11 ≤ 3 * sheetDistance s
+
+-- a call that answers 0 has a length for its value, within the bound
+pub done-value : (s o : List ℕ) (n : ℕ) (v : ℤ) (after : List ℕ) → Bytes s → Outcome s o n v after → n ≡ 0 → DoneValue s v
+unfolding number value
+done-value s o n v after small h z = go (pack s (length o)) refl (h .told .is-number) (h .told .is-value)
+  where
+    go : (a : Answer (List ℕ)) → pack s (length o) ≡ a → n ≡ number a → v ≡ value lengthOf a → DoneValue s v
+    go (Done q) e en ev = record { k = length q; is-value = ev; is-bounded = length-done s (length o) q small e }
+    go (Refused r) e en ev = absurd (omega (arith, refusal-over r, en))
+
+-- ---- the note
+
+-- two calls on sheets of equal length that agree from the main body on, with equal outputs: number, value and output are equal
+pub same-but-note : (s s′ : List ℕ) → length s ≡ length s′ → drop (noteLength s) s ≡ drop (noteLength s) s′
+    → (o : List ℕ) (n n′ : ℕ) (v v′ : ℤ) (after after′ : List ℕ) → Outcome s o n v after → Outcome s′ o n′ v′ after′
+    → (n ≡ n′) × (v ≡ v′) × (after ≡ after′)
+same-but-note s s′ l r o n n′ v v′ after after′ h h′ =
+    same-outcome h (record {
+      told = subst (λ (a : Answer (List ℕ)). Told lengthOf a n′ v′) (sym (same-note s s′ l r (length o))) (h′ .told);
+      holds = h′ .holds ∙ sym (same-note-output s s′ l r o);
+    })
+
+-- ---- demand 3
+
+-- two calls that answer 0 and leave equal blocks were given equal meanings, whatever their outputs held and their rooms were
+pub same-block-meaning : (s s′ o o′ : List ℕ) (k k′ : ℕ) (after after′ : List ℕ) (t t′ : Actions) → Bytes s → Bytes s′ → ReadsAs s t → ReadsAs s′ t′
+    → Outcome s o 0 (pos k) after → Outcome s′ o′ 0 (pos k′) after′ → take k after ≡ take k′ after′ → meaning t ≡ meaning t′
+same-block-meaning s s′ o o′ k k′ after after′ t t′ small small′ r r′ h h′ e =
+    same-meaning s s′ (length o) (length o′) (take k after) t t′ small small′ r r′ (filled s o k after h .packed)
+    (filled s′ o′ k′ after′ h′ .packed ∙ ap Done (sym e))
+
+-- ---- what a call leaves alone
+
+-- a call that does not answer 0 leaves every byte of the output
+pub refused-leaves : (s o : List ℕ) (n : ℕ) (v : ℤ) (after : List ℕ) → Outcome s o n v after → (n ≡ 0 → ⊥) → after ≡ o
+unfolding number output
+refused-leaves s o n v after h z = go (pack s (length o)) (h .told .is-number) (h .holds)
+  where
+    go : (a : Answer (List ℕ)) → n ≡ number a → after ≡ output a o → after ≡ o
+    go (Done q) en eo = absurd (z en)
+    go (Refused r) en eo = eo
+
+-- a call that answers 0 with value k leaves the bytes from k on, and the output's length
+pub done-leaves : (s o : List ℕ) (k : ℕ) (after : List ℕ) → Outcome s o 0 (pos k) after → (drop k after ≡ drop k o) × (length after ≡ length o) × (k ≤ length o)
+done-leaves s o k after h =
+    let f : Filled s o k after = filled s o k after h in
+    let l : length after ≡ length (take k after) + length (drop k after) = ap length (sym (take-append-drop k after)) ∙ length-append (take k after) (drop k after) in
+    (f .is-rest, omega (arith, f .is-within, f .is-long, l, ap length (f .is-rest), length-drop k o), f .is-within)
+
+-- ---- demand 2
+
+-- what the source's encoder writes for a tree: it ends well, with this output
+pub record SourceWrites (t : Actions) (q : List ℕ) : Type 0 where
+  pub encoder : ActionEncoder
+  pub is-result : encode t ≡ ok encoder
+  pub is-output : encoder .output ≡ q
+
+-- for a sheet s of bytes that reads whole as a tree t, and a call that answers 0 with value k
+module _ (s o : List ℕ) (t : Actions) (k : ℕ) (after : List ℕ) (small : Bytes s) (r : ReadsAs s t) (h : Outcome s o 0 (pos k) after) where
+  -- the first k bytes of the output are what the source's encoder writes for the tree
+  pub done-source : SourceWrites t (take k after)
+  done-source = go (encode t) (Done (take k after)) refl refl (subst (Agrees (length o) (encode t)) (filled s o k after h .packed) (same-as-source s t (length o) small r))
+    where
+      go : (x : Result) (a : Answer (List ℕ)) → encode t ≡ x → a ≡ Done (take k after) → Agrees (length o) x a → SourceWrites t (take k after)
+      go (ok e) a i j (in-room w) = record { encoder = e; is-result = i; is-output = cc }
+      go (ok e) a i j (no-room w) = refused-done j
+      go (err x) a i j (overflowed c w) = refused-done j
+
+  -- and they follow the published layouts, GetUrl2's bits and a double's words apart
+  pub done-published : Block asWritten t (take k after)
+  done-published = follows-published s t (length o) (take k after) small r (filled s o k after h .packed)
+
+  -- without GetUrl2 and without a pushed double, in these too
+  pub done-undisputed : BodyUndisputed t → Block asPublished t (take k after)
+  done-undisputed u = no-third-difference s t (length o) (take k after) small r (filled s o k after h .packed) u
+
+-- any call on such a sheet tells and leaves the one answer that agrees with the source's result at its room: an overflow's number
+-- and value too
+pub as-source : (s o : List ℕ) (t : Actions) (n : ℕ) (v : ℤ) (after : List ℕ) (a : Answer (List ℕ)) → Bytes s → ReadsAs s t → Agrees (length o) (encode t) a
+    → Outcome s o n v after → Told lengthOf a n v × (after ≡ output a o)
+as-source s o t n v after a small r g h =
+    let e : pack s (length o) ≡ a = agrees-once (length o) (encode t) (pack s (length o)) a (same-as-source s t (length o) small r) g in
+    subst (λ (x : Answer (List ℕ)). Told lengthOf x n v × (after ≡ output x o)) e (h .told, h .holds)
