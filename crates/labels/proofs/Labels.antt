@@ -1,5 +1,5 @@
 -- What the label table holds, and what reading says of a body's entries. Assumes nothing.
-use mathlib.Core.Path.{_≡_, refl, _∙_}
+use mathlib.Core.Path.{_≡_, refl, ap, _∙_}
 use Prim.Native.Nat.{ℕ, zero, suc, _+_, _*_, _≤_, _<_}
 use native.Mathlib.Numerals.{add-one}
 use native.Mathlib.Omega.{arith}
@@ -16,7 +16,7 @@ use Rattle.layout.specs.Read.{Terms, Place, ahead, got, ifWhole, ifWithin, test
 use Rattle.layout.specs.Write.{Position, Event, labelAt, branchAt, payloadTooLong, bodyTooLong, later, recordIf, lookup}
 use Rattle.layout.specs.Judge.{distance, isNear, farUnless, judged}
 use Rattle.laws.specs.ReadFits.{Good, fine, refused, good-then, good-got}
-use Rattle.labels.specs.Table.{slot, recordOf, recordAll, IsFar, entriesAt, Rising, end, next}
+use Rattle.labels.specs.Table.{slot, recordOf, recordAll, TableHolds, IsFar, entriesAt, Rising, end, next}
 
 -- ---- the table
 
@@ -72,6 +72,10 @@ pub record-of-slot : (o : Option Position) → recordOf (slot o) ≡ o
 unfolding recordOf slot
 record-of-slot none = refl
 record-of-slot (some s) = rw add-one
+
+-- and a table's record of a label is the events'
+pub table-record : (bound : ℕ) (tab : List ℕ) (es : List Event) → TableHolds bound tab es → (l : ℕ) → l < bound → recordOf (getD tab l 0) ≡ lookup l es
+table-record bound tab es h l k = ap recordOf (h .holds l k) ∙ record-of-slot (lookup l es)
 
 -- a branch is judged by its slot, its distance's bits and what is said of them
 pub judged-by : {bits : ℕ} {far : Bool} (slot after : ℕ) → slot < 9223372036854775808 → after < 9223372036854775808 → IsFar bits far

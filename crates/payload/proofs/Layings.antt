@@ -17,7 +17,6 @@ use Rattle.layout.specs.Payload.{opcode, payload, ownerFields}
 use Rattle.layout.specs.Write.{size, bodySize, Position, Event, moved, payloadTest, bodyTest, trace, traceBody}
 use Rattle.layout.specs.Lengths.{total, ownerLength, length-payload, length-framed, length-ownerFields}
 use Rattle.layout.specs.Pack.{spelling}
-use Rattle.labels.specs.Table.{recordAll}
 use Rattle.labels.specs.declared.BytePosition.{BytePosition}
 use Rattle.operands.specs.Scanned.{placed, faultOf, scanned}
 use Rattle.operands.specs.declared.Fault.{Fault}
@@ -26,7 +25,7 @@ use Rattle.operands.specs.declared.Scan.the-variants as scan
 use Rattle.payload.specs.declared.Laid.{Laid}
 use Rattle.payload.specs.declared.Laid.the-variants as laid
 use Rattle.payload.specs.Fields.{flatSize, ownerSize, readCaught, caughtSize}
-use Rattle.payload.specs.Walk.{State, state, notedIf, noteAll, run, done, outcome, branches, measure, measured, actionSize, actionTrace, bodyLength, inBodies, bodyTests, bodiesEvents, Onward, Laying, laidAs, branchLaid, notedFrom, EndsFrom, Tried}
+use Rattle.payload.specs.Walk.{State, state, notedIf, run, done, outcome, branches, measure, measured, actionSize, actionTrace, bodyLength, inBodies, bodyTests, bodiesEvents, Onward, Laying, laidAs, branchLaid, notedFrom, EndsFrom, Tried}
 use Rattle.payload.proofs.Steps.{caught-out}
 use Rattle.payload.proofs.Runs.{run-append, run-payload, run-body, noted-short, outcome-got, branches-append, branches-payload, branches-after, branches-body, measured-got}
 

@@ -28,7 +28,7 @@ use Rattle.operands.specs.declared.Scan.the-variants as scan
 use Rattle.payload.specs.declared.Laid.{Laid}
 use Rattle.payload.specs.declared.Laid.the-variants as laid
 use Rattle.payload.specs.Fields.{readCaught, targetSize, caughtSize, bodiesAfter}
-use Rattle.payload.specs.Walk.{State, state, notedIf, run, done, outcome, Measure, branches, measure, measured, actionSize, actionTrace, bodyLength, inBodies, bodyTests, bodiesEvents, Onward, Laying, laidAs, notedFrom, Tried}
+use Rattle.payload.specs.Walk.{State, state, notedIf, run, done, outcome, branches, measure, measured, actionSize, actionTrace, bodyLength, inBodies, bodyTests, bodiesEvents, Onward, Laying, laidAs, notedFrom, Tried}
 use Rattle.payload.proofs.Runs.{run-append, run-none, run-payload, run-body, branches-append, branches-none, branches-after, branches-body}
 
 -- ---- a body's test, as a change of the state

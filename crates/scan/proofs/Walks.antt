@@ -93,11 +93,11 @@ module _ (b : List ℕ) (d at : ℕ) where
   abbrev pub theAction : Read (ActionOf Text ℕ)
   theAction = readAction edition1 b (readBody edition1 b d) (placed at)
 
-  action-out : length b ≤ at → theAction ≡ bad CutShort (placed at)
+  pub action-out : length b ≤ at → theAction ≡ bad CutShort (placed at)
   unfolding readAction
   action-out h = rw (u8-out b at (omega arith))
 
-  action-in : at < length b → theAction ≡ readFieldsIf edition1 b (readBody edition1 b d) (opcodeOf (getD b at 0)) (placed at) (placed (at + 1))
+  pub action-in : at < length b → theAction ≡ readFieldsIf edition1 b (readBody edition1 b d) (opcodeOf (getD b at 0)) (placed at) (placed (at + 1))
   unfolding readAction
   action-in h = rw (u8-in b at (omega arith))
 
@@ -246,7 +246,7 @@ pub body-deep : (b : List ℕ) (at d : ℕ) → d ≡ 0 → readBody edition1 b 
 unfolding readBody
 body-deep b at d e = rw e
 
-body-step : (b : List ℕ) (at d : ℕ)
+pub body-step : (b : List ℕ) (at d : ℕ)
     → readBody edition1 b (d + 1) (placed at) ≡ chain (readFront b (placed at)) (λ f q. chain (readActions edition1 b (readBody edition1 b d) (f .count) q) (λ xs r. got (body (f .entries) xs) r))
 unfolding readBody readBodyWith readFront
 body-step b at d = rw (add-one d) (go d)
@@ -423,12 +423,12 @@ noted-twice kept n over l (inr h) = rw (← first-had kept n (λ e. omega arith)
 
 -- ---- the bodies after a payload
 
-repeat-none : {A : Type 0} (one : Reader A) (n p : ℕ) → n ≤ 0 → repeat one n (placed p) ≡ got [] (placed p)
+pub repeat-none : {A : Type 0} (one : Reader A) (n p : ℕ) → n ≤ 0 → repeat one n (placed p) ≡ got [] (placed p)
 unfolding repeat
 repeat-none one zero p h = refl
 repeat-none one (suc n) p h = absurd (omega arith)
 
-repeat-more : {A : Type 0} (one : Reader A) (n p : ℕ) → 0 < n → repeat one n (placed p) ≡ chain (one (placed p)) (λ a q. chain (repeat one (n - 1) q) (λ xs r. got (a ∷ xs) r))
+pub repeat-more : {A : Type 0} (one : Reader A) (n p : ℕ) → 0 < n → repeat one n (placed p) ≡ chain (one (placed p)) (λ a q. chain (repeat one (n - 1) q) (λ xs r. got (a ∷ xs) r))
 unfolding repeat
 repeat-more one zero p h = absurd (omega arith)
 repeat-more one (suc n) p h = simp sub-one

@@ -2,49 +2,35 @@
 use mathlib.Core.Path.{_≡_, ap, _∙_, subst}
 use Prim.Native.Nat.{ℕ, _+_, _<_, _≤_}
 use native.Mathlib.Omega.{arith}
-use mathlib.Core.Bool.{Bool, true, false}
 use mathlib.Core.Option.{Option, none}
 use mathlib.Core.List.{List, [], _∷_}
-use lib.ListN.{length, getD}
-use lib.Dec.{eqb}
+use lib.ListN.{length}
 use lib.Seq.{sets}
 use Rattle.fields.proofs.Stores.{sets-then}
 use Rattle.layout.specs.Tree.{branch, Actions, ActionsOf, body}
-use Rattle.layout.specs.Read.{Text, edition1, deepest, Place, got, ifNothingLeft, readBody, readMain}
+use Rattle.layout.specs.Read.{Text, edition1, deepest, Place, got, readBody, readMain}
 use Rattle.layout.specs.Strings.{mapBody}
-use Rattle.layout.specs.Write.{bytes, bodyBytes, bodySize, Position, Event, lookup, events, distanceBits, branchBits, blockBytes, blockSize}
+use Rattle.layout.specs.Write.{bytes, bodyBytes, bodySize, Position, events, distanceBits, branchBits, blockBytes, blockSize}
 use Rattle.layout.specs.Lengths.{length-body}
 use Rattle.layout.specs.Pack.{spelling}
 use Rattle.layout.specs.Judge.{tooFar}
-use Rattle.labels.specs.Table.{recordOf, TableHolds}
-use Rattle.labels.proofs.Labels.{record-of-slot}
+use Rattle.labels.specs.Table.{TableHolds}
+use Rattle.labels.proofs.Labels.{table-record}
 use Rattle.pcode.specs.Shown.{place}
-use Rattle.pcode.proofs.Readings.{Gives, gives, refuses, given, then, itself}
+use Rattle.pcode.proofs.Readings.{given}
 use Rattle.encode.specs.Heads.{tableBits}
 use Rattle.write.specs.Bodies.{lengthOf, nearOf, bodyOf, Room, Wrote, MainWritable, WroteBlock}
 use Rattle.encode_values.specs.declared.Ends.{Ends}
-use Rattle.write.proofs.Labels.{UnderBody, agree-body, body-under}
+use Rattle.pcode.proofs.Trees.{UnderBody, main-body, body-under}
+use Rattle.write.proofs.Labels.{agree-body}
 use Rattle.write.proofs.Nears.{near-body}
 
 -- ---- the main body
 
--- A main body that reads whole is read as a body, with nothing left.
-main-body : (b : List ℕ) (x : ActionsOf Text ℕ) (q : Place) → readMain edition1 b deepest ≡ got x q → readBody edition1 b deepest (place 0) ≡ got x q
-unfolding readMain
-main-body b x q e = given {P = λ y r. readBody edition1 b deepest (place 0) ≡ got y r} (then (itself (readBody edition1 b deepest (place 0))) (λ y r f. left (eqb (r .at) (length b)) y r f)) e
-  where
-    left : (t : Bool) (y : ActionsOf Text ℕ) (r : Place) → readBody edition1 b deepest (place 0) ≡ got y r → Gives (λ z s. readBody edition1 b deepest (place 0) ≡ got z s) (ifNothingLeft t y r)
-    left true y r f = unfold ifNothingLeft in gives f
-    left false y r f = unfold ifNothingLeft in refuses
-
--- The table's record of a label with a slot is the tree's.
-table-record : (tab : List ℕ) (es : List Event) → TableHolds 1024 tab es → (l : ℕ) → l < 1024 → recordOf (getD tab l 0) ≡ lookup l es
-table-record tab es h l k = ap recordOf (h .holds l k) ∙ record-of-slot (lookup l es)
-
--- And so are the bits of a branch to it.
+-- The bits of a branch to a label with a slot are the tree's.
 table-bits : (tab : List ℕ) (t : Actions) → TableHolds 1024 tab (events t) → (l after : ℕ) → l < 1024 → tableBits tab l after ≡ branchBits t l after
 unfolding tableBits branchBits
-table-bits tab t h l after k = ap (λ (o : Option Position). distanceBits o after) (table-record tab (events t) h l k)
+table-bits tab t h l after k = ap (λ (o : Option Position). distanceBits o after) (table-record 1024 tab (events t) h l k)
 
 -- ---- the block
 
@@ -68,7 +54,7 @@ module _ (b tab out : List ℕ) (m : MainWritable b tab out) where
     where
       near-main : (x : ActionsOf Text ℕ) (t : Actions) → mapBody spelling x ≡ t → UnderBody 1024 (mapBody spelling x) → TableHolds 1024 tab (events t)
           → tooFar (events t) (events t) ≡ none → nearOf tab x 0
-      near-main x t i u h k = rw i (near-body (events t) tab (table-record tab (events t) h) t (record { at = 0 }) (subst (UnderBody 1024) i u) (unfold events in k))
+      near-main x t i u h k = rw i (near-body (events t) tab (table-record 1024 tab (events t) h) t (record { at = 0 }) (subst (UnderBody 1024) i u) (unfold events in k))
 
   module _ (mid : List ℕ) (e : Ends) (w : Wrote (readBody edition1 b deepest) lengthOf (λ x. sets out 0 (bodyOf tab x 0)) 0 0 mid e) where
     -- And for the End behind them.

@@ -12,7 +12,7 @@ use Rattle.layout.specs.Judge.{judged, orElse, tooFar}
 use Rattle.layout.specs.Answers.{Refusal}
 use Rattle.labels.specs.Table.{recordOf}
 use Rattle.write.specs.Bodies.{Near, NearActions, NearBody, NearCatch, NearFinally}
-use Rattle.write.proofs.Labels.{Under, UnderActions, UnderBody, UnderCatch, UnderFinally}
+use Rattle.pcode.proofs.Trees.{Under, UnderActions, UnderBody, UnderCatch, UnderFinally}
 
 module _ (all : List Event) where
   -- No branch among these events goes too far.

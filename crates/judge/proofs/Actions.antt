@@ -1,0 +1,328 @@
+-- What is found in a body, in the bodies after a payload and in an action, by what they are made of. Assumes nothing.
+use mathlib.Core.Path.{_≡_, refl, sym, ap, ap₂, _∙_}
+use Prim.Native.Nat.{ℕ, zero, suc, _+_, _-_, _*_, _≤_, _<_}
+use native.Mathlib.Omega.{arith}
+use mathlib.Core.Bool.{Bool, true, false}
+use mathlib.Core.Option.{Option, none, some}
+use mathlib.Core.List.{List, [], _∷_, _++_}
+use lib.ListN.{length, getD}
+use lib.Dec.{ltb, eqb}
+use borrow.Author.Tests.{ltb-true, ltb-false}
+use Rattle.layout.specs.Answers.{Refusal, JumpOffsetOverflow}
+use Rattle.layout.specs.Answers as answers
+use Rattle.layout.specs.Numbers.{u16At}
+use Rattle.layout.specs.OpCode.{opcodeOf}
+use Rattle.layout.specs.Tree.{ActionIndex, nextAction, firstAction, Entry, entry, ActionOf, flat, branch, owner, Try, ActionListOf, empty, more, ActionsOf, body}
+use Rattle.layout.specs.Read.{Text, edition1, Place, Read, got, bad, Reader, chain, repeat, readAction, readActions, readBody, readFieldsIf}
+use Rattle.layout.specs.Strings.{mapAction, mapActions, mapBody}
+use Rattle.layout.specs.Write.{size, sizes, bodySize, Position, moved, Event, eventIf, labelAt, branchAt, labelsAt, trace, traces, traceBody}
+use Rattle.layout.specs.Judge.{orElse, judged}
+use Rattle.layout.specs.Lengths.{total}
+use Rattle.layout.specs.Pack.{spelling}
+use Rattle.laws.specs.ReadFits.{good-got, action-good, body-good}
+use Rattle.laws.specs.Packed.{spells}
+use Rattle.labels.specs.Table.{recordOf}
+use Rattle.labels.specs.declared.BytePosition.{BytePosition}
+use Rattle.operands.specs.Scanned.{placed, Roomy}
+use Rattle.operands.specs.declared.Fault.{Fault}
+use Rattle.payload.specs.Walk.{state, fault, outcome, actionSize, actionTrace, bodyLength, bodyEvents, inBodies, Measure, measure, branches, measured, Laying, flat, to-label, bodies, stops}
+use Rattle.payload.specs.declared.Laid.{Laid}
+use Rattle.payload.specs.declared.Laid.the-variants as laid
+use Rattle.payload.proofs.Runs.{branches-append, branches-payload}
+use Rattle.pcode.specs.Listed.{listed}
+use Rattle.scan.specs.Bodies.{Front, readFront}
+use Rattle.scan.proofs.Fronts.{FrontRead, front-read}
+use Rattle.scan.proofs.Walks.{body-deep, body-less, body-step, action-out, action-in, did-small, did-unknown, ran-is, ran-bad, outcome-is}
+use Rattle.judge.specs.declared.Judged.{Judged}
+use Rattle.judge.specs.declared.Judged.the-variants as code
+use Rattle.judge.specs.Judging.{signed64, farBy, BranchJudged, Judgeable, Judging, near, far}
+use Rattle.judge.proofs.Loops.{inEach, Looping}
+
+-- what was refused was not read
+no-reading : {A X : Type 0} {x : Read A} {f : answers.Fault} {p q : Place} {a : A} → x ≡ bad f p → x ≡ got a q → X
+no-reading e g =
+    let z : _≡_ {A = ℕ} 0 1 = cc in
+    absurd (omega arith)
+
+-- ---- every byte read is written in at most 65,536
+
+pub action-onward : (b : List ℕ) (d p : ℕ) (w x : BytePosition) (a : ActionOf Text ℕ) (q : Place) → Roomy b p w → readAction edition1 b (readBody edition1 b d) (placed p) ≡ got a q → x .0 ≡ w .0 + actionSize a → Roomy b (q .at) x
+action-onward b d p w x a q r e f =
+    let y = good-got a q (action-good edition1 b (r .bytes) spelling (Unit {0}) (spells b (r .bytes) edition1) (readBody edition1 b d) (body-good edition1 b (r .bytes) spelling (Unit {0}) (spells b (r .bytes) edition1) d) (placed p) (r .inside)) e in
+    record { bytes = r .bytes; inside = y .1; room = omega (arith, y .0 .1 tt, y .0 .2, y .1, f, r .room, r .inside) }
+
+pub body-onward : (b : List ℕ) (d p : ℕ) (w x : BytePosition) (a : ActionsOf Text ℕ) (q : Place) → Roomy b p w → readBody edition1 b d (placed p) ≡ got a q → x .0 ≡ w .0 + bodyLength a → Roomy b (q .at) x
+body-onward b d p w x a q r e f =
+    let y = good-got a q (body-good edition1 b (r .bytes) spelling (Unit {0}) (spells b (r .bytes) edition1) d (placed p) (r .inside)) e in
+    record { bytes = r .bytes; inside = y .1; room = omega (arith, y .0 .1 tt, y .0 .2, y .1, f, r .room, r .inside) }
+
+-- ---- a body is its actions, one after the other
+
+listOf : List (ActionOf Text ℕ) → ActionListOf Text ℕ
+listOf [] = empty
+listOf (x ∷ xs) = more x (listOf xs)
+
+actions-as : (b : List ℕ) (inner : Reader (ActionsOf Text ℕ)) (n : ℕ) (p : Place) → readActions edition1 b inner n p ≡ chain (repeat (readAction edition1 b inner) n p) (λ xs q. got (listOf xs) q)
+unfolding readActions repeat listOf
+actions-as b inner zero p = refl
+actions-as b inner (suc n) p = go (readAction edition1 b inner p) (λ q. actions-as b inner n q)
+  where
+    then : (a : ActionOf Text ℕ) (y : Read (List (ActionOf Text ℕ)))
+        → chain (chain y (λ xs q. got (listOf xs) q)) (λ xs r. got (more a xs) r) ≡ chain (chain y (λ xs r. got (a ∷ xs) r)) (λ xs q. got (listOf xs) q)
+    then a (got xs q) = refl
+    then a (bad f q) = refl
+
+    go : (x : Read (ActionOf Text ℕ)) → ((q : Place) → readActions edition1 b inner n q ≡ chain (repeat (readAction edition1 b inner) n q) (λ xs q. got (listOf xs) q))
+        → chain x (λ a q. chain (readActions edition1 b inner n q) (λ xs r. got (more a xs) r))
+        ≡ chain (chain x (λ a q. chain (repeat (readAction edition1 b inner) n q) (λ xs r. got (a ∷ xs) r))) (λ xs q. got (listOf xs) q)
+    go (got a q) h = rw (h q) (then a (repeat (readAction edition1 b inner) n q))
+    go (bad f q) h = refl
+
+sizes-as : (xs : List (ActionOf Text ℕ)) → sizes (mapActions spelling (listOf xs)) ≡ total actionSize xs
+unfolding sizes mapActions listOf total
+sizes-as [] = refl
+sizes-as (x ∷ xs) = omega (arith, sizes-as xs)
+
+-- a label recorded is no branch
+no-branch : (es : List Entry) (i : ActionIndex) (s : Position) → branches (labelsAt es i s) ≡ []
+unfolding branches labelsAt eventIf
+no-branch [] i s = refl
+no-branch (entry l j ∷ es) i s = go (eqb (i .index) (j .index)) (no-branch es i s)
+  where
+    go : (t : Bool) → branches (labelsAt es i s) ≡ [] → branches (eventIf t (labelAt l s) ++ labelsAt es i s) ≡ []
+    go true h = h
+    go false h = h
+
+traces-as : (xs : List (ActionOf Text ℕ)) (es : List Entry) (i : ActionIndex) (w : ℕ)
+    → branches (traces (mapActions spelling (listOf xs)) es i (record { at = w })) ≡ branches (inEach actionSize actionTrace xs w)
+unfolding traces mapActions listOf inEach moved
+traces-as [] es i w = no-branch es i (record { at = w }) ∙ (unfold branches in refl)
+traces-as (x ∷ xs) es i w =
+    let rest : List Event = traces (mapActions spelling (listOf xs)) es (nextAction i) (record { at = w + actionSize x }) in
+    branches-append (labelsAt es i (record { at = w })) (actionTrace x w ++ rest)
+    ∙ ap (λ (l : List Event). l ++ branches (actionTrace x w ++ rest)) (no-branch es i (record { at = w }))
+    ∙ branches-append (actionTrace x w) rest
+    ∙ ap (λ (l : List Event). branches (actionTrace x w) ++ l) (traces-as xs es (nextAction i) (w + actionSize x))
+    ∙ sym (branches-append (actionTrace x w) (inEach actionSize actionTrace xs (w + actionSize x)))
+
+-- measured so
+module _ (b : List ℕ) (d : ℕ) where
+  abbrev pub One : Reader (ActionOf Text ℕ)
+  One = readAction edition1 b (readBody edition1 b d)
+
+  abbrev pub Acting : (tab : List ℕ) → (Judged → Type 0) → ℕ → ℕ → BytePosition → Type 0
+  Acting tab = Looping One actionSize actionTrace b tab (action-onward b d)
+
+  list-each : (es : List Entry) (pos : ℕ) (x : Read (List (ActionOf Text ℕ)))
+      → measured bodyLength bodyEvents pos (chain (chain x (λ xs q. got (listOf xs) q)) (λ xs r. got (body es xs) r)) ≡ measured (total actionSize) (inEach actionSize actionTrace) pos x
+  unfolding measured bodySize traceBody mapBody
+  list-each es pos (got xs q) = ap₂ (λ (n : ℕ) (l : List Event). got (measure n l) q) (ap (λ (n : ℕ). pos + n) (sizes-as xs)) (traces-as xs es firstAction pos)
+  list-each es pos (bad f q) = refl
+
+  -- what the code knows of a body with d + 1 levels that was read
+  pub record Opened (at : ℕ) : Type 0 where
+    pub inside : at + 4 + 4 * u16At b at ≤ length b
+    pub each : (pos : ℕ)
+        → measured bodyLength bodyEvents pos (readBody edition1 b (d + 1) (placed at))
+        ≡ measured (total actionSize) (inEach actionSize actionTrace) pos (repeat One (u16At b (at + 2 + 4 * u16At b at)) (placed (at + 2 + 4 * u16At b at + 2)))
+
+  open-body : (at : ℕ) → at ≤ length b → (x : ActionsOf Text ℕ) (q : Place) → readBody edition1 b (d + 1) (placed at) ≡ got x q → Opened at
+  open-body at h x q e = go (readFront b (placed at)) refl
+    where
+      at-end : {g : Front} (end : ℕ) → readFront b (placed at) ≡ got g (placed end) → FrontRead b at end g → Opened at
+      at-end {g = g} end k f =
+          let m : end ≡ at + 2 + 4 * u16At b at + 2 = omega (arith, f .place) in
+          let n : end - 2 ≡ at + 2 + 4 * u16At b at = omega (arith, f .place) in
+          let c : g .count ≡ u16At b (at + 2 + 4 * u16At b at) = f .counted ∙ ap (u16At b) n in
+          record {
+            inside = omega (arith, f .place, f .inside);
+            each = λ pos. rw (body-step b at d, k, actions-as b (readBody edition1 b d) (g .count) (placed end)) (list-each (g .entries) pos (repeat One (g .count) (placed end)) ∙ ap₂ (λ (i j : ℕ). measured (total actionSize) (inEach actionSize actionTrace) pos (repeat One i (placed j))) c m);
+          }
+
+      go : (y : Read Front) → readFront b (placed at) ≡ y → Opened at
+      go (got g p) k = at-end (p .at) k (front-read b at (p .at) g h k)
+      go (bad f p) k =
+          let y : readBody edition1 b (d + 1) (placed at) ≡ bad f p = body-step b at d ∙ rw k in
+          no-reading y e
+
+-- a measure that was made is of something that was read
+module _ {A : Type 0} (s : A → ℕ) (t : A → ℕ → List Event) (pos : ℕ) where
+  measured-read : (x : Read A) {m : Measure} {q : Place} → measured s t pos x ≡ got m q → (a : A) × (x ≡ got a q)
+  unfolding measured
+  measured-read (got a p) e = (a, ap (got a) (cc))
+  measured-read (bad f p) e =
+      let z : _≡_ {A = ℕ} 0 1 = cc in
+      absurd (omega arith)
+
+  measured-of : {x : Read A} {a : A} {q : Place} → x ≡ got a q → measured s t pos x ≡ got (measure (pos + s a) (branches (t a pos))) q
+  unfolding measured
+  measured-of e = rw e
+
+-- the loop over a body's actions
+module _ (b : List ℕ) (d at : ℕ) (pos : BytePosition) (tab : List ℕ) (j : Judgeable (readBody edition1 b d (placed at)) b at pos tab) where
+  pub is-deep : 0 < d
+  is-deep = go d refl
+    where
+      go : (n : ℕ) → d ≡ n → 0 < d
+      go zero e = no-reading (body-deep b at d e) (j .reads)
+      go (suc n) e = omega (arith, e)
+
+  whole : readBody edition1 b (d - 1 + 1) (placed at) ≡ readBody edition1 b d (placed at)
+  whole = body-less b at d (λ e. omega (arith, e, is-deep))
+
+  opened : Opened b (d - 1) at
+  opened = open-body b (d - 1) at (j .roomy .inside) (j .value) (j .next) (whole ∙ j .reads)
+
+  pub front-inside : at + 4 + 4 * u16At b at ≤ length b
+  front-inside = opened .inside
+
+  pub body-start : (n front count p : ℕ) → n ≡ u16At b at → front ≡ at + 2 + 4 * n → count ≡ u16At b front → p ≡ front + 2
+      → Acting b (d - 1) tab (λ r. Judging tab (measured bodyLength bodyEvents (pos .0) (readBody edition1 b d (placed at))) r) count p pos
+  body-start n front count p e f g h =
+      let k : front ≡ at + 2 + 4 * u16At b at = omega (arith, e, f) in
+      let c : u16At b (at + 2 + 4 * u16At b at) ≡ count = sym (g ∙ ap (u16At b) k) in
+      let m : at + 2 + 4 * u16At b at + 2 ≡ p = omega (arith, h, k) in
+      let i : measured bodyLength bodyEvents (pos .0) (readBody edition1 b d (placed at)) ≡ measured (total actionSize) (inEach actionSize actionTrace) (pos .0) (repeat (One b (d - 1)) count (placed p)) = ap (measured bodyLength bodyEvents (pos .0)) (sym whole) ∙ opened .each (pos .0) ∙ ap₂ (λ (i j : ℕ). measured (total actionSize) (inEach actionSize actionTrace) (pos .0) (repeat (One b (d - 1)) i (placed j))) c m in
+      let y = measured-read (total actionSize) (inEach actionSize actionTrace) (pos .0) (repeat (One b (d - 1)) count (placed p)) (sym i ∙ measured-of bodyLength bodyEvents (pos .0) (j .reads)) in
+      record {
+        rest = λ r v. rw i v;
+        judgeable = record {
+          roomy = record { bytes = j .roomy .bytes; inside = omega (arith, front-inside, m); room = omega (arith, j .roomy .room, j .roomy .inside, front-inside, m) };
+          table = j .table;
+          value = y .0;
+          next = j .next;
+          reads = y .1;
+        };
+      }
+
+-- ---- the bodies after a payload
+
+bodies-as : (xs : List (ActionsOf Text ℕ)) (p : ℕ) → inBodies xs p ≡ inEach bodyLength bodyEvents xs p
+unfolding inBodies inEach
+bodies-as [] p = refl
+bodies-as (x ∷ xs) p = ap (λ (l : List Event). bodyEvents x p ++ l) (bodies-as xs (p + bodyLength x))
+
+module _ (b : List ℕ) (d : ℕ) where
+  abbrev pub Inner : (tab : List ℕ) → (Judged → Type 0) → ℕ → ℕ → BytePosition → Type 0
+  Inner tab = Looping (readBody edition1 b d) bodyLength bodyEvents b tab (body-onward b d)
+
+  pub bodies-start : (n at : ℕ) (pos : BytePosition) (tab : List ℕ) → Judgeable (repeat (readBody edition1 b d) n (placed at)) b at pos tab
+      → Inner tab (λ r. Judging tab (measured (total bodyLength) inBodies (pos .0) (repeat (readBody edition1 b d) n (placed at))) r) n at pos
+  bodies-start n at pos tab j = record { rest = λ r v. rw (same (repeat (readBody edition1 b d) n (placed at))) v; judgeable = j }
+    where
+      same : (x : Read (List (ActionsOf Text ℕ))) → measured (total bodyLength) inBodies (pos .0) x ≡ measured (total bodyLength) (inEach bodyLength bodyEvents) (pos .0) x
+      same (got xs q) = unfold measured in ap (λ (l : List Event). got (measure (pos .0 + total bodyLength xs) (branches l)) q) (bodies-as xs (pos .0))
+      same (bad f q) = unfold measured in refl
+
+-- ---- an action
+
+-- one branch among the events
+far-one : (tab : List ℕ) (n after p : ℕ) (o : Option Refusal) → p + 2 ≡ after → judged (recordOf (getD tab n 0)) after ≡ o → farBy tab (branchAt n (record { at = p }) ∷ []) ≡ o
+unfolding farBy
+far-one tab n after p o e h = rw (e, h) (last o)
+  where
+    last : (o : Option Refusal) → orElse o none ≡ o
+    last none = unfold orElse in refl
+    last (some r) = unfold orElse in refl
+
+-- one that is written in one byte has no branch
+one-byte : (a : ActionOf Text ℕ) (pos : ℕ) → actionSize a ≡ 1 → branches (actionTrace a pos) ≡ []
+unfolding trace mapAction size
+one-byte (flat f) pos e = branches-payload _ _
+one-byte (branch k l) pos e = absurd (omega (arith, e))
+one-byte (owner o x) pos e = absurd (omega (arith, e))
+one-byte (Try x c f) pos e = absurd (omega (arith, e))
+
+module _ (b : List ℕ) (d at : ℕ) (pos : BytePosition) (tab : List ℕ) (j : Judgeable (readAction edition1 b (readBody edition1 b d) (placed at)) b at pos tab) where
+  abbrev Goal : Judged → Type 0
+  Goal r = Judging tab (measured actionSize actionTrace (pos .0) (readAction edition1 b (readBody edition1 b d) (placed at))) r
+
+  pub opcode-inside : at < length b
+  opcode-inside = go (ltb at (length b)) refl
+    where
+      go : (t : Bool) → ltb at (length b) ≡ t → at < length b
+      go true e = ltb-true at (length b) e
+      go false e = no-reading (action-out b d at (ltb-false at (length b) e)) (j .reads)
+
+  -- nothing else was read
+  no-fault : {X : Type 0} {f : Fault} {p : ℕ} → outcome actionSize actionTrace (pos .0) (state [] []) (readAction edition1 b (readBody edition1 b d) (placed at)) ≡ fault f p → X
+  unfolding outcome
+  no-fault e =
+      let y = rw (j .reads) at e in
+      let z : _≡_ {A = ℕ} 0 1 = cc in
+      absurd (omega arith)
+
+  is-near : {q : ℕ} {w : BytePosition} → measured actionSize actionTrace (pos .0) (readAction edition1 b (readBody edition1 b d) (placed at)) ≡ got (measure (w .0) []) (placed q) → Goal (code.Ends q w)
+  unfolding farBy
+  is-near {q = q} {w = w} e = rw e (near {m = measure (w .0) []} {q = placed q} {w = w} refl refl)
+
+  pub small-near : getD b at 0 < 128 → Goal (code.Ends (at + 1) (record { 0 = pos .0 + 1 }))
+  small-near h = go (listed (getD b at 0)) refl
+    where
+      go : (t : Bool) → listed (getD b at 0) ≡ t → Goal (code.Ends (at + 1) (record { 0 = pos .0 + 1 }))
+      go true e =
+          let o = outcome-is actionSize actionTrace (pos .0) (state [] []) (readAction edition1 b (readBody edition1 b d) (placed at)) (ran-is (did-small b d at pos [] [] opcode-inside h e) refl) in
+          is-near {q = at + 1} {w = record { 0 = pos .0 + 1 }} (measured-of actionSize actionTrace (pos .0) (o .1) ∙ ap₂ (λ (n : ℕ) (l : List Event). got (measure n l) (placed (at + 1))) (sym (o .2)) (one-byte (o .0) (pos .0) (omega (arith, o .2))))
+      go false e = no-fault (ran-bad (did-unknown b d at pos [] [] opcode-inside e) refl)
+
+  module _ (l : Laid) (over over′ : List ℕ)
+      (y : Laying (λ inner. readFieldsIf edition1 b inner (opcodeOf (getD b at 0)) (placed at) (placed (at + 1))) at (length b) (pos .0) over over′ l) where
+    abbrev Here : Laid → Type 0
+    Here l = Laying (λ inner. readFieldsIf edition1 b inner (opcodeOf (getD b at 0)) (placed at) (placed (at + 1))) at (length b) (pos .0) over over′ l
+
+    fields : readAction edition1 b (readBody edition1 b d) (placed at) ≡ readFieldsIf edition1 b (readBody edition1 b d) (opcodeOf (getD b at 0)) (placed at) (placed (at + 1))
+    fields = action-in b d at opcode-inside
+
+    pub never-stops : {X : Type 0} (f : Fault) (p : ℕ) → l ≡ laid.Stops f p → X
+    never-stops {X = X} f p e = go (rw e at y)
+      where
+        go : Here (laid.Stops f p) → X
+        go (stops g) = no-fault {f = f} {p = p} (rw fields (g (readBody edition1 b d) (state [] [])))
+
+    pub flat-near : (q : ℕ) (w : BytePosition) → l ≡ laid.Flat q w → Goal (code.Ends q w)
+    flat-near q w e = go (rw e at y)
+      where
+        go : Here (laid.Flat q w) → Goal (code.Ends q w)
+        go (flat g m) = is-near (rw fields (m (readBody edition1 b d)))
+
+    -- a branch's label, and where its operand ends
+    pub branch-asks : (q : ℕ) (w : BytePosition) (n : ℕ) → l ≡ laid.Branch q w n → (n < 1024) × (w .0 ≤ 1099511627776)
+    branch-asks q w n e = go (rw e at y)
+      where
+        go : Here (laid.Branch q w n) → (n < 1024) × (w .0 ≤ 1099511627776)
+        go (to-label i u v g) = (u, omega (arith, i, j .roomy .room, opcode-inside))
+
+    pub branch-found : (q : ℕ) (w : BytePosition) (n : ℕ) (r : Judged) → l ≡ laid.Branch q w n → BranchJudged tab n q (w .0) r → Goal r
+    branch-found q w n r e k = go (rw e at y) k
+      where
+        here : (k : _) → readAction edition1 b (readBody edition1 b d) (placed at) ≡ got (branch k n) (placed q)
+            → measured actionSize actionTrace (pos .0) (readAction edition1 b (readBody edition1 b d) (placed at)) ≡ got (measure (pos .0 + 5) (branchAt n (record { at = pos .0 + 3 }) ∷ [])) (placed q)
+        here k e = measured-of actionSize actionTrace (pos .0) e ∙ (unfold size trace mapAction branches moved in refl)
+
+        go : {r : Judged} → Here (laid.Branch q w n) → BranchJudged tab n q (w .0) r → Goal r
+        go (to-label {k = k} i u v g) (BranchJudged.near {w = x} h m) =
+            let o : pos .0 + 3 + 2 ≡ w .0 = omega (arith, i) in
+            rw (here k (fields ∙ g (readBody edition1 b d))) (near {m = measure (pos .0 + 5) (branchAt n (record { at = pos .0 + 3 }) ∷ [])} {q = placed q} {w = x} (far-one tab n (w .0) (pos .0 + 3) none o h) (m ∙ i))
+        go (to-label {k = k} i u v g) (BranchJudged.far {bits = bits} h) =
+            let o : pos .0 + 3 + 2 ≡ w .0 = omega (arith, i) in
+            rw (here k (fields ∙ g (readBody edition1 b d))) (far {m = measure (pos .0 + 5) (branchAt n (record { at = pos .0 + 3 }) ∷ [])} {q = placed q} {bits = bits} (far-one tab n (w .0) (pos .0 + 3) (some (JumpOffsetOverflow (signed64 bits))) o h))
+
+    pub bodies-asks : (q : ℕ) (w : BytePosition) (n : ℕ) → l ≡ laid.Bodies q w n → Judgeable (repeat (readBody edition1 b d) n (placed q)) b q w tab
+    bodies-asks q w n e = go (rw e at y)
+      where
+        go : Here (laid.Bodies q w n) → Judgeable (repeat (readBody edition1 b d) n (placed q)) b q w tab
+        go (bodies o g m) =
+            let r = measured-read (total bodyLength) inBodies (w .0) (repeat (readBody edition1 b d) n (placed q)) (sym (m (readBody edition1 b d)) ∙ ap (measured actionSize actionTrace (pos .0)) (sym fields) ∙ measured-of actionSize actionTrace (pos .0) (j .reads)) in
+            record {
+              roomy = record { bytes = j .roomy .bytes; inside = o .within; room = omega (arith, j .roomy .room, j .roomy .inside, o .beyond, o .within, o .written) };
+              table = j .table;
+              value = r .0;
+              next = j .next;
+              reads = r .1;
+            }
+
+    pub bodies-found : (q : ℕ) (w : BytePosition) (n : ℕ) (r : Judged) → l ≡ laid.Bodies q w n → Judging tab (measured (total bodyLength) inBodies (w .0) (repeat (readBody edition1 b d) n (placed q))) r → Goal r
+    bodies-found q w n r e k = go (rw e at y)
+      where
+        go : Here (laid.Bodies q w n) → Goal r
+        go (bodies o g m) = rw (fields, m (readBody edition1 b d)) k

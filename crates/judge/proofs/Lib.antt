@@ -1,0 +1,4 @@
+pub mod Distances
+pub mod Loops
+pub mod Actions
+pub mod Mains

@@ -1,0 +1,87 @@
+-- What judging asks and what it finds: the first branch in writing order that goes too far, by the label table. Assumes nothing.
+use mathlib.Core.Path.{_≡_}
+use Prim.Native.Nat.{ℕ, _+_, _-_, _≤_}
+use mathlib.Core.Bool.{Bool, true, false}
+use mathlib.Core.Option.{Option, none, some}
+use mathlib.Core.List.{List, [], _∷_}
+use lib.ListN.{length, getD}
+use lib.IntN.{ℤ, pos, negsuc}
+use lib.Dec.{ltb}
+use Rattle.layout.specs.Answers.{Refusal, JumpOffsetOverflow}
+use Rattle.layout.specs.Tree.{Actions}
+use Rattle.layout.specs.Read.{Place, Read, got}
+use Rattle.layout.specs.Write.{Event, labelAt, branchAt, payloadTooLong, bodyTooLong, events, bodySize}
+use Rattle.layout.specs.Judge.{orElse, judged, tooFar}
+use Rattle.laws.specs.Fits.{Bytes}
+use Rattle.laws.specs.Packed.{ReadsMain}
+use Rattle.labels.specs.Table.{recordOf, TableHolds}
+use Rattle.labels.specs.declared.BytePosition.{BytePosition}
+use Rattle.operands.specs.Scanned.{Roomy}
+use Rattle.payload.specs.Walk.{Measure}
+use Rattle.judge.specs.declared.Judged.{Judged}
+use Rattle.judge.specs.declared.Judged.the-variants as code
+use Rattle.judge.specs.declared.Verdict.{Verdict}
+use Rattle.judge.specs.declared.Verdict.the-variants as verdict
+
+-- ---- a distance
+
+-- the signed number that 64 bits stand for
+unfoldable pub signedIf : Bool → ℕ → ℤ
+signedIf true bits = pos bits
+signedIf false bits = negsuc (18446744073709551615 - bits)
+
+unfoldable pub signed64 : ℕ → ℤ
+signed64 bits = signedIf (ltb bits 9223372036854775808) bits
+
+-- ---- by the table
+
+-- the first branch among these that goes too far
+unfoldable pub farBy : List ℕ → List Event → Option Refusal
+farBy tab [] = none
+farBy tab (labelAt l s ∷ es) = farBy tab es
+farBy tab (branchAt l s ∷ es) = orElse (judged (recordOf (getD tab l 0)) (s .at + 2)) (farBy tab es)
+farBy tab (payloadTooLong n s ∷ es) = farBy tab es
+farBy tab (bodyTooLong n s ∷ es) = farBy tab es
+
+-- a slot for each label, and every position far from overflow
+pub record Table (tab : List ℕ) : Type 0 where
+  pub slots : length tab ≡ 1024
+  pub small : (l : ℕ) → getD tab l 0 ≤ 1099511627777
+
+-- one branch to a label, whose operand ends at a place and at a position
+pub data BranchJudged (tab : List ℕ) (label next after : ℕ) : Judged → Type 0 where
+  near : {w : BytePosition} → judged (recordOf (getD tab label 0)) after ≡ none → w .0 ≡ after → BranchJudged tab label next after (code.Ends next w)
+  far : {bits : ℕ} → judged (recordOf (getD tab label 0)) after ≡ some (JumpOffsetOverflow (signed64 bits)) → BranchJudged tab label next after (code.Far bits)
+
+-- what is asked of a place and a position: that something reads there
+pub record Judgeable {A : Type 0} (read : Read A) (b : List ℕ) (at : ℕ) (pos : BytePosition) (tab : List ℕ) : Type 0 where
+  pub roomy : Roomy b at pos
+  pub table : Table tab
+  pub value : A
+  pub next : Place
+  pub reads : read ≡ got value next
+
+-- what is found there: where it ends, or the distance of the first branch that goes too far
+pub data Judging (tab : List ℕ) : Read Measure → Judged → Type 0 where
+  near : {m : Measure} {q : Place} {w : BytePosition} → farBy tab (m .branching) ≡ none → w .0 ≡ m .end → Judging tab (got m q) (code.Ends (q .at) w)
+  far : {m : Measure} {q : Place} {bits : ℕ} → farBy tab (m .branching) ≡ some (JumpOffsetOverflow (signed64 bits)) → Judging tab (got m q) (code.Far bits)
+
+-- ---- a whole main body
+
+-- what is asked: it reads whole, as far as position `end`, and the table holds its labels
+pub record MainJudgeable (b : List ℕ) (end : BytePosition) (tab : List ℕ) : Type 0 where
+  pub bytes : Bytes b
+  pub tree : Actions
+  pub reads : ReadsMain b tree
+  pub is-end : end .0 ≡ bodySize tree
+  pub holds : TableHolds 1024 tab (events tree)
+  pub limited : length b ≤ 1048576
+
+-- what the verdict says: no branch goes too far, or 10 and its value
+pub data Says : Option Refusal → Verdict → Type 0 where
+  near : Says none verdict.Near
+  far : {bits : ℕ} → Says (some (JumpOffsetOverflow (signed64 bits))) (verdict.Far bits)
+
+-- for whatever tree it is found to read as
+pub record MainJudged (b : List ℕ) (r : Verdict) : Type 0 where
+  pub says : (t : Actions) → ReadsMain b t → Says (tooFar (events t) (events t)) r
