@@ -1,0 +1,40 @@
+-- `pack::pack_whole` meets its contract: what the walk noted is 8 or 9, or nothing is too long. Assumes nothing.
+use Rattle.pack.proofs.Packs as packs
+use borrow.Author.Needs.{needs}
+use Rattle.pack.proofs.pack_whole.Statement.{statement}
+use Rattle.pack.proofs.pack_whole.Tie as tie
+
+shared-slice-read-noted : tie.Need-shared-slice-read-noted
+shared-slice-read-noted c = search needs
+
+shared-slice-read-n : tie.Need-shared-slice-read-n
+shared-slice-read-n c = search needs
+
+returns : tie.Need-returns
+returns c = packs.whole-8 _ _ _ _ (c .before .before .before .before .before .before .before .pre) (c .if1 .taken) _
+
+returns-2 : tie.Need-returns-2
+returns-2 c = packs.whole-9 _ _ _ _ (c .before .before .before .before .before .before .before .before .pre) (c .if2 .taken) _
+
+pack-short-requires : tie.Need-pack-short-requires
+pack-short-requires c κs =
+    let m = c .before .before in
+    packs.whole-short _ _ _ _ (m .before .before .before .before .before .before .before .pre) (m .if1 .left) (c .before .if2 .left)
+
+same-length : tie.Need-same-length
+same-length c = search needs
+
+returns-3 : tie.Need-returns-3
+returns-3 c = search needs
+
+pub pack-whole-spec : {M : Type 1} → statement M
+pack-whole-spec =
+    tie.close
+    (tie.spec
+    shared-slice-read-noted
+    shared-slice-read-n
+    returns
+    returns-2
+    pack-short-requires
+    same-length
+    returns-3)

@@ -1,0 +1,12 @@
+-- `pack_long::space` meets its contract: it has as many bytes as it says.
+use lib.ListN.{length-replicate}
+use Prim.Native.Nat.{ℕ}
+use mathlib.Core.Path.{sym}
+use Rattle.pack_long.proofs.space.Statement.{statement}
+use Rattle.pack_long.proofs.space.Tie as tie
+
+returns : tie.Need-returns
+returns c = sym (length-replicate {A = ℕ} 1048578 0)
+
+pub space-spec : {M : Type 1} → statement M
+space-spec = tie.close (tie.spec returns)
