@@ -16,6 +16,7 @@ use Rattle.layout.specs.Tree.{ActionIndex, nextAction, firstAction, Entry, entr
 use Rattle.layout.specs.Read.{Text, edition1, Place, Read, got, bad, Reader, chain, repeat, readAction, readActions, readBody, readFieldsIf}
 use Rattle.layout.specs.Strings.{mapAction, mapActions, mapBody}
 use Rattle.layout.specs.Write.{size, sizes, bodySize, Position, moved, Event, eventIf, labelAt, branchAt, labelsAt, trace, traces, traceBody}
+use Rattle.layout.specs.Order.{signed64}
 use Rattle.layout.specs.Judge.{orElse, judged}
 use Rattle.layout.specs.Lengths.{total}
 use Rattle.layout.specs.Pack.{spelling}
@@ -35,7 +36,7 @@ use Rattle.scan.proofs.Fronts.{FrontRead, front-read}
 use Rattle.scan.proofs.Walks.{body-deep, body-less, body-step, action-out, action-in, did-small, did-unknown, ran-is, ran-bad, outcome-is}
 use Rattle.judge.specs.declared.Judged.{Judged}
 use Rattle.judge.specs.declared.Judged.the-variants as code
-use Rattle.judge.specs.Judging.{signed64, farBy, BranchJudged, Judgeable, Judging, near, far}
+use Rattle.judge.specs.Judging.{farBy, BranchJudged, Judgeable, Judging, near, far}
 use Rattle.judge.proofs.Loops.{inEach, Looping}
 
 -- what was refused was not read

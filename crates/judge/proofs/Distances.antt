@@ -1,50 +1,36 @@
 -- A branch judged by its distance's bits. Assumes nothing.
 use mathlib.Core.Path.{_≡_, refl, ap, _∙_}
-use Prim.Native.Nat.{ℕ, zero, suc, _-_, _%_, _≤_, _<_}
+use Prim.Native.Nat.{ℕ, zero, suc, _-_, _≤_, _<_}
 use native.Mathlib.Omega.{arith}
 use mathlib.Core.Bool.{Bool, true, false, not}
 use mathlib.Core.List.{List}
 use lib.ListN.{getD}
 use lib.Dec.{leb}
 use lib.IntN.{pos, negsuc, subℕ}
-use borrow.Author.Tests.{lt-ltb, le-ltb, leb-true, leb-false}
+use borrow.Author.Tests.{leb-true, leb-false}
 use Rattle.layout.specs.Numbers.{bits64}
+use Rattle.layout.specs.Order.{zeroUp, below, signed64, bits-back}
 use Rattle.layout.specs.Judge.{distance, farUnless, judged}
 use Rattle.laws.specs.Demands.{sub-up, sub-down}
 use Rattle.labels.specs.Table.{recordOf, IsFar}
 use Rattle.labels.proofs.Labels.{judged-by}
 use Rattle.labels.specs.declared.BytePosition.{BytePosition}
 use Rattle.judge.specs.declared.Judged.the-variants as code
-use Rattle.judge.specs.Judging.{signedIf, signed64, Table, BranchJudged}
+use Rattle.judge.specs.Judging.{Table, BranchJudged}
 
--- the bits of a number that an i64 holds give it back
-signed-up : (n : ℕ) → n < 9223372036854775808 → signed64 (bits64 (pos n)) ≡ pos n
-unfolding signed64 signedIf bits64
-signed-up n h =
-    let e : n % 18446744073709551616 ≡ n = omega (arith, h) in
-    rw (e, lt-ltb n 9223372036854775808 h)
-
-signed-down : (n : ℕ) → n < 9223372036854775808 → signed64 (bits64 (negsuc n)) ≡ negsuc n
-unfolding signed64 signedIf bits64
-signed-down n h =
-    let e : n % 18446744073709551616 ≡ n = omega (arith, h) in
-    let m : 9223372036854775808 ≤ 18446744073709551615 - n = omega (arith, h) in
-    let k : 18446744073709551615 - (18446744073709551615 - n) ≡ n = omega (arith, h) in
-    rw (e, le-ltb (18446744073709551615 - n) 9223372036854775808 m, k)
-
--- so of a distance between two positions
+-- a distance between two positions is what an i64 can hold
 signed-sub : (to after : ℕ) → to < 9223372036854775808 → after < 9223372036854775808 → signed64 (bits64 (subℕ to after)) ≡ subℕ to after
 signed-sub to after h k = go (leb after to) refl
   where
     go : (t : Bool) → leb after to ≡ t → signed64 (bits64 (subℕ to after)) ≡ subℕ to after
-    go true e = rw (sub-up to after (leb-true after to e)) (signed-up (to - after) (omega (arith, h)))
+    go true e = rw (sub-up to after (leb-true after to e)) (bits-back (pos (to - after)) (zeroUp (omega (arith, h))))
     go false e =
         let l : to < after = leb-false after to e in
-        rw (sub-down to after l) (signed-down (after - suc to) (omega (arith, k, l)))
+        rw (sub-down to after l) (bits-back (negsuc (after - suc to)) (below (omega (arith, k, l))))
 
 signed-distance : (slot after : ℕ) → slot < 9223372036854775808 → after < 9223372036854775808 → signed64 (bits64 (distance (recordOf slot) after)) ≡ distance (recordOf slot) after
 unfolding recordOf distance
-signed-distance zero after h k = signed-up 0 (omega arith)
+signed-distance zero after h k = bits-back (pos 0) (zeroUp (omega arith))
 signed-distance (suc n) after h k = signed-sub n after (omega (arith, h)) k
 
 module _ (tab : List ℕ) (label : ℕ) (w : BytePosition) (next bits : ℕ) (far : Bool) (t : Table tab) (h : w .0 ≤ 1099511627776)

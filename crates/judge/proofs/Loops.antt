@@ -7,6 +7,7 @@ use mathlib.Core.List.{List, [], _∷_, _++_}
 use Rattle.layout.specs.Answers.{Refusal, JumpOffsetOverflow}
 use Rattle.layout.specs.Read.{Place, Read, got, bad, Reader, repeat}
 use Rattle.layout.specs.Write.{Event, labelAt, branchAt, payloadTooLong, bodyTooLong}
+use Rattle.layout.specs.Order.{signed64}
 use Rattle.layout.specs.Judge.{orElse, judged}
 use Rattle.layout.specs.Lengths.{total}
 use Rattle.labels.specs.declared.BytePosition.{BytePosition}
@@ -16,7 +17,7 @@ use Rattle.payload.proofs.Runs.{branches-append}
 use Rattle.scan.proofs.Walks.{repeat-none, repeat-more}
 use Rattle.judge.specs.declared.Judged.{Judged}
 use Rattle.judge.specs.declared.Judged.the-variants as code
-use Rattle.judge.specs.Judging.{signed64, farBy, Judgeable, Judging, near, far}
+use Rattle.judge.specs.Judging.{farBy, Judgeable, Judging, near, far}
 
 -- ---- by the table
 

@@ -1,13 +1,11 @@
 -- What judging asks and what it finds: the first branch in writing order that goes too far, by the label table. Assumes nothing.
 use mathlib.Core.Path.{_≡_}
-use Prim.Native.Nat.{ℕ, _+_, _-_, _≤_}
-use mathlib.Core.Bool.{Bool, true, false}
+use Prim.Native.Nat.{ℕ, _+_, _≤_}
 use mathlib.Core.Option.{Option, none, some}
 use mathlib.Core.List.{List, [], _∷_}
 use lib.ListN.{length, getD}
-use lib.IntN.{ℤ, pos, negsuc}
-use lib.Dec.{ltb}
 use Rattle.layout.specs.Answers.{Refusal, JumpOffsetOverflow}
+use Rattle.layout.specs.Order.{signed64}
 use Rattle.layout.specs.Tree.{Actions}
 use Rattle.layout.specs.Read.{Place, Read, got}
 use Rattle.layout.specs.Write.{Event, labelAt, branchAt, payloadTooLong, bodyTooLong, events, bodySize}
@@ -22,16 +20,6 @@ use Rattle.judge.specs.declared.Judged.{Judged}
 use Rattle.judge.specs.declared.Judged.the-variants as code
 use Rattle.judge.specs.declared.Verdict.{Verdict}
 use Rattle.judge.specs.declared.Verdict.the-variants as verdict
-
--- ---- a distance
-
--- the signed number that 64 bits stand for
-unfoldable pub signedIf : Bool → ℕ → ℤ
-signedIf true bits = pos bits
-signedIf false bits = negsuc (18446744073709551615 - bits)
-
-unfoldable pub signed64 : ℕ → ℤ
-signed64 bits = signedIf (ltb bits 9223372036854775808) bits
 
 -- ---- by the table
 

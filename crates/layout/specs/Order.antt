@@ -106,7 +106,8 @@ unfolding bits64
 bits-small (pos n) = omega arith
 bits-small (negsuc n) = omega arith
 
-bits-back : (z : ℤ) → IsI64 z → signed64 (bits64 z) ≡ z
+-- the bits of what an i64 can hold give it back
+pub bits-back : (z : ℤ) → IsI64 z → signed64 (bits64 z) ≡ z
 unfolding bits64 signed64 pick
 bits-back (pos n) (zeroUp h) =
     let e : n % 18446744073709551616 ≡ n = omega arith in

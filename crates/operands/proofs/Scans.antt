@@ -9,7 +9,7 @@ use Rattle.labels.specs.declared.BytePosition.{BytePosition}
 use Rattle.operands.specs.declared.Fault.{Fault}
 use Rattle.operands.specs.declared.Scan.{Scan}
 use Rattle.operands.specs.declared.Scan.the-variants as scan
-use Rattle.operands.specs.Scanned.{placed, faultOf, scanned}
+use Rattle.operands.specs.Scanned.{placed, faultOf, meant, scanned}
 
 module _ {A : Type 0} (size : A → ℕ) (pos : ℕ) where
   -- an answer that ends says what was read
@@ -72,3 +72,12 @@ pub number-as : {A B : Type 0} (t : Bool) (p q : Place) (a : A) (c : B) (w : ℕ
 unfolding ifWhole scanned
 number-as true p q a c w = refl
 number-as false p q a c w = refl
+
+-- a fault's name and back
+pub meant-back : (f : answers.Fault) → meant (faultOf f) ≡ f
+unfolding meant faultOf
+meant-back answers.CutShort = refl
+meant-back answers.UnknownCode = refl
+meant-back answers.BadField = refl
+meant-back answers.TooDeep = refl
+meant-back answers.LeftOver = refl

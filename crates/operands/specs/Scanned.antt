@@ -16,13 +16,20 @@ use Rattle.operands.specs.declared.Scan.the-variants as scan
 abbrev pub placed : ℕ → Place
 placed n = record { at = n }
 
--- the code's name of a fault
+-- the code's name of a fault, and back
 unfoldable pub faultOf : answers.Fault → Fault
 faultOf answers.CutShort = fault.CutShort
 faultOf answers.UnknownCode = fault.UnknownCode
 faultOf answers.BadField = fault.BadField
 faultOf answers.TooDeep = fault.TooDeep
 faultOf answers.LeftOver = fault.LeftOver
+
+unfoldable pub meant : Fault → answers.Fault
+meant fault.CutShort = answers.CutShort
+meant fault.UnknownCode = answers.UnknownCode
+meant fault.BadField = answers.BadField
+meant fault.TooDeep = answers.TooDeep
+meant fault.LeftOver = answers.LeftOver
 
 -- what was read is written in `size` bytes from position `pos` on
 unfoldable pub scanned : {A : Type 0} → (A → ℕ) → ℕ → Read A → Scan

@@ -26,16 +26,18 @@ use Rattle.labels.specs.declared.BytePosition.{BytePosition}
 use Rattle.operands.specs.declared.Fault.{Fault}
 use Rattle.operands.specs.declared.Scan.{Scan}
 use Rattle.operands.specs.declared.Scan.the-variants as scan
-use Rattle.operands.specs.Scanned.{faultOf}
+use Rattle.operands.specs.Scanned.{faultOf, meant}
+use Rattle.operands.proofs.Scans.{meant-back}
 use Rattle.scan.specs.Bodies.{Holds, MainScanned, whole, stopped}
 use Rattle.write.specs.Bodies.{MainWritable, WroteBlock}
 use Rattle.cut.specs.Cuts as cuts
 use Rattle.cut.specs.declared.CutMain.{CutMain}
 use Rattle.cut.specs.declared.CutMain.the-variants as cutMain
-use Rattle.judge.specs.Judging.{signed64, Says, near, far, MainJudged}
+use Rattle.layout.specs.Order.{signed64}
+use Rattle.judge.specs.Judging.{Says, near, far, MainJudged}
 use Rattle.judge.specs.declared.Verdict.{Verdict}
 use Rattle.judge.specs.declared.Verdict.the-variants as verdict
-use Rattle.pack.specs.Answered.{number, value, Answered, meant, TellsFault, MainWhole, MainShort, MainNear, MainPacked}
+use Rattle.pack.specs.Answered.{number, value, Answered, TellsFault, MainWhole, MainShort, MainNear, MainPacked}
 use Rattle.pack.specs.declared.Answer.{Answer}
 use Rattle.pack.specs.declared.Answer.the-variants as answer
 
@@ -254,15 +256,6 @@ record Stopped (b : List ℕ) (f : Fault) (p : ℕ) : Type 0 where
   pub is-read : readMain edition1 b deepest ≡ bad fault next
   pub is-fault : faultOf fault ≡ f
   pub is-place : next .at ≡ p
-
--- The code's name of a fault means it.
-meant-back : (f : answers.Fault) → meant (faultOf f) ≡ f
-unfolding meant faultOf
-meant-back answers.CutShort = refl
-meant-back answers.UnknownCode = refl
-meant-back answers.BadField = refl
-meant-back answers.TooDeep = refl
-meant-back answers.LeftOver = refl
 
 module _ (b tab over : List ℕ) (s : Scan) (m : MainScanned tab over (readMain edition1 b deepest) s) (f : Fault) (p : ℕ) (e : s ≡ scan.Stops f p) where
   -- What the walk that stops leaves.

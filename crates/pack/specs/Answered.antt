@@ -14,9 +14,10 @@ use Rattle.layout.specs.Pack.{packTree, output}
 use Rattle.laws.specs.Packed.{ReadsMain}
 use Rattle.labels.specs.declared.BytePosition.{BytePosition}
 use Rattle.operands.specs.declared.Fault.{Fault}
-use Rattle.operands.specs.declared.Fault.the-variants as fault
+use Rattle.operands.specs.Scanned.{meant}
 use Rattle.scan.specs.Bodies.{Holds}
-use Rattle.judge.specs.Judging.{signed64, MainJudgeable}
+use Rattle.layout.specs.Order.{signed64}
+use Rattle.judge.specs.Judging.{MainJudgeable}
 use Rattle.pack.specs.declared.Answer.{Answer}
 use Rattle.pack.specs.declared.Answer.the-variants as answer
 
@@ -58,14 +59,6 @@ pub record Answered (a : answers.Answer (List ℕ)) (o : List ℕ) (r : Answer) 
   pub holds : after ≡ output a o
 
 -- ---- the steps
-
--- the definitions' name of a fault
-unfoldable pub meant : Fault → answers.Fault
-meant fault.CutShort = answers.CutShort
-meant fault.UnknownCode = answers.UnknownCode
-meant fault.BadField = answers.BadField
-meant fault.TooDeep = answers.TooDeep
-meant fault.LeftOver = answers.LeftOver
 
 -- r tells a fault and its place in the sheet
 abbrev pub TellsFault : Fault → ℕ → Answer → Type 0

@@ -1,6 +1,8 @@
 // The packer: a sheet's block in the lent output, or one of 1 to 11.
+ghost use mathlib.Core.Path.{_≡_};
 ghost use Prim.Native.Nat.{_≤_};
 ghost use lib.ListN.{length};
+ghost use Rattle.layout.specs.Numbers.{bits64};
 ghost use Rattle.layout.specs.Read.{edition1, deepest, readMain};
 ghost use Rattle.layout.specs.Pack.{packRead, Outcome};
 ghost use Rattle.pack.specs.Answered.{number, value, Answered, TellsFault, MainWhole, MainShort, MainNear, MainPacked};
@@ -30,6 +32,46 @@ pub enum Answer {
     NoRoom(usize),
 }
 
+// The answer's number.
+pub fn number_of(a: Answer) -> u32
+    ensures { λ r. ⌜ r ≡ number a ⌝ }
+{
+    match a {
+        Answer::Done(_) => 0,
+        Answer::SheetTooLong(_) => 1,
+        Answer::BadTrailer => 2,
+        Answer::CutShort(_) => 3,
+        Answer::UnknownCode(_) => 4,
+        Answer::BadField(_) => 5,
+        Answer::TooDeep(_) => 6,
+        Answer::LeftOver(_) => 7,
+        Answer::ActionLenOverflow(_) => 8,
+        Answer::BlockLenOverflow(_) => 9,
+        Answer::JumpOffsetOverflow(_) => 10,
+        Answer::NoRoom(_) => 11,
+    }
+}
+
+// The 64 bits of the answer's value.
+pub fn value_of(a: Answer) -> u64
+    ensures { λ r. ⌜ r ≡ bits64 (value a) ⌝ }
+{
+    match a {
+        Answer::Done(n) => n as u64,
+        Answer::SheetTooLong(n) => n as u64,
+        Answer::BadTrailer => 0,
+        Answer::CutShort(p) => p as u64,
+        Answer::UnknownCode(p) => p as u64,
+        Answer::BadField(p) => p as u64,
+        Answer::TooDeep(p) => p as u64,
+        Answer::LeftOver(p) => p as u64,
+        Answer::ActionLenOverflow(n) => n as u64,
+        Answer::BlockLenOverflow(n) => n as u64,
+        Answer::JumpOffsetOverflow(bits) => bits,
+        Answer::NoRoom(n) => n as u64,
+    }
+}
+
 // 3 to 7, at a place of the sheet.
 fn fault_answer(f: Fault, place: usize) -> Answer
     ensures { λ r. ⌜ TellsFault f place r ⌝ }
@@ -57,7 +99,7 @@ fn pack_near(b: &[u8], end: BytePosition, tab: &[usize], out: &mut [u8]) -> Answ
     Answer::Done(len)
 }
 
-// A main body in which nothing is too long: 10, or as its branches are near.
+// A main body in which nothing is too long: 10 where a branch goes too far, else 11 or 0.
 fn pack_short(b: &[u8], end: BytePosition, tab: &[usize], out: &mut [u8]) -> Answer
     requires { ⌜ MainShort (now b) end (now tab) ⌝ }
     ensures { λ r. ⌜ MainPacked (now (b .entry)) (now (out .entry)) r (now (out .exit)) ⌝ }
@@ -68,7 +110,7 @@ fn pack_short(b: &[u8], end: BytePosition, tab: &[usize], out: &mut [u8]) -> Ans
     }
 }
 
-// A main body that reads whole: 8 or 9 where the walk noted it in `over`, or as nothing is too long.
+// A main body that reads whole: 8 or 9 where the walk noted it in `over`, else 10, 11 or 0.
 fn pack_whole(b: &[u8], end: BytePosition, tab: &[usize], over: &[usize], out: &mut [u8]) -> Answer
     requires { ⌜ MainWhole (now b) end (now tab) (now over) ⌝ }
     ensures { λ r. ⌜ MainPacked (now (b .entry)) (now (out .entry)) r (now (out .exit)) ⌝ }
@@ -84,7 +126,7 @@ fn pack_whole(b: &[u8], end: BytePosition, tab: &[usize], over: &[usize], out: &
     pack_short(b, end, tab, out)
 }
 
-// The main body, which starts at `start` of the sheet: 3 to 7, or as it reads whole.
+// The main body, which starts at `start` of the sheet: 3 to 7 where it does not read whole, else 8 to 11 or 0.
 fn pack_main(b: &[u8], start: usize, out: &mut [u8]) -> Answer
     requires { ⌜ (length (now b) ≤ 1048576) × (start ≤ 1048576) ⌝ }
     ensures { λ r. ⌜ Answered (packRead start (readMain edition1 (now (b .entry)) deepest) (length (now (out .entry)))) (now (out .entry)) r (now (out .exit)) ⌝ }

@@ -10,47 +10,14 @@ use io::write_all;
 use libc::STDIN_FILENO;
 use libc::STDOUT_FILENO;
 use pack::Answer;
+use pack::number_of;
+use pack::value_of;
 
 // Two bytes more than the longest sheet has.
 fn space() -> [u8; 1048578]
     ensures { λ r. ⌜ 1048578 ≡ length r ⌝ }
 {
     [0; 1048578]
-}
-
-fn number_of(answer: Answer) -> u64 {
-    match answer {
-        Answer::Done(_) => 0,
-        Answer::SheetTooLong(_) => 1,
-        Answer::BadTrailer => 2,
-        Answer::CutShort(_) => 3,
-        Answer::UnknownCode(_) => 4,
-        Answer::BadField(_) => 5,
-        Answer::TooDeep(_) => 6,
-        Answer::LeftOver(_) => 7,
-        Answer::ActionLenOverflow(_) => 8,
-        Answer::BlockLenOverflow(_) => 9,
-        Answer::JumpOffsetOverflow(_) => 10,
-        Answer::NoRoom(_) => 11,
-    }
-}
-
-// The value's 64 bits.
-fn value_of(answer: Answer) -> u64 {
-    match answer {
-        Answer::Done(n) => n as u64,
-        Answer::SheetTooLong(n) => n as u64,
-        Answer::BadTrailer => 0,
-        Answer::CutShort(p) => p as u64,
-        Answer::UnknownCode(p) => p as u64,
-        Answer::BadField(p) => p as u64,
-        Answer::TooDeep(p) => p as u64,
-        Answer::LeftOver(p) => p as u64,
-        Answer::ActionLenOverflow(n) => n as u64,
-        Answer::BlockLenOverflow(n) => n as u64,
-        Answer::JumpOffsetOverflow(bits) => bits,
-        Answer::NoRoom(n) => n as u64,
-    }
 }
 
 // The signed number that has these 64 bits.
@@ -77,7 +44,7 @@ fn adler32(bytes: &[u8]) -> u64 {
 }
 
 fn write_line(answer: Answer, out: &[u8]) {
-    print_decimal(STDOUT_FILENO, number_of(answer));
+    print_decimal(STDOUT_FILENO, number_of(answer) as u64);
     write_all(STDOUT_FILENO, b" ");
     write_signed(value_of(answer));
     write_all(STDOUT_FILENO, b" ");

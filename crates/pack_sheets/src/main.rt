@@ -7,44 +7,11 @@ use io::write_all;
 use libc::STDIN_FILENO;
 use libc::STDOUT_FILENO;
 use pack::Answer;
+use pack::number_of;
+use pack::value_of;
 
 // What every byte of the output holds before a sheet is packed.
 const FRESH: u8 = 0xA5;
-
-fn number_of(answer: Answer) -> u64 {
-    match answer {
-        Answer::Done(_) => 0,
-        Answer::SheetTooLong(_) => 1,
-        Answer::BadTrailer => 2,
-        Answer::CutShort(_) => 3,
-        Answer::UnknownCode(_) => 4,
-        Answer::BadField(_) => 5,
-        Answer::TooDeep(_) => 6,
-        Answer::LeftOver(_) => 7,
-        Answer::ActionLenOverflow(_) => 8,
-        Answer::BlockLenOverflow(_) => 9,
-        Answer::JumpOffsetOverflow(_) => 10,
-        Answer::NoRoom(_) => 11,
-    }
-}
-
-// The value's 64 bits.
-fn value_of(answer: Answer) -> u64 {
-    match answer {
-        Answer::Done(n) => n as u64,
-        Answer::SheetTooLong(n) => n as u64,
-        Answer::BadTrailer => 0,
-        Answer::CutShort(p) => p as u64,
-        Answer::UnknownCode(p) => p as u64,
-        Answer::BadField(p) => p as u64,
-        Answer::TooDeep(p) => p as u64,
-        Answer::LeftOver(p) => p as u64,
-        Answer::ActionLenOverflow(n) => n as u64,
-        Answer::BlockLenOverflow(n) => n as u64,
-        Answer::JumpOffsetOverflow(bits) => bits,
-        Answer::NoRoom(n) => n as u64,
-    }
-}
 
 // The signed number that has these 64 bits.
 fn write_signed(bits: u64) {
@@ -108,7 +75,7 @@ fn write_done(answer: Answer, out: &[u8]) -> usize {
 }
 
 fn write_line(answer: Answer, out: &[u8]) {
-    print_decimal(STDOUT_FILENO, number_of(answer));
+    print_decimal(STDOUT_FILENO, number_of(answer) as u64);
     write_all(STDOUT_FILENO, b" ");
     write_signed(value_of(answer));
     let kept = write_done(answer, out);

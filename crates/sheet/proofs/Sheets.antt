@@ -18,22 +18,15 @@ use Rattle.labels.specs.declared.BytePosition.{BytePosition}
 use Rattle.operands.specs.declared.Fault.{Fault}
 use Rattle.operands.specs.declared.Scan.{Scan}
 use Rattle.operands.specs.declared.Scan.the-variants as scan
-use Rattle.operands.specs.Scanned.{faultOf}
+use Rattle.operands.specs.Scanned.{faultOf, meant}
+use Rattle.operands.proofs.Scans.{meant-back}
 use Rattle.scan.specs.Bodies.{MainScanned, whole, stopped}
 use Rattle.cut.specs.Cuts as cuts
 use Rattle.cut.specs.declared.CutMain.{CutMain}
 use Rattle.cut.specs.declared.CutMain.the-variants as cutMain
-use Rattle.sheet.specs.Readings.{faultIn, faultOfCut, readSheet, meant, said}
+use Rattle.sheet.specs.Readings.{faultIn, faultOfCut, readSheet, said}
 use Rattle.sheet.specs.declared.Reading.{Reading}
 use Rattle.sheet.specs.declared.Reading.the-variants as reading
-
-meant-back : (f : answers.Fault) → meant (faultOf f) ≡ f
-unfolding meant faultOf
-meant-back answers.CutShort = refl
-meant-back answers.UnknownCode = refl
-meant-back answers.BadField = refl
-meant-back answers.TooDeep = refl
-meant-back answers.LeftOver = refl
 
 -- ---- the main body
 

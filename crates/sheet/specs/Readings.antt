@@ -10,8 +10,7 @@ use Rattle.layout.specs.Tree.{ActionsOf}
 use Rattle.layout.specs.Read.{Text, edition1, deepest, Read, got, bad, readMain}
 use Rattle.layout.specs.Cut.{Cut, main, uncut, cut}
 use Rattle.layout.specs.Pack.{pack, packCut, packRead}
-use Rattle.operands.specs.declared.Fault.{Fault}
-use Rattle.operands.specs.declared.Fault.the-variants as fault
+use Rattle.operands.specs.Scanned.{meant}
 use Rattle.sheet.specs.declared.Reading.{Reading}
 use Rattle.sheet.specs.declared.Reading.the-variants as reading
 
@@ -30,14 +29,6 @@ unfoldable pub readSheet : List ℕ → Option Refusal
 readSheet s = faultOfCut (cut s)
 
 -- ---- by the code
-
--- the definitions' name of a fault
-unfoldable pub meant : Fault → answers.Fault
-meant fault.CutShort = answers.CutShort
-meant fault.UnknownCode = answers.UnknownCode
-meant fault.BadField = answers.BadField
-meant fault.TooDeep = answers.TooDeep
-meant fault.LeftOver = answers.LeftOver
 
 unfoldable pub said : Reading → Option Refusal
 said reading.Whole = none
