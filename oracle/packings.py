@@ -1,19 +1,19 @@
 #!/usr/bin/env python3
-"""Writes stdin and stdout of crates/pack_sheets and crates/pack_long: sheets with rooms, and what the oracle answers to each.
+"""Writes stdin and stdout of crates/replay: sheets with rooms, and what the oracle answers to each.
 
 Run in the checkout after the oracle is built: python3 oracle/packings.py
 """
 import re
 import struct
 import subprocess
-import zlib
+from collections import Counter
 
 import readings
 from readings import ORACLE, body, function2, nested, sheet, string, u16
 
 GENERATE = "oracle/target/release/generate"
-# What each program lends at most, and what every byte of it holds before a sheet is packed.
-SHEETS_SPACE, LONG_SPACE, FRESH = 4096, 1048578, b"\xa5"
+# The rooms that are called ample: of small sheets, and of long ones all that the program can lend.
+SHEETS_SPACE, LONG_SPACE = 4096, 1048514
 POP, PLAY, STOP, CALL = b"\x17", b"\x06", b"\x07", b"\x9e"
 
 
@@ -158,7 +158,7 @@ def small_questions():
     # a block of 64 bytes and of 65, and a sheet that takes all the room there is
     for n in (63, 64):
         yield from ((sheet(body(*[POP] * n)), room) for room in (n, n + 1, n + 2))
-    for kind in (("mixed", 300, 1, 1), ("mixed", 90, 1, 2), ("damaged", 60, 45, 3), ("small", 60, 900, 1)):
+    for kind in (("mixed", 300, 1, 1), ("mixed", 300, 1, 2), ("damaged", 90, 20, 3), ("small", 60, 700, 1)):
         yield from generated(*kind, SHEETS_SPACE)
 
 
@@ -289,7 +289,7 @@ def long_questions():
 
 def generated(family, longest, step, seed, space):
     """Every step-th of a family's sheets of at most this length, with rooms of at most this space."""
-    count = {"mixed": 160, "damaged": 20}.get(family, 1)
+    count = {"mixed": 900, "damaged": 20}.get(family, 1)
     stream = subprocess.run([GENERATE, family, str(seed), str(count)], stdout=subprocess.PIPE, check=True).stdout
     at, seen = 0, 0
     while at < len(stream):
@@ -323,7 +323,7 @@ REPEATED = re.compile(rb"(.{1,6}?)\1{15,}", re.S)
 
 
 def pattern(s):
-    """A sheet as crates/pack_long reads it: a run's length, and the bytes that fill it again and again."""
+    """Bytes as crates/replay reads them: a run's length, and the bytes that fill it again and again."""
     runs, at = [], 0
     for found in REPEATED.finditer(s):
         runs += [(s[at : found.start()], 1), (found[1], len(found[0]) // len(found[1]))]
@@ -333,23 +333,9 @@ def pattern(s):
     return b"".join(struct.pack("<IH", len(part) * times, len(part)) + part for part, times in runs)
 
 
-def write(crate, records, lines):
-    stdin = b"".join(records)
-    assert len(stdin) < 65536, (crate, len(stdin))
-    open(f"crates/{crate}/stdin", "wb").write(stdin)
-    open(f"crates/{crate}/stdout", "w").write("".join(lines))
-    print(crate, len(records), "sheets", len(stdin), "bytes")
-
-
-def sheets_line(number, value, block):
-    told = [number, value]
-    if number == 0:
-        told.append(block.hex() if len(block) <= 64 else zlib.adler32(block))
-    return " ".join(map(str, told + [0])) + "\n"
-
-
-def long_line(number, value, block):
-    return f"{number} {value} {zlib.adler32(block + FRESH * (LONG_SPACE - len(block)))}\n"
+def record(s, room, number, value, block):
+    sheet, block = pattern(s), pattern(block)
+    return struct.pack("<IIIBq", len(sheet), len(block), room, number, value) + sheet + block
 
 
 def main():
@@ -357,14 +343,17 @@ def main():
         block = bytes.fromhex(text)
         assert answer == (0, len(block), block), answer
 
-    asked = list(small_questions())
-    write("pack_sheets", [question(*q) for q in asked], [sheets_line(*a) for a in answers(asked)])
-
-    asked = list(long_questions())
+    asked = [(s, room, None) for s, room in small_questions()] + list(long_questions())
     told = answers((s, room) for s, room, _ in asked)
     for (_, _, due), (number, value, _) in zip(asked, told):
         assert due is None or due == (number, value) or due == (number, None), (due, number, value)
-    write("pack_long", [question(pattern(s), room) for s, room, _ in asked], [long_line(*a) for a in told])
+    stdin = b"".join(record(s, room, *answer) for (s, room, _), answer in zip(asked, told))
+    assert len(stdin) < 1048576, len(stdin)
+    numbers = Counter(number for number, _, _ in told)
+    lines = [f"{number} {count}\n" for number, count in sorted(numbers.items())] + ["differ 0, first 0\n"]
+    open("crates/replay/stdin", "wb").write(stdin)
+    open("crates/replay/stdout", "w").write("".join(lines))
+    print(len(asked), "sheets", len(stdin), "bytes", dict(sorted(numbers.items())))
 
 
 if __name__ == "__main__":

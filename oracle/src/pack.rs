@@ -23,7 +23,8 @@ pub fn pack(sheet: &[u8], room: usize) -> Answer {
     }
 }
 
-fn encode(sheet: &sheet::Whole) -> Answer {
+/// The block of a sheet that reads whole, or the overflow.
+pub fn encode(sheet: &sheet::Whole) -> Answer {
     entry::encode(&sheet.actions).map_err(|overflow| match overflow {
         Overflow::ActionLen(n) => Refusal::ActionLenOverflow(n),
         Overflow::BlockLen(n) => Refusal::BlockLenOverflow(n),

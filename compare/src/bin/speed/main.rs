@@ -1,0 +1,89 @@
+//! Ratios in one run: the packer's C entry against the Rust's reading and encoding, and against its encoding alone.
+//! No buffer is cleared between rounds; the Rust grows a new Vec each time, as it does in service.
+
+mod sheets;
+
+use std::hint::black_box;
+use std::time::Instant;
+
+/// The least seconds of a call, over batches that each take about a hundredth of a second.
+struct Timer {
+    batch: u32,
+    least: f64,
+}
+
+impl Timer {
+    fn new(call: &mut dyn FnMut()) -> Timer {
+        let start = Instant::now();
+        call();
+        let once = start.elapsed().as_secs_f64().max(1e-9);
+        let batch = (0.01 / once).clamp(1.0, 100_000.0) as u32;
+        Timer { batch, least: f64::INFINITY }
+    }
+
+    fn round(&mut self, call: &mut dyn FnMut()) {
+        let start = Instant::now();
+        for _ in 0..self.batch {
+            call();
+        }
+        self.least = self.least.min(start.elapsed().as_secs_f64() / f64::from(self.batch));
+    }
+}
+
+struct Case {
+    name: &'static str,
+    sheet: Vec<u8>,
+}
+
+/// Seconds of: our entry, the Rust's reading and encoding, its encoding alone; and the block's length.
+fn time(sheet: &[u8], rounds: u32) -> (f64, f64, f64, usize) {
+    let mut out = vec![0; 4 * sheet.len() + 64];
+    let whole = oracle::sheet::read(sheet, b'y').expect("a sheet that reads");
+    let block = oracle::pack::encode(&whole).expect("a block");
+    let n = merinovault::pack(sheet, &mut out).expect("a block");
+    assert_eq!(&out[..n], &block[..], "the two blocks differ");
+
+    let mut ours = || {
+        black_box(merinovault::pack(black_box(sheet), &mut out).unwrap());
+    };
+    let mut both = || {
+        let whole = oracle::sheet::read(black_box(sheet), b'y').unwrap();
+        black_box(oracle::pack::encode(&whole).unwrap());
+    };
+    let mut encoding = || {
+        black_box(oracle::pack::encode(black_box(&whole)).unwrap());
+    };
+    let mut timers = [Timer::new(&mut ours), Timer::new(&mut both), Timer::new(&mut encoding)];
+    for _ in 0..rounds {
+        timers[0].round(&mut ours);
+        timers[1].round(&mut both);
+        timers[2].round(&mut encoding);
+    }
+    (timers[0].least, timers[1].least, timers[2].least, n)
+}
+
+fn main() {
+    let rounds = std::env::args().nth(1).map_or(15, |n| n.parse().expect("a number of rounds"));
+    let cases = [
+        Case { name: "screen", sheet: sheets::screen(35) },
+        Case { name: "large", sheet: sheets::screen(1_900) },
+        Case { name: "tiny", sheet: sheets::tiny() },
+        Case { name: "strings", sheet: sheets::strings() },
+        Case { name: "labels", sheet: sheets::labels() },
+        Case { name: "depth 16", sheet: sheets::deep() },
+    ];
+    println!("how many times as fast as the Rust's (i) reading and encoding, (ii) encoding alone");
+    println!("{:<10} {:>9} {:>9} {:>7} {:>7}", "case", "sheet", "block", "(i)", "(ii)");
+    for case in &cases {
+        let (ours, both, encoding, n) = time(&case.sheet, rounds);
+        println!("{:<10} {:>9} {:>9} {:>7.2} {:>7.2}", case.name, case.sheet.len(), n, both / ours, encoding / ours);
+    }
+    println!("\ntime for each byte of the block, against the first");
+    let mut first = None;
+    for handlers in [45, 140, 450, 1_400, 4_500] {
+        let sheet = sheets::screen(handlers);
+        let (ours, _, _, n) = time(&sheet, rounds.min(5));
+        let each = ours / n as f64;
+        println!("{:>9} {:>7.2}", n, each / *first.get_or_insert(each));
+    }
+}

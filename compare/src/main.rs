@@ -1,0 +1,106 @@
+//! `compare [SHEETS]` packs generated sheets by the C entry and by the oracle, a million unless told otherwise: number, value,
+//! block, and every byte that must keep its value. It prints counts by answer, and the smallest sheet of each difference.
+
+use merinovault::pack;
+use oracle::answer::{Answer, number, value};
+use oracle::generate::{Family, questions};
+use oracle::stream::Question;
+use std::process::ExitCode;
+
+/// What the output holds before a call, and the bytes before and behind it.
+const FRESH: u8 = 0xA5;
+const GUARD: usize = 64;
+
+/// The first seed of the families that are random; each batch takes the next.
+const SEED: u64 = 20_261_115;
+
+#[derive(Default)]
+struct Counts {
+    answers: [u64; 12],
+    differences: u64,
+    /// The smallest sheet that is answered differently, its room and what differs.
+    smallest: Option<(Vec<u8>, usize, String)>,
+    output: Vec<u8>,
+}
+
+impl Counts {
+    fn sheets(&self) -> u64 {
+        self.answers.iter().sum()
+    }
+
+    /// A room over what any block can take is cut to that, so that the output can be looked through.
+    fn compare(&mut self, question: &Question) {
+        let sheet = &question.sheet;
+        let room = (question.room as usize).min(3 * sheet.len() + 64);
+        let theirs = oracle::pack::pack(sheet, room);
+        self.answers[usize::from(number(&theirs))] += 1;
+        let Some(what) = self.difference(sheet, room, &theirs) else {
+            return;
+        };
+        self.differences += 1;
+        if self.smallest.as_ref().is_none_or(|(least, ..)| sheet.len() < least.len()) {
+            self.smallest = Some((sheet.clone(), room, what));
+        }
+    }
+
+    fn difference(&mut self, sheet: &[u8], room: usize, theirs: &Answer) -> Option<String> {
+        self.output.clear();
+        self.output.resize(room + 2 * GUARD, FRESH);
+        let ours = pack(sheet, &mut self.output[GUARD..GUARD + room]);
+        let (n, v) = match &ours {
+            Ok(length) => (0, *length as i64),
+            Err(refusal) => (refusal.number(), refusal.value()),
+        };
+        if (n, v) != (u32::from(number(theirs)), value(theirs)) {
+            return Some(format!("{n} {v}, not {} {}", number(theirs), value(theirs)));
+        }
+        let block = theirs.as_deref().unwrap_or(&[]);
+        let (before, rest) = self.output.split_at(GUARD);
+        let (front, behind) = rest.split_at(block.len());
+        if front != block {
+            return Some("another block".to_string());
+        }
+        let kept = before.iter().chain(behind).all(|b| *b == FRESH);
+        (!kept).then(|| "a byte changed that must keep its value".to_string())
+    }
+}
+
+fn main() -> ExitCode {
+    let words: Vec<String> = std::env::args().skip(1).collect();
+    let wanted = match words.first().map(|word| word.parse::<u64>()) {
+        None => 1_000_000,
+        Some(Ok(n)) => n,
+        Some(Err(_)) => {
+            eprintln!("usage: compare [SHEETS]");
+            return ExitCode::from(2);
+        }
+    };
+    let mut counts = Counts::default();
+    for family in [Family::Limits, Family::Distances, Family::Small] {
+        run(&mut counts, family, SEED, 0);
+    }
+    let mut seed = SEED;
+    while counts.sheets() < wanted {
+        run(&mut counts, Family::Mixed, seed, 2_000);
+        run(&mut counts, Family::Damaged, seed, 40);
+        seed += 1;
+    }
+    println!("random families: seeds {SEED} to {}", seed - 1);
+    println!("{:<8} {:>9}", "answer", "sheets");
+    for (number, count) in counts.answers.iter().enumerate() {
+        println!("{number:<8} {count:>9}");
+    }
+    println!("{} sheets, {} differences", counts.sheets(), counts.differences);
+    let Some((sheet, room, what)) = counts.smallest else {
+        return ExitCode::SUCCESS;
+    };
+    let hex: Vec<String> = sheet.iter().map(|b| format!("{b:02X}")).collect();
+    println!("smallest, at room {room}: {what}\n{}", hex.join(" "));
+    ExitCode::FAILURE
+}
+
+fn run(counts: &mut Counts, family: Family, seed: u64, count: usize) {
+    let before = counts.sheets();
+    questions(family, seed, count, &mut |question| counts.compare(&question));
+    eprintln!("{:<9} {:>9} sheets", family.name(), counts.sheets() - before);
+}
