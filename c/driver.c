@@ -1,0 +1,273 @@
+/*
+ * driver.c: packs the sheets of a stream through the C-callable entries, and looks at every byte that must keep its value.
+ *
+ *   driver < STREAM        A record is a u32 length, a sheet and a u32 room (the oracle's questions). A line for each: number,
+ *                          value, on Done the block in hex or, past 64 bytes, its Adler-32, and how many bytes changed that
+ *                          must not. So crates/pack_sheets writes too.
+ *   driver long < STREAM   A record holds a sheet's pattern, as crates/pack_long reads it, and a line is number, value and the
+ *                          Adler-32 of an output of 1,048,578 bytes.
+ *
+ * Each sheet and block ends where memory ends, so a byte read past it stops the program. Each sheet and block is also stepped
+ * through, and the answer held to a stepper written here. Status 0: all is well; 1: a fault, told on standard error; 2: a bad
+ * stream or call.
+ */
+#define _DEFAULT_SOURCE /* for MAP_ANONYMOUS */
+#include <inttypes.h>
+#include <stdbool.h>
+#include <stdio.h>
+#include <stdlib.h>
+#include <string.h>
+#include <sys/mman.h>
+#include <unistd.h>
+
+#include "merinovault.h"
+
+enum {
+    GUARD = 64,                   /* bytes on both sides of the output and of the value that must keep theirs */
+    SPACE = 4 * 1024 * 1024,      /* the longest sheet, and the largest room, of a record */
+    LONG_OUTPUT = 1024 * 1024 + 2 /* the output whose checksum crates/pack_long writes */
+};
+
+static int status = 0;
+
+static void fault(size_t line, const char *what)
+{
+    fprintf(stderr, "driver: line %zu: %s\n", line, what);
+    status = 1;
+}
+
+static _Noreturn void stop(const char *what)
+{
+    fprintf(stderr, "driver: %s\n", what);
+    exit(2);
+}
+
+/* The end of `size` bytes of memory, with memory that cannot be touched behind them. */
+static uint8_t *memory_end(size_t size)
+{
+    size_t page = (size_t)sysconf(_SC_PAGESIZE), pages = (size + page - 1) / page * page;
+    uint8_t *start = mmap(NULL, pages + page, PROT_READ | PROT_WRITE, MAP_PRIVATE | MAP_ANONYMOUS, -1, 0);
+    if (start == MAP_FAILED || mprotect(start + pages, page, PROT_NONE) != 0)
+        stop("no memory");
+    return start + pages;
+}
+
+static int64_t number_in(const uint8_t *value)
+{
+    uint64_t bits = 0;
+    for (size_t i = MERINOVAULT_VALUE_LEN; i > 0; i--)
+        bits = bits << 8 | value[i - 1];
+    return (int64_t)bits;
+}
+
+static uint32_t adler32(const uint8_t *bytes, size_t len)
+{
+    uint32_t a = 1, b = 0;
+    for (size_t i = 0; i < len; i++) {
+        a = (a + bytes[i]) % 65521;
+        b = (b + a) % 65521;
+    }
+    return b << 16 | a;
+}
+
+/* How many of these bytes are not `fill`. */
+static size_t changed(const uint8_t *bytes, size_t len, uint8_t fill)
+{
+    size_t n = 0;
+    for (size_t i = 0; i < len; i++)
+        n += bytes[i] != fill;
+    return n;
+}
+
+struct answer {
+    uint32_t number;
+    int64_t value;
+    size_t changed; /* bytes that must keep their values and did not */
+};
+
+/* Packs into `room` bytes at `out`, after GUARD bytes and before GUARD more, all of them `fill` before the call. */
+static struct answer pack(const uint8_t *sheet, size_t len, uint8_t *out, size_t room, uint8_t fill)
+{
+    uint8_t value[GUARD + MERINOVAULT_VALUE_LEN + GUARD];
+    memset(value, fill, sizeof value);
+    memset(out - GUARD, fill, GUARD + room + GUARD);
+    struct answer a;
+    a.number = merinovault_pack(sheet, len, out, room, value + GUARD, MERINOVAULT_VALUE_LEN);
+    a.value = number_in(value + GUARD);
+    a.changed = changed(value, GUARD, fill) + changed(value + GUARD + MERINOVAULT_VALUE_LEN, GUARD, fill);
+    size_t written = a.number == MERINOVAULT_DONE ? (size_t)a.value : 0;
+    if (written > room)
+        stop("a Done length is more than the room");
+    a.changed += changed(out - GUARD, GUARD, fill) + changed(out + written, room - written + GUARD, fill);
+    return a;
+}
+
+/* Stepping by document 01's words. */
+static struct answer stepped(const uint8_t *block, size_t len)
+{
+    size_t at = 0, steps = 0;
+    while (at < len) {
+        size_t left = len - at, size = 1;
+        uint8_t opcode = block[at];
+        if (opcode >= 0x80)
+            size = left < 3 ? SIZE_MAX : 3 + (size_t)block[at + 1] + 256 * (size_t)block[at + 2];
+        if (size > left)
+            return (struct answer){MERINOVAULT_UNCLEAN, (int64_t)at, 0};
+        at += size;
+        steps++;
+        if (opcode == 0)
+            return at == len ? (struct answer){MERINOVAULT_DONE, (int64_t)steps, 0}
+                             : (struct answer){MERINOVAULT_UNCLEAN, (int64_t)at, 0};
+    }
+    return (struct answer){MERINOVAULT_UNCLEAN, (int64_t)len, 0};
+}
+
+/* Steps through a block by the entry too; it must end where memory ends. */
+static void step(const uint8_t *block, size_t len, size_t line)
+{
+    uint8_t value[GUARD + MERINOVAULT_VALUE_LEN + GUARD];
+    memset(value, 0xA5, sizeof value);
+    uint32_t number = merinovault_step(block, len, value + GUARD, MERINOVAULT_VALUE_LEN);
+    struct answer due = stepped(block, len);
+    if (number != due.number || number_in(value + GUARD) != due.value)
+        fault(line, "stepping tells something else");
+    if (changed(value, GUARD, 0xA5) + changed(value + GUARD + MERINOVAULT_VALUE_LEN, GUARD, 0xA5) != 0)
+        fault(line, "stepping changed a byte beside the value");
+}
+
+/* Steps through the block and through every shorter beginning of a short one; each is put where memory ends. */
+static void step_all(const uint8_t *block, size_t len, uint8_t *end, size_t line)
+{
+    for (size_t n = len <= 64 ? 0 : len; n <= len; n++) {
+        memcpy(end - n, block, n);
+        step(end - n, n, line);
+    }
+}
+
+/* A value slice that has not 8 bytes, and runs without a byte. */
+static void edges(void)
+{
+    const uint8_t empty[12] = {0, 0, 0, 0, 4, 0, 0, 0, 1, 0, 0x41, 0x31}, one[1] = {0};
+    uint8_t out[4], value[16];
+    memset(out, 0xA5, sizeof out);
+    memset(value, 0xA5, sizeof value);
+    for (size_t n = 0; n <= sizeof value; n++)
+        if (n != MERINOVAULT_VALUE_LEN) {
+            if (merinovault_pack(empty, sizeof empty, out, sizeof out, value, n) != MERINOVAULT_NO_ROOM ||
+                merinovault_pack(NULL, 0, out, sizeof out, value, n) != MERINOVAULT_NO_ROOM ||
+                merinovault_step(one, sizeof one, value, n) != MERINOVAULT_NO_ROOM)
+                fault(0, "a value slice of another length than 8 is not answered 11");
+        }
+    if (merinovault_pack(empty, sizeof empty, out, sizeof out, NULL, 0) != MERINOVAULT_NO_ROOM ||
+        merinovault_step(one, sizeof one, NULL, 0) != MERINOVAULT_NO_ROOM)
+        fault(0, "no value slice is not answered 11");
+    if (changed(out, sizeof out, 0xA5) + changed(value, sizeof value, 0xA5) != 0)
+        fault(0, "a byte changed beside a value slice of another length than 8");
+    if (merinovault_pack(NULL, 0, out, sizeof out, value, 8) != MERINOVAULT_BAD_TRAILER || number_in(value) != 0)
+        fault(0, "the empty sheet is not answered 2 with 0");
+    if (merinovault_pack(empty, sizeof empty, NULL, 0, value, 8) != MERINOVAULT_NO_ROOM || number_in(value) != 1)
+        fault(0, "an empty output is not answered 11 with 1");
+    if (merinovault_step(NULL, 0, value, 8) != MERINOVAULT_UNCLEAN || number_in(value) != 0)
+        fault(0, "the empty block is not answered 13 with 0");
+    if (changed(out, sizeof out, 0xA5) != 0)
+        fault(0, "a refusal changed the output");
+}
+
+/* Reads `len` bytes; false at the stream's end, before the first of them. */
+static bool take(uint8_t *bytes, size_t len)
+{
+    size_t n = fread(bytes, 1, len, stdin);
+    if (n != 0 && n != len)
+        stop("the stream is cut short");
+    return n == len;
+}
+
+static bool take_u32(uint32_t *n)
+{
+    uint8_t b[4];
+    if (!take(b, sizeof b))
+        return false;
+    *n = (uint32_t)b[0] | (uint32_t)b[1] << 8 | (uint32_t)b[2] << 16 | (uint32_t)b[3] << 24;
+    return true;
+}
+
+/* Writes the sheet of a pattern, runs of a u32 length, a u16 length and that many bytes, which fill the run again and again. */
+static size_t unroll(const uint8_t *pattern, size_t len, uint8_t *sheet)
+{
+    size_t at = 0;
+    for (size_t p = 0; p < len;) {
+        if (len - p < 6)
+            stop("a pattern is cut short");
+        size_t run = (size_t)pattern[p] | (size_t)pattern[p + 1] << 8 | (size_t)pattern[p + 2] << 16 | (size_t)pattern[p + 3] << 24;
+        size_t n = (size_t)pattern[p + 4] | (size_t)pattern[p + 5] << 8;
+        p += 6;
+        if (n == 0 || len - p < n || SPACE - at < run)
+            stop("a pattern that gives no sheet");
+        for (size_t i = 0; i < run; i++)
+            sheet[at++] = pattern[p + i % n];
+        p += n;
+    }
+    return at;
+}
+
+static void write_block(const uint8_t *block, size_t len)
+{
+    if (len > 64) {
+        printf(" %" PRIu32, adler32(block, len));
+        return;
+    }
+    printf(" ");
+    for (size_t i = 0; i < len; i++)
+        printf("%02x", block[i]);
+}
+
+int main(int argc, char **argv)
+{
+    bool is_long = argc == 2 && strcmp(argv[1], "long") == 0;
+    if (argc > 1 && !is_long)
+        stop("usage: driver [long] < STREAM");
+    edges();
+
+    uint8_t *sheet_end = memory_end(SPACE), *out_end = memory_end(GUARD + SPACE + GUARD), *block_end = memory_end(SPACE);
+    uint8_t *input = malloc(SPACE), *copy = malloc(SPACE);
+    if (input == NULL || copy == NULL)
+        stop("no memory");
+    uint32_t len, room;
+    for (size_t line = 1; take_u32(&len); line++) {
+        if (len > SPACE || (len > 0 && !take(input, len)) || !take_u32(&room) || room > SPACE)
+            stop("a record is cut short, or has more than 4 MiB");
+        size_t n = len;
+        if (is_long)
+            n = unroll(input, len, copy);
+        else
+            memcpy(copy, input, len);
+        uint8_t *sheet = memcpy(sheet_end - n, copy, n), *out = out_end - GUARD - room;
+
+        /* A byte that is written with what it holds already shows in the other of two fills. */
+        struct answer first = pack(sheet, n, out, room, 0x5A), a = pack(sheet, n, out, room, 0xA5);
+        if (first.number != a.number || first.value != a.value)
+            fault(line, "a second call tells something else");
+        if (first.changed + a.changed != 0)
+            fault(line, "a byte changed that must keep its value");
+        if (memcmp(sheet, copy, n) != 0)
+            fault(line, "the sheet changed");
+
+        size_t written = a.number == MERINOVAULT_DONE ? (size_t)a.value : 0;
+        printf("%" PRIu32 " %" PRId64, a.number, a.value);
+        if (is_long) {
+            memcpy(input, out, written);
+            memset(input + written, 0xA5, LONG_OUTPUT > written ? LONG_OUTPUT - written : 0);
+            printf(" %" PRIu32 "\n", adler32(input, LONG_OUTPUT));
+        } else {
+            if (a.number == MERINOVAULT_DONE)
+                write_block(out, written);
+            printf(" %zu\n", first.changed + a.changed);
+        }
+        step(sheet, n, line);
+        if (a.number == MERINOVAULT_DONE)
+            step_all(out, written, block_end, line);
+    }
+    free(input);
+    free(copy);
+    return status;
+}

@@ -1,0 +1,62 @@
+/*
+ * merinovault.h: packs a sheet of ActionScript 2 actions into the block of bytes that a player reads, and steps through a block.
+ * Link libmerinovault.a, which `rt staticlib merinovault` proves and builds; docs/LINKING.md tells how.
+ *
+ * Each function returns its answer's number, and fills the 8 bytes of value with the answer's value, a little-endian signed
+ * 64-bit number. If value_len is not 8, it returns MERINOVAULT_NO_ROOM before everything else and writes nothing at all.
+ *
+ * What the caller owes. Nothing tests it, and the proofs count on it:
+ *  - A pointer and the length after it are one run of bytes, at most PTRDIFF_MAX long. All of it may be read, and all of out and
+ *    value written, until the call returns.
+ *  - out and value share no byte with any other run of the call.
+ *  - While the call runs, nothing else writes to sheet or block, and nothing else reads or writes out or value.
+ *  - A run of length 0 is never read or written; its pointer may be NULL. No run needs an alignment.
+ *
+ * The functions keep nothing between calls and allocate nothing, so several threads may call at once. They always return.
+ */
+#ifndef MERINOVAULT_H
+#define MERINOVAULT_H
+
+#include <stddef.h>
+#include <stdint.h>
+
+#ifdef __cplusplus
+extern "C" {
+#endif
+
+/* The length that value must have. */
+#define MERINOVAULT_VALUE_LEN 8u
+
+/* The answers' numbers, and the value of each. A place counts bytes from 0, the first byte of the sheet or block. */
+#define MERINOVAULT_DONE 0u                  /* length of the block written; of a step: the number of steps made */
+#define MERINOVAULT_SHEET_TOO_LONG 1u        /* length of the sheet, over 1,048,576 */
+#define MERINOVAULT_BAD_TRAILER 2u           /* 0 */
+#define MERINOVAULT_CUT_SHORT 3u             /* place of a field that would reach into the trailer */
+#define MERINOVAULT_UNKNOWN_CODE 4u          /* place of an opcode or of a pushed value's kind that is not listed */
+#define MERINOVAULT_BAD_FIELD 5u             /* place of a field outside its range or order; of the first NUL in a string */
+#define MERINOVAULT_TOO_DEEP 6u              /* place of the first byte of a body at depth 17 */
+#define MERINOVAULT_LEFT_OVER 7u             /* place of the first byte between the main body and the trailer */
+#define MERINOVAULT_ACTION_LEN_OVERFLOW 8u   /* length of an action's payload, over 65,535 */
+#define MERINOVAULT_BLOCK_LEN_OVERFLOW 9u    /* length of a body, over 65,535 */
+#define MERINOVAULT_JUMP_OFFSET_OVERFLOW 10u /* signed distance of a branch, outside -32,768 to 32,767 */
+#define MERINOVAULT_NO_ROOM 11u              /* length that the block needs, more than out_len */
+#define MERINOVAULT_INPUT_FULL 12u           /* 65,536; of the block program, and returned by no function here */
+#define MERINOVAULT_UNCLEAN 13u              /* place where stepping stopped; of merinovault_step alone */
+
+/*
+ * Packs sheet into the front of out: 0 to 11. Bytes of out past a Done length keep their values, and on any other answer all do.
+ * A block is never longer than 3 x sheet_len. With out_len 0, NO_ROOM tells the length that a good sheet needs.
+ */
+uint32_t merinovault_pack(const uint8_t *sheet, size_t sheet_len, uint8_t *out, size_t out_len, uint8_t *value, size_t value_len);
+
+/*
+ * Steps through block, an opcode and its payload at a time: Done if the first End is its last byte, otherwise Unclean.
+ * A value_len other than 8 gives NO_ROOM.
+ */
+uint32_t merinovault_step(const uint8_t *block, size_t block_len, uint8_t *value, size_t value_len);
+
+#ifdef __cplusplus
+}
+#endif
+
+#endif

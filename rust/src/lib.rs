@@ -1,0 +1,60 @@
+//! Packs sheets of ActionScript 2 actions into the blocks of bytes that a player reads, and steps through blocks.
+//!
+//! The work is done by the proved archive `libmerinovault.a`; this crate only calls it. Answers have the names, numbers and values
+//! of document 01.
+//!
+//! ```
+//! use merinovault::{Refusal, pack, step};
+//!
+//! // Label 0 before action 0; one action, Jump to label 0; the trailer.
+//! let mut sheet = *b"\x01\0\0\0\0\0\x01\0\x99\0\0\x0B\0\0\0\x01\0A1";
+//! let mut out = [0; 64];
+//! let length = pack(&sheet, &mut out)?;
+//! assert_eq!(out[..length], [0x99, 2, 0, 0xFB, 0xFF, 0]);
+//! assert_eq!(step(&out[..length]), Ok(2));
+//!
+//! sheet[8] = 0x98;
+//! assert_eq!(pack(&sheet, &mut out), Err(Refusal::UnknownCode { place: 8 }));
+//! # Ok::<(), Refusal>(())
+//! ```
+#![deny(unsafe_code, missing_docs)]
+
+pub mod raw;
+mod refusal;
+
+pub use refusal::{Refusal, Unclean};
+
+/// The length of the value slice that the entries fill.
+pub const VALUE_LEN: usize = 8;
+
+const DONE: u32 = 0;
+
+/// Packs a sheet into the front of `out` and returns the length of the block.
+///
+/// Bytes of `out` past that length keep their values; on a refusal all do. A block is never longer than three times the sheet.
+pub fn pack(sheet: &[u8], out: &mut [u8]) -> Result<usize, Refusal> {
+    let mut value = [0; VALUE_LEN];
+    let number = raw::pack(sheet, out, &mut value);
+    let value = i64::from_le_bytes(value);
+    match number {
+        DONE => Ok(length(value)),
+        _ => Err(Refusal::new(number, value)),
+    }
+}
+
+/// Steps through a block, an opcode and its payload at a time, and returns the number of steps to the End that is its last byte.
+pub fn step(block: &[u8]) -> Result<usize, Unclean> {
+    let mut value = [0; VALUE_LEN];
+    let number = raw::step(block, &mut value);
+    let value = length(i64::from_le_bytes(value));
+    match number {
+        DONE => Ok(value),
+        Unclean::NUMBER => Err(Unclean { place: value }),
+        _ => unreachable!("stepping answers 0 or 13, not {number}"),
+    }
+}
+
+/// A value that counts bytes or steps.
+fn length(value: i64) -> usize {
+    usize::try_from(value).expect("a length or a place is not negative")
+}

@@ -1,0 +1,49 @@
+//! The entries of the archive as they are: the answer's number is returned, and the value fills a lent slice of 8 bytes as a
+//! little-endian i64. A value slice of another length is answered 11 before everything else, and nothing is written.
+#![allow(unsafe_code)]
+
+mod entries {
+    // As include/merinovault.h declares them: a slice is a pointer and a length.
+    unsafe extern "C" {
+        pub fn merinovault_pack(
+            sheet: *const u8,
+            sheet_len: usize,
+            out: *mut u8,
+            out_len: usize,
+            value: *mut u8,
+            value_len: usize,
+        ) -> u32;
+        pub fn merinovault_step(
+            block: *const u8,
+            block_len: usize,
+            value: *mut u8,
+            value_len: usize,
+        ) -> u32;
+    }
+}
+
+// SAFETY of both calls: an entry asks of its caller what the types of the slices say already. Each pointer and its length are one
+// slice, so they are at most isize::MAX bytes that may be read; `&mut` lets the entry write `out` and `value`, keeps them apart
+// from each other and from the rest, and keeps other threads off; `&` keeps writers off `sheet` and `block`. The entries have no
+// other demand, always return, do not unwind and keep no pointer.
+
+/// Packs a sheet into `out`.
+pub fn pack(sheet: &[u8], out: &mut [u8], value: &mut [u8]) -> u32 {
+    unsafe {
+        entries::merinovault_pack(
+            sheet.as_ptr(),
+            sheet.len(),
+            out.as_mut_ptr(),
+            out.len(),
+            value.as_mut_ptr(),
+            value.len(),
+        )
+    }
+}
+
+/// Steps through a block.
+pub fn step(block: &[u8], value: &mut [u8]) -> u32 {
+    unsafe {
+        entries::merinovault_step(block.as_ptr(), block.len(), value.as_mut_ptr(), value.len())
+    }
+}

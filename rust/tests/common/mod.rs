@@ -1,0 +1,117 @@
+//! Sheets, and packing into an output whose every byte is looked at.
+#![allow(dead_code)]
+use merinovault::{Refusal, pack};
+
+pub const POP: &[u8] = &[0x17];
+pub const PLAY: &[u8] = &[0x06];
+pub const STOP: &[u8] = &[0x07];
+pub const CALL: &[u8] = &[0x9E];
+
+pub fn u16(n: usize) -> [u8; 2] {
+    u16::try_from(n).expect("a u16").to_le_bytes()
+}
+
+pub fn string(letters: usize) -> Vec<u8> {
+    [&u16(letters)[..], &vec![b'a'; letters]].concat()
+}
+
+/// A body of these actions; a label entry is a number and an action index.
+pub fn body(labels: &[(usize, usize)], actions: &[&[u8]]) -> Vec<u8> {
+    let entries: Vec<u8> = labels
+        .iter()
+        .flat_map(|&(label, index)| [u16(label), u16(index)].concat())
+        .collect();
+    [
+        &u16(labels.len())[..],
+        &entries,
+        &u16(actions.len()),
+        &actions.concat(),
+    ]
+    .concat()
+}
+
+/// A main body, with its note and its trailer.
+pub fn sheet_with_note(note: &[u8], main: &[u8]) -> Vec<u8> {
+    let distance = u32::try_from(main.len()).expect("a u32").to_le_bytes();
+    [note, main, &distance, &[1, 0, 0x41, 0x31]].concat()
+}
+
+pub fn sheet(main: &[u8]) -> Vec<u8> {
+    sheet_with_note(&[], main)
+}
+
+pub fn jump(label: usize) -> Vec<u8> {
+    [&[0x99][..], &u16(label)].concat()
+}
+
+pub fn with(inside: &[u8]) -> Vec<u8> {
+    [&[0x94], inside].concat()
+}
+
+pub fn set_target(letters: usize) -> Vec<u8> {
+    [&[0x8B][..], &string(letters)].concat()
+}
+
+/// A main body and its block: P1 to P12 of document 01.
+pub fn sums() -> Vec<(Vec<u8>, Vec<u8>)> {
+    let push = |value: &[u8]| [&[0x96, 1, 0], value].concat();
+    let one = |action: &[u8]| body(&[], &[action]);
+    let function2 = [
+        &[0x8E, 1, 0, b'f', 1, 0, 1, 1, 0, b'x', 2, 1, 1][..],
+        &body(&[], &[]),
+    ]
+    .concat();
+    let attempt = [&[0x8F, 2][..], &one(PLAY), &one(STOP)].concat();
+    let inner = with(&body(&[(0, 0)], &[PLAY]));
+    vec![
+        (body(&[], &[]), vec![0]),
+        (one(CALL), vec![0x9E, 0, 0, 0]),
+        (one(&push(&[8, 255, 0])), vec![0x96, 2, 0, 8, 0xFF, 0]),
+        (one(&push(&[8, 0, 1])), vec![0x96, 3, 0, 9, 0, 1, 0]),
+        (
+            one(&push(&[6, 0, 0, 0, 0, 0, 0, 0xF0, 0x3F])),
+            vec![0x96, 9, 0, 6, 0, 0, 0xF0, 0x3F, 0, 0, 0, 0, 0],
+        ),
+        (
+            body(&[(0, 0)], &[&jump(0)]),
+            vec![0x99, 2, 0, 0xFB, 0xFF, 0],
+        ),
+        (body(&[(0, 2)], &[&jump(0)]), vec![0x99, 2, 0, 0, 0, 0]),
+        (one(&with(&one(POP))), vec![0x94, 2, 0, 1, 0, 0x17, 0]),
+        (
+            one(&function2),
+            vec![0x8E, 0x0C, 0, 0x66, 0, 1, 0, 2, 1, 1, 1, 0x78, 0, 0, 0, 0],
+        ),
+        (
+            one(&attempt),
+            vec![0x8F, 8, 0, 2, 1, 0, 0, 0, 1, 0, 0, 6, 7, 0],
+        ),
+        (one(&[0x9A, 1, 0, 7]), vec![0x9A, 1, 0, 0x83, 0]),
+        (
+            body(&[(0, 0)], &[&jump(0), &inner]),
+            vec![0x99, 2, 0, 5, 0, 0x94, 2, 0, 1, 0, 6, 0],
+        ),
+    ]
+}
+
+/// Packs into an output of this room, twice, over two fills. Fails if a byte changed that must keep its value: past a Done
+/// length, on a refusal any, and around the output.
+pub fn packed(sheet: &[u8], room: usize) -> Result<Vec<u8>, Refusal> {
+    const AROUND: usize = 64;
+    let once = |fill: u8| {
+        let mut space = vec![fill; AROUND + room + AROUND];
+        let answer = pack(sheet, &mut space[AROUND..AROUND + room]);
+        let written = answer.unwrap_or(0);
+        assert!(written <= room, "a Done length within the room");
+        let block = space[AROUND..AROUND + written].to_vec();
+        let kept = space[..AROUND].iter().chain(&space[AROUND + written..]);
+        assert!(
+            kept.into_iter().all(|&byte| byte == fill),
+            "a byte changed that must keep its value"
+        );
+        answer.map(|_| block)
+    };
+    let answer = once(0xA5);
+    assert_eq!(once(0x5A), answer, "the output's bytes change no answer");
+    answer
+}

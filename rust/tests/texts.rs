@@ -1,0 +1,70 @@
+//! What a refusal says to the author of a screen.
+use merinovault::{Refusal, Unclean};
+use std::error::Error;
+
+#[test]
+fn refusals() {
+    let texts = [
+        (
+            Refusal::SheetTooLong { length: 1_048_577 },
+            "the sheet has 1048577 bytes; at most 1048576 are taken",
+        ),
+        (
+            Refusal::BadTrailer,
+            "the sheet's last 8 bytes are no trailer: the distance back to the main body, edition 1 and the mark 41 31",
+        ),
+        (
+            Refusal::CutShort { place: 17 },
+            "byte 17 of the sheet: the field that begins here would reach into the trailer",
+        ),
+        (
+            Refusal::UnknownCode { place: 17 },
+            "byte 17 of the sheet: no action or pushed value has this code",
+        ),
+        (
+            Refusal::BadField { place: 17 },
+            "byte 17 of the sheet: this field is outside its range or order, or is a zero byte in a string",
+        ),
+        (
+            Refusal::TooDeep { place: 80 },
+            "byte 80 of the sheet: the body that begins here is at depth 17; the main body is at depth 1, and 16 is the deepest",
+        ),
+        (
+            Refusal::LeftOver { place: 17 },
+            "byte 17 of the sheet: the main body is over, and this byte is not yet the trailer",
+        ),
+        (
+            Refusal::ActionLenOverflow { length: 65_536 },
+            "an action's payload is 65536 bytes long; at most 65535 can be written",
+        ),
+        (
+            Refusal::BlockLenOverflow { length: 65_536 },
+            "a body is 65536 bytes long; at most 65535 can be written",
+        ),
+        (
+            Refusal::JumpOffsetOverflow { distance: 32_768 },
+            "the label is 32768 bytes forward from the branch; a branch reaches at most 32767 bytes forward and 32768 back",
+        ),
+        (
+            Refusal::JumpOffsetOverflow { distance: -32_769 },
+            "the label is 32769 bytes back from the branch; a branch reaches at most 32767 bytes forward and 32768 back",
+        ),
+        (
+            Refusal::NoRoom { needed: 6 },
+            "the block needs 6 bytes, more than the output has",
+        ),
+    ];
+    for (refusal, text) in texts {
+        let error: &dyn Error = &refusal;
+        assert_eq!(error.to_string(), text);
+    }
+}
+
+#[test]
+fn unclean() {
+    let error: &dyn Error = &Unclean { place: 3 };
+    assert_eq!(
+        error.to_string(),
+        "byte 3 of the block: stepping does not come to an End that is the last byte"
+    );
+}

@@ -1,0 +1,53 @@
+#!/usr/bin/env bash
+# test-native.sh: proves and builds the archive, and calls it from C and Rust on this machine: the header as C11 and C++17, the
+# Rust crate's tests, the C example, and the C driver on the sheets of crates/pack_sheets and crates/pack_long, plain and under
+# the address and undefined-behaviour sanitizers. On Arm all this is done with the native archive of native-lib.sh; then the
+# example and the driver are also compiled for x86-64, linked with the archive that is shipped, and run by the kit's emulator.
+# Needs rt, a C and a C++ compiler (CC, CXX) and cargo; on Arm clang too. Its last line is 'test-native.sh: all is well'.
+set -euo pipefail
+cd "$(dirname "${BASH_SOURCE[0]}")/.."
+cc=${CC:-cc} cxx=${CXX:-c++}
+strict=(-Wall -Wextra -Wpedantic -Wconversion -Wshadow -Werror -Iinclude)
+shipped=target/staticlib/libmerinovault.a native=target/native/libmerinovault.a
+made=target/native/c
+say() { echo "test-native.sh: $*"; }
+
+# The example writes what c/example.stdout has, and the driver what the two programs must write; `run` says how to start them.
+try() { # WHAT EXAMPLE DRIVER
+  run "$2" | cmp - c/example.stdout
+  run "$3" <crates/pack_sheets/stdin | cmp - crates/pack_sheets/stdout
+  run "$3" long <crates/pack_long/stdin | cmp - crates/pack_long/stdout
+  say "$1: the example, and the driver on $(wc -l <crates/pack_sheets/stdout) and $(wc -l <crates/pack_long/stdout) sheets"
+}
+
+tools/native-lib.sh merinovault "$native"
+mkdir -p "$made"
+
+echo '#include "merinovault.h"' >"$made/header.c"
+"$cc" -std=c11 "${strict[@]}" -c "$made/header.c" -o "$made/header.o"
+"$cxx" -x c++ -std=c++17 "${strict[@]}" -c "$made/header.c" -o "$made/header.o"
+say "the header compiles as C11 and as C++17"
+
+MERINOVAULT_LIB_DIR=$PWD/target/native cargo test --offline --manifest-path rust/Cargo.toml
+say "the Rust crate's tests pass"
+
+run() { "$@"; }
+for name in example driver; do
+  "$cc" -std=c11 "${strict[@]}" -O2 "c/$name.c" "$native" -o "$made/$name"
+  "$cc" -std=c11 "${strict[@]}" -O1 -g -fsanitize=address,undefined -fno-sanitize-recover=all "c/$name.c" "$native" -o "$made/$name-sanitized"
+done
+try "for $(uname -m)" "$made/example" "$made/driver"
+try "for $(uname -m), sanitized" "$made/example-sanitized" "$made/driver-sanitized"
+
+if [ "$(uname -m)" != x86_64 ]; then
+  kit=$(dirname "$(dirname "$(rt doc)")")/on/$(uname -m)
+  # The C library's headers of this machine serve here: of what is used, nothing differs on x86-64.
+  headers=/usr/include/$("$cc" -print-multiarch 2>/dev/null || true)
+  for name in example driver; do
+    clang --target=x86_64-unknown-linux-gnu -std=c11 "${strict[@]}" -isystem "$headers" -fPIE -O2 -c "c/$name.c" -o "$made/$name-x86_64.o"
+    "$kit/bin/rattle-link" --target x86_64-unknown-linux-gnu --toolchain "$kit/toolchain" -o "$made/$name-x86_64" "$made/$name-x86_64.o" "$shipped"
+  done
+  run() { "$kit/toolchain/bin/qemu-x86_64" "$kit/toolchain/lib/ld-linux-x86-64.so.2" --library-path "$kit/toolchain/lib" "$@"; }
+  try "for x86-64, with the archive that is shipped, emulated" "$made/example-x86_64" "$made/driver-x86_64"
+fi
+say "all is well"
