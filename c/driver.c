@@ -1,15 +1,15 @@
 /*
- * driver.c: packs the sheets of a stream through the C-callable entries, and looks at every byte that must keep its value.
+ * driver.c: packs the sheets of a list through the C-callable entries, and looks at every byte that must keep its value.
  *
- *   driver < STREAM        A record is a u32 length, a sheet and a u32 room (the oracle's questions). A line for each: number,
- *                          value, on Done the block in hex or, past 64 bytes, its Adler-32, and how many bytes changed that
- *                          must not. So crates/pack_sheets writes too.
- *   driver long < STREAM   A record holds a sheet's pattern, as crates/pack_long reads it, and a line is number, value and the
- *                          Adler-32 of an output of 1,048,578 bytes.
+ *   driver < crates/replay/stdin
+ *
+ * A record is as crates/replay/src/main.rt tells: lengths, the room, the oracle's number and value, and the patterns of the sheet
+ * and of the block. Number, value and block must be the oracle's. It writes what crates/replay writes: a line for each number
+ * that was met, with its count; then how many answers differ, and the first that does.
  *
  * Each sheet and block ends where memory ends, so a byte read past it stops the program. Each sheet and block is also stepped
  * through, and the answer held to a stepper written here. Status 0: all is well; 1: a fault, told on standard error; 2: a bad
- * stream or call.
+ * list or call.
  */
 #define _DEFAULT_SOURCE /* for MAP_ANONYMOUS */
 #include <inttypes.h>
@@ -23,9 +23,10 @@
 #include "merinovault.h"
 
 enum {
-    GUARD = 64,                   /* bytes on both sides of the output and of the value that must keep theirs */
-    SPACE = 4 * 1024 * 1024,      /* the longest sheet, and the largest room, of a record */
-    LONG_OUTPUT = 1024 * 1024 + 2 /* the output whose checksum crates/pack_long writes */
+    GUARD = 64,             /* bytes on both sides of the output and of the value that must keep theirs */
+    SPACE = 4 * 1024 * 1024, /* the longest sheet and block, and the largest room, of a record */
+    HEAD = 21,              /* the bytes of a record before its patterns */
+    NUMBERS = 14            /* document 01's answers */
 };
 
 static int status = 0;
@@ -58,16 +59,6 @@ static int64_t number_in(const uint8_t *value)
     for (size_t i = MERINOVAULT_VALUE_LEN; i > 0; i--)
         bits = bits << 8 | value[i - 1];
     return (int64_t)bits;
-}
-
-static uint32_t adler32(const uint8_t *bytes, size_t len)
-{
-    uint32_t a = 1, b = 0;
-    for (size_t i = 0; i < len; i++) {
-        a = (a + bytes[i]) % 65521;
-        b = (b + a) % 65521;
-    }
-    return b << 16 | a;
 }
 
 /* How many of these bytes are not `fill`. */
@@ -182,65 +173,49 @@ static bool take(uint8_t *bytes, size_t len)
     return n == len;
 }
 
-static bool take_u32(uint32_t *n)
+static size_t u32_at(const uint8_t *b)
 {
-    uint8_t b[4];
-    if (!take(b, sizeof b))
-        return false;
-    *n = (uint32_t)b[0] | (uint32_t)b[1] << 8 | (uint32_t)b[2] << 16 | (uint32_t)b[3] << 24;
-    return true;
+    return (size_t)b[0] | (size_t)b[1] << 8 | (size_t)b[2] << 16 | (size_t)b[3] << 24;
 }
 
-/* Writes the sheet of a pattern, runs of a u32 length, a u16 length and that many bytes, which fill the run again and again. */
-static size_t unroll(const uint8_t *pattern, size_t len, uint8_t *sheet)
+/* Reads a pattern, runs of a u32 length, a u16 length and that many bytes, which fill the run again and again, and unrolls it. */
+static size_t unroll(size_t len, uint8_t *bytes)
 {
+    static uint8_t pattern[SPACE];
+    if (len > SPACE || (len > 0 && !take(pattern, len)))
+        stop("a pattern is cut short, or has more than 4 MiB");
     size_t at = 0;
     for (size_t p = 0; p < len;) {
         if (len - p < 6)
             stop("a pattern is cut short");
-        size_t run = (size_t)pattern[p] | (size_t)pattern[p + 1] << 8 | (size_t)pattern[p + 2] << 16 | (size_t)pattern[p + 3] << 24;
+        size_t run = u32_at(pattern + p);
         size_t n = (size_t)pattern[p + 4] | (size_t)pattern[p + 5] << 8;
         p += 6;
         if (n == 0 || len - p < n || SPACE - at < run)
-            stop("a pattern that gives no sheet");
+            stop("a pattern that gives no bytes");
         for (size_t i = 0; i < run; i++)
-            sheet[at++] = pattern[p + i % n];
+            bytes[at++] = pattern[p + i % n];
         p += n;
     }
     return at;
 }
 
-static void write_block(const uint8_t *block, size_t len)
-{
-    if (len > 64) {
-        printf(" %" PRIu32, adler32(block, len));
-        return;
-    }
-    printf(" ");
-    for (size_t i = 0; i < len; i++)
-        printf("%02x", block[i]);
-}
-
 int main(int argc, char **argv)
 {
-    bool is_long = argc == 2 && strcmp(argv[1], "long") == 0;
-    if (argc > 1 && !is_long)
-        stop("usage: driver [long] < STREAM");
+    if (argc > 1)
+        stop("usage: driver < LIST");
+    (void)argv;
     edges();
 
     uint8_t *sheet_end = memory_end(SPACE), *out_end = memory_end(GUARD + SPACE + GUARD), *block_end = memory_end(SPACE);
-    uint8_t *input = malloc(SPACE), *copy = malloc(SPACE);
-    if (input == NULL || copy == NULL)
+    uint8_t *copy = malloc(SPACE), *block = malloc(SPACE), head[HEAD];
+    if (copy == NULL || block == NULL)
         stop("no memory");
-    uint32_t len, room;
-    for (size_t line = 1; take_u32(&len); line++) {
-        if (len > SPACE || (len > 0 && !take(input, len)) || !take_u32(&room) || room > SPACE)
-            stop("a record is cut short, or has more than 4 MiB");
-        size_t n = len;
-        if (is_long)
-            n = unroll(input, len, copy);
-        else
-            memcpy(copy, input, len);
+    size_t counts[NUMBERS] = {0}, differ = 0, first_to_differ = 0;
+    for (size_t line = 1; take(head, HEAD); line++) {
+        size_t room = u32_at(head + 8), n = unroll(u32_at(head), copy), m = unroll(u32_at(head + 4), block);
+        if (room > SPACE || head[12] >= NUMBERS)
+            stop("a record with a room of more than 4 MiB, or an answer that is none");
         uint8_t *sheet = memcpy(sheet_end - n, copy, n), *out = out_end - GUARD - room;
 
         /* A byte that is written with what it holds already shows in the other of two fills. */
@@ -253,21 +228,20 @@ int main(int argc, char **argv)
             fault(line, "the sheet changed");
 
         size_t written = a.number == MERINOVAULT_DONE ? (size_t)a.value : 0;
-        printf("%" PRIu32 " %" PRId64, a.number, a.value);
-        if (is_long) {
-            memcpy(input, out, written);
-            memset(input + written, 0xA5, LONG_OUTPUT > written ? LONG_OUTPUT - written : 0);
-            printf(" %" PRIu32 "\n", adler32(input, LONG_OUTPUT));
-        } else {
-            if (a.number == MERINOVAULT_DONE)
-                write_block(out, written);
-            printf(" %zu\n", first.changed + a.changed);
-        }
+        bool agrees = a.number == head[12] && a.value == number_in(head + 13) && written == m && memcmp(out, block, m) == 0;
+        counts[head[12]]++;
+        differ += !agrees;
+        if (!agrees && first_to_differ == 0)
+            first_to_differ = line;
         step(sheet, n, line);
         if (a.number == MERINOVAULT_DONE)
             step_all(out, written, block_end, line);
     }
-    free(input);
+    for (size_t number = 0; number < NUMBERS; number++)
+        if (counts[number] != 0)
+            printf("%zu %zu\n", number, counts[number]);
+    printf("differ %zu, first %zu\n", differ, first_to_differ);
     free(copy);
+    free(block);
     return status;
 }

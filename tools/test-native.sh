@@ -1,7 +1,7 @@
 #!/usr/bin/env bash
 # test-native.sh: proves and builds the archive, and calls it from C and Rust on this machine: the header as C11 and C++17, the
-# Rust crate's tests, the C example, and the C driver on the sheets of crates/pack_sheets and crates/pack_long, plain and under
-# the address and undefined-behaviour sanitizers. On Arm all this is done with the native archive of native-lib.sh; then the
+# Rust crate's tests, the C example, and the C driver on the oracle's answers of crates/replay, plain and under the address and
+# undefined-behaviour sanitizers. On Arm all this is done with the native archive of native-lib.sh; then the
 # example and the driver are also compiled for x86-64, linked with the archive that is shipped, and run by the kit's emulator.
 # Needs rt, a C and a C++ compiler (CC, CXX) and cargo; on Arm clang too. Its last line is 'test-native.sh: all is well'.
 set -euo pipefail
@@ -12,12 +12,11 @@ shipped=target/staticlib/libmerinovault.a native=target/native/libmerinovault.a
 made=target/native/c
 say() { echo "test-native.sh: $*"; }
 
-# The example writes what c/example.stdout has, and the driver what the two programs must write; `run` says how to start them.
+# The example writes what c/example.stdout has, and the driver what crates/replay must write; `run` says how to start them.
 try() { # WHAT EXAMPLE DRIVER
   run "$2" | cmp - c/example.stdout
-  run "$3" <crates/pack_sheets/stdin | cmp - crates/pack_sheets/stdout
-  run "$3" long <crates/pack_long/stdin | cmp - crates/pack_long/stdout
-  say "$1: the example, and the driver on $(wc -l <crates/pack_sheets/stdout) and $(wc -l <crates/pack_long/stdout) sheets"
+  run "$3" <crates/replay/stdin | cmp - crates/replay/stdout
+  say "$1: the example, and the driver on the list of crates/replay"
 }
 
 tools/native-lib.sh merinovault "$native"
