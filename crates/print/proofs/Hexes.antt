@@ -51,6 +51,10 @@ unfolding hexFrom hexByte
 length-hexFrom i n [] = refl
 length-hexFrom i n (b ∷ q) = omega (arith, length-hexFrom (i + 1) n q)
 
+pub length-hexLines : (q : List ℕ) → length (hexLines q) ≡ 3 * length q
+unfolding hexLines
+length-hexLines q = length-hexFrom 0 (length q) q
+
 -- the lines from index i on, while the loop stands at place p: with what is put they give the whole
 pub record Going (q : List ℕ) (at : ℕ) (old text : List ℕ) (i p : ℕ) : Type 0 where
   pub within : i ≤ length q

@@ -7,6 +7,7 @@ use lib.ListN.{length, take, drop, length-append}
 use lib.Seq.{take-append-seam, length-take-le}
 use lib.IntN.{ℤ, pos}
 use borrow.Author.Tests.{lt-ltb, le-ltb}
+use Rattle.io.specs.Counts.{Counts}
 use Rattle.layout.specs.Lists.{pick}
 use Rattle.layout.specs.Numbers.{bits64}
 use Rattle.layout.specs.Order.{signed64}
@@ -14,6 +15,8 @@ use Rattle.layout.specs.Answers.{CutShort, UnknownCode, BadField, TooDeep, Left
 use Rattle.layout.specs.Pack.{pack, output, Outcome}
 use Rattle.pack.proofs.Values.{natural-bits}
 use Rattle.print.specs.Text.{decimal, signed, line, hexLines, blockOf, printed, answered, blockText, Room, Put}
+use Rattle.print.specs.Sample.{full}
+use Rattle.print.proofs.Hexes.{length-hexLines}
 use Rattle.print.proofs.Puts.{put-then, put-as}
 
 -- ---- the line
@@ -118,6 +121,24 @@ pub block-room : {s o after old text : List ℕ} {k p : ℕ} → Filled s o k af
 block-room {after = after} {k = k} f h e l =
     let n : length (take k after) ≡ k = length-take-le k after (f .is-within) in
     record { room = omega (arith, n, f .is-small, h .room, e, l); small = omega (arith, h .small, e) }
+
+-- ---- the text lies in the buffer
+
+module _ {old : List ℕ} (text : List ℕ) {r : ℕ} (room : Room 196651 0 old) (same : length text ≡ length old) where
+  counts : r ≤ 196651 → Counts r text
+  counts h =
+      let l : r ≤ length text = omega (arith, h, room .room, same) in
+      (l, sym (length-take-le r text l))
+
+  -- that of an input that fills, a refusal's, and a Done's
+  pub counts-full : {at new : List ℕ} → Put (printed (Refused InputFull)) 0 at new r → Counts r text
+  counts-full h = counts (omega (arith, h .end, ap length full))
+
+  pub counts-line : r ≤ 43 → Counts r text
+  counts-line h = counts (omega (arith, h))
+
+  pub counts-block : {s o after at new : List ℕ} {k p : ℕ} → Filled s o k after → p ≤ 43 → Put (hexLines (take k after)) p at new r → Counts r text
+  counts-block {after = after} {k = k} f l h = counts (omega (arith, h .end, length-hexLines (take k after), length-take-le k after (f .is-within), f .is-small, l))
 
 -- ---- an input that does not fill
 

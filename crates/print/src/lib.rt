@@ -4,6 +4,7 @@ ghost use Prim.Native.Nat.{_+_, _*_, _≤_, _<_};
 ghost use lib.ListN.{length, getD};
 ghost use lib.Seq.{sets};
 ghost use Rattle.layout.specs.Answers.{Refused, InputFull};
+ghost use Rattle.io.specs.Counts.{Counts};
 ghost use Rattle.layout.specs.Order.{signed64};
 ghost use Rattle.layout.specs.Pack.{output};
 ghost use Rattle.pack.specs.Answered.{number, value};
@@ -141,6 +142,7 @@ fn put_full(text: &mut [u8]) -> usize
 pub fn block_text(input: &[u8], out: &mut [u8], text: &mut [u8]) -> usize
     requires { ⌜ (length (now input) ≤ 65536) × (length (now out) ≡ 65536) × Room 196651 0 (now text) ⌝ }
     ensures text { λ r. ⌜ Put (blockText (now (input .entry))) 0 (now (text .entry)) (now (text .exit)) r ⌝ }
+    ensures within { λ r. ⌜ Counts r (now (text .exit)) ⌝ }
     ensures output { λ _. ⌜ now (out .exit) ≡ output (answered (now (input .entry))) (now (out .entry)) ⌝ }
 {
     if input.len() == 65536 {

@@ -1,5 +1,5 @@
+use Rattle.print.proofs.Texts.{full-text, full-output, packed-output, text-refused, text-done, filled, block-room, counts-full, counts-line, counts-block, Filled}
 -- `print::block_text` meets its contract: the line, and the block that fills the front of the output. Assumes nothing.
-use Rattle.print.proofs.Texts.{full-text, full-output, packed-output, text-refused, text-done, filled, block-room, Filled}
 use mathlib.Core.Path.{sym, _∙_}
 use lib.Seq.{length-take-le}
 use Rattle.print.proofs.Puts.{put-as}
@@ -14,7 +14,7 @@ same-length : tie.Need-same-length
 same-length c = search needs
 
 returns : tie.Need-returns
-returns c = (put-as (full-text _ (c .before .before .before .before .if1 .taken)) (c .before .before .put-full .ensures), full-output _ _ (c .before .before .before .before .if1 .taken))
+returns c = (put-as (full-text _ (c .before .before .before .before .if1 .taken)) (c .before .before .put-full .ensures), (counts-full _ (c .before .before .before .before .before .before .before .before .pre .2) (c .before .before .put-full .kept .0) (c .before .before .put-full .ensures), full-output _ _ (c .before .before .before .before .if1 .taken)))
 
 pack-requires : tie.Need-pack-requires
 pack-requires c κs = search needs
@@ -32,7 +32,7 @@ same-length-3 : tie.Need-same-length-3
 same-length-3 c = search needs
 
 returns-2 : tie.Need-returns-2
-returns-2 c = (text-refused _ _ (c .before .before .before .before .before .before .before .before .before .before .before .before .before .before .pre .1) (c .before .before .before .before .before .before .before .before .before .before .before .before .before .before .pre .0) (c .before .before .before .before .before .before .before .before .before .before .if1 .left) (c .before .before .before .before .before .before .before .before .pack .ensures) (λ e. c .if2 .taken (c .before .number-of .ensures ∙ e)) (c .before .before .before .before .put-line .ensures .0), packed-output _ _ (c .before .before .before .before .before .before .before .before .before .before .before .before .before .before .pre .1) (c .before .before .before .before .before .before .before .before .before .before .before .before .before .before .pre .0) (c .before .before .before .before .before .before .before .before .before .before .if1 .left) (c .before .before .before .before .before .before .before .before .pack .ensures))
+returns-2 c = (text-refused _ _ (c .before .before .before .before .before .before .before .before .before .before .before .before .before .before .pre .1) (c .before .before .before .before .before .before .before .before .before .before .before .before .before .before .pre .0) (c .before .before .before .before .before .before .before .before .before .before .if1 .left) (c .before .before .before .before .before .before .before .before .pack .ensures) (λ e. c .if2 .taken (c .before .number-of .ensures ∙ e)) (c .before .before .before .before .put-line .ensures .0), (counts-line _ (c .before .before .before .before .before .before .before .before .before .before .before .before .before .before .pre .2) (c .before .before .before .before .put-line .kept .0) (c .before .before .before .before .put-line .ensures .1), packed-output _ _ (c .before .before .before .before .before .before .before .before .before .before .before .before .before .before .pre .1) (c .before .before .before .before .before .before .before .before .before .before .before .before .before .before .pre .0) (c .before .before .before .before .before .before .before .before .before .before .if1 .left) (c .before .before .before .before .before .before .before .before .pack .ensures)))
 
 value-of-requires : tie.Need-value-of-requires
 value-of-requires c κs = search needs
@@ -57,7 +57,7 @@ same-length-5 : tie.Need-same-length-5
 same-length-5 c = search needs
 
 returns-3 : tie.Need-returns-3
-returns-3 c = (text-done _ _ (c .before .before .before .before .before .before .before .before .before .before .before .before .before .before .before .before .before .before .before .before .pre .1) (c .before .before .before .before .before .before .before .before .before .before .before .before .before .before .before .before .before .before .before .before .pre .0) (c .before .before .before .before .before .before .before .before .before .before .before .before .before .before .before .before .if1 .left) (c .before .before .before .before .before .before .before .before .before .before .before .before .before .before .pack .ensures) (fills (c .before .before .before .before)) (c .before .before .before .before .before .before .before .before .before .before .put-line .ensures .0) (c .before .before .put-block .ensures), packed-output _ _ (c .before .before .before .before .before .before .before .before .before .before .before .before .before .before .before .before .before .before .before .before .pre .1) (c .before .before .before .before .before .before .before .before .before .before .before .before .before .before .before .before .before .before .before .before .pre .0) (c .before .before .before .before .before .before .before .before .before .before .before .before .before .before .before .before .if1 .left) (c .before .before .before .before .before .before .before .before .before .before .before .before .before .before .pack .ensures))
+returns-3 c = (text-done _ _ (c .before .before .before .before .before .before .before .before .before .before .before .before .before .before .before .before .before .before .before .before .pre .1) (c .before .before .before .before .before .before .before .before .before .before .before .before .before .before .before .before .before .before .before .before .pre .0) (c .before .before .before .before .before .before .before .before .before .before .before .before .before .before .before .before .if1 .left) (c .before .before .before .before .before .before .before .before .before .before .before .before .before .before .pack .ensures) (fills (c .before .before .before .before)) (c .before .before .before .before .before .before .before .before .before .before .put-line .ensures .0) (c .before .before .put-block .ensures), (counts-block _ (c .before .before .before .before .before .before .before .before .before .before .before .before .before .before .before .before .before .before .before .before .pre .2) (c .before .before .put-block .kept .0 ∙ c .before .before .before .before .before .before .before .before .before .before .put-line .kept .0) (fills (c .before .before .before .before)) (c .before .before .before .before .before .before .before .before .before .before .put-line .ensures .1) (c .before .before .put-block .ensures), packed-output _ _ (c .before .before .before .before .before .before .before .before .before .before .before .before .before .before .before .before .before .before .before .before .pre .1) (c .before .before .before .before .before .before .before .before .before .before .before .before .before .before .before .before .before .before .before .before .pre .0) (c .before .before .before .before .before .before .before .before .before .before .before .before .before .before .before .before .if1 .left) (c .before .before .before .before .before .before .before .before .before .before .before .before .before .before .pack .ensures)))
 
 pub block-text-spec : {M : Type 1} → statement M
 block-text-spec =
