@@ -1,0 +1,4 @@
+pub mod Decimals
+pub mod Puts
+pub mod Hexes
+pub mod Texts
