@@ -1,12 +1,13 @@
 -- The text that the block program prints, byte by byte, in ASCII: 10 is a line feed, 32 a space, 45 a minus sign, 48 to 57 are
 -- the digits 0 to 9, 65 to 70 the letters A to F. Assumes nothing.
-use mathlib.Core.Path.{_≡_}
+use mathlib.Core.Path.{_≡_, sym, _∙_}
 use Prim.Native.Nat.{ℕ, zero, suc, _+_, _/_, _%_, _≤_}
 use mathlib.Core.List.{List, [], _∷_, _++_}
-use lib.ListN.{length}
+use native.Mathlib.Omega.{arith}
+use lib.ListN.{length, take, drop}
 use lib.IntN.{ℤ, pos, negsuc}
 use lib.Dec.{ltb, eqb}
-use lib.Seq.{sets}
+use lib.Seq.{sets, sets-eq, take-append-seam}
 use Rattle.layout.specs.Lists.{pick}
 use Rattle.layout.specs.Answers.{Answer, Done, Refused, InputFull, number, value, lengthOf}
 use Rattle.layout.specs.Pack.{pack}
@@ -88,3 +89,14 @@ pub record Room (n at : ℕ) (text : List ℕ) : Type 0 where
 pub record Put (x : List ℕ) (at : ℕ) (old new : List ℕ) (r : ℕ) : Type 0 where
   pub wrote : new ≡ sets old at x
   pub end : r ≡ at + length x
+
+-- a text at the front is the first r bytes
+pub at-front : {x old new : List ℕ} {r : ℕ} → Put x 0 old new r → r ≤ length old → take r new ≡ x
+at-front {x} {old} {new} {r} h l =
+    let e : r ≡ length x = omega (arith, h .end) in
+    let f : new ≡ x ++ drop (0 + length x) old = h .wrote ∙ sets-eq x old 0 (omega (arith, e, l)) in
+    rw (e, f) (take-append-seam x (drop (0 + length x) old))
+
+-- one text for each input: any two outcomes are equal
+pub same-put : {x : List ℕ} {at r r′ : ℕ} {old new new′ : List ℕ} → Put x at old new r → Put x at old new′ r′ → (new ≡ new′) × (r ≡ r′)
+same-put h k = (h .wrote ∙ sym (k .wrote), h .end ∙ sym (k .end))

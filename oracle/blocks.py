@@ -1,0 +1,92 @@
+#!/usr/bin/env python3
+"""Writes stdin and stdout of crates/block, block_empty, block_full and block_cases: inputs of the block program, and what the oracle prints of each.
+
+Run in the checkout after the oracle is built: python3 oracle/blocks.py
+"""
+import struct
+import subprocess
+
+from packings import CALL, HAND, POP, jump, pattern, push, string
+from readings import ORACLE, body, nested, sheet
+
+# What document 01 says of the program: an input, and its text.
+SAMPLE = bytes.fromhex("01 00 00 00 00 00 01 00 99 00 00 0B 00 00 00 01 00 41 31")
+SAMPLE_TEXT = "0 6\n99 02 00 FB FF 00\n"
+# What the program has for its input, and for the block.
+SPACE = 65536
+
+
+def of_size(n):
+    """A block of n bytes, its End counted, from few bytes: Call is one byte of a sheet and three of a block."""
+    calls, pops = divmod(n - 1, 3)
+    return sheet(body(*[CALL] * calls, *[POP] * pops))
+
+
+def as_long_as(n, main, distance=None):
+    """A sheet of n bytes: the rest is a note."""
+    return sheet(main, note=b"n" * (n - len(main) - 8), distance=distance)
+
+
+def refusals():
+    """2 to 7 and 9 to 11, each with the line that it must give. A sheet so short has no payload for 8."""
+    for bad in (b"", b"\x01", SAMPLE[:7], SAMPLE[:-1], SAMPLE[:-4] + b"\x02\x00A1", SAMPLE[:-1] + b"2", sheet(body(), distance=5)):
+        yield bad, "2 0"
+    yield sheet(body(), distance=0), "3 4"
+    yield sheet(body(jump(0))[:-1]), "3 5"
+    yield as_long_as(65535, body(POP) + b"\x17", distance=6), "7 65526"
+    yield sheet(body(b"\xff")), "4 4"
+    yield sheet(body(push(b"\x01"))), "4 7"
+    yield sheet(body(jump(1024))), "5 5"
+    yield sheet(body(b"\x8b" + string(b"a\0b"))), "5 8"
+    yield sheet(nested(17)), "6 80"
+    yield sheet(body() + b"\x00"), "7 4"
+    yield sheet(body(b"\x94" + body(*[CALL] * 21845, POP))), "9 65536"
+    yield sheet(body(jump(0), *[CALL] * 10922, POP, POP, labels=[(0, 10925)])), "10 32768"
+    yield sheet(body(*[CALL] * 10921, POP, jump(0), labels=[(0, 0)])), "10 -32769"
+    yield sheet(body(*[CALL] * 21000, jump(0), labels=[(0, 0)])), "10 -63005"
+    yield of_size(SPACE + 1), "11 65537"
+    yield sheet(body(*[CALL] * 65519)), "11 196558"
+
+
+def blocks():
+    """Blocks that end before a line's end, at it and behind it; every byte; and the longest."""
+    for main, _ in HAND:
+        yield sheet(main)
+    for n in (1, 2, 15, 16, 17, 31, 32, 33, 48, 255, 256, 257, 999, 1000, 1001):
+        yield of_size(n)
+    yield sheet(body(b"\x8b" + string(bytes(range(1, 256)))))
+    yield as_long_as(65535, HAND[0][0])
+    yield of_size(SPACE)
+
+
+def text(s):
+    """What the oracle prints."""
+    return subprocess.run([ORACLE], input=s, stdout=subprocess.PIPE, check=True).stdout.decode()
+
+
+def write(crate, stdin, stdout):
+    assert len(stdin) <= SPACE, (crate, len(stdin))
+    open(f"crates/{crate}/stdin", "wb").write(stdin)
+    open(f"crates/{crate}/stdout", "w").write(stdout)
+    print(crate, len(stdin), "bytes in,", len(stdout), "out")
+
+
+def main():
+    assert text(SAMPLE) == SAMPLE_TEXT
+    write("block", SAMPLE, text(SAMPLE))
+    write("block_empty", b"", text(b""))
+    full = as_long_as(SPACE, HAND[5][0])
+    assert text(full) == "12 65536\n"
+    write("block_full", full, text(full))
+
+    cases = [*blocks(), full]
+    for s, line in refusals():
+        assert text(s) == line + "\n", (line, text(s))
+        cases.append(s)
+    cases.append(SAMPLE)
+    patterns = [pattern(s) for s in cases]
+    write("block_cases", b"".join(struct.pack("<I", len(p)) + p for p in patterns), "".join(map(text, cases)))
+
+
+if __name__ == "__main__":
+    main()
