@@ -38,7 +38,11 @@ impl Counts {
             return;
         };
         self.differences += 1;
-        if self.smallest.as_ref().is_none_or(|(least, ..)| sheet.len() < least.len()) {
+        if self
+            .smallest
+            .as_ref()
+            .is_none_or(|(least, ..)| sheet.len() < least.len())
+        {
             self.smallest = Some((sheet.clone(), room, what));
         }
     }
@@ -90,7 +94,11 @@ fn main() -> ExitCode {
     for (number, count) in counts.answers.iter().enumerate() {
         println!("{number:<8} {count:>9}");
     }
-    println!("{} sheets, {} differences", counts.sheets(), counts.differences);
+    println!(
+        "{} sheets, {} differences",
+        counts.sheets(),
+        counts.differences
+    );
     let Some((sheet, room, what)) = counts.smallest else {
         return ExitCode::SUCCESS;
     };
@@ -101,6 +109,12 @@ fn main() -> ExitCode {
 
 fn run(counts: &mut Counts, family: Family, seed: u64, count: usize) {
     let before = counts.sheets();
-    questions(family, seed, count, &mut |question| counts.compare(&question));
-    eprintln!("{:<9} {:>9} sheets", family.name(), counts.sheets() - before);
+    questions(family, seed, count, &mut |question| {
+        counts.compare(&question)
+    });
+    eprintln!(
+        "{:<9} {:>9} sheets",
+        family.name(),
+        counts.sheets() - before
+    );
 }

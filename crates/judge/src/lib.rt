@@ -1,7 +1,5 @@
 // Judging the branches of a main body that reads whole, against the final label table: 10.
-ghost use mathlib.Core.Path.{_≡_};
 ghost use Prim.Native.Nat.{_+_, _≤_, _<_};
-ghost use lib.ListN.{length};
 ghost use Rattle.layout.specs.Read.{edition1, readAction, readBody, repeat};
 ghost use Rattle.layout.specs.Lengths.{total};
 ghost use Rattle.operands.specs.Scanned.{placed};

@@ -4,7 +4,6 @@ ghost use Prim.Native.Nat.{_+_, _≤_};
 ghost use lib.ListN.{length};
 ghost use Rattle.layout.specs.Read.{edition1, deepest, readEntries, readBody, readAction, readMain, repeat};
 ghost use Rattle.layout.specs.Lengths.{total};
-ghost use Rattle.laws.specs.Fits.{Bytes};
 ghost use Rattle.operands.specs.Scanned.{placed, scanned};
 ghost use Rattle.payload.specs.Walk.{state, outcome, Ran, actionSize, actionTrace, bodyLength, bodyEvents, bodiesEvents};
 ghost use Rattle.scan.specs.Bodies.{readFront, Fronted, Ready, firstLong, Empty, MainScanned};

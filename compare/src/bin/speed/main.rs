@@ -18,7 +18,10 @@ impl Timer {
         call();
         let once = start.elapsed().as_secs_f64().max(1e-9);
         let batch = (0.01 / once).clamp(1.0, 100_000.0) as u32;
-        Timer { batch, least: f64::INFINITY }
+        Timer {
+            batch,
+            least: f64::INFINITY,
+        }
     }
 
     fn round(&mut self, call: &mut dyn FnMut()) {
@@ -26,7 +29,9 @@ impl Timer {
         for _ in 0..self.batch {
             call();
         }
-        self.least = self.least.min(start.elapsed().as_secs_f64() / f64::from(self.batch));
+        self.least = self
+            .least
+            .min(start.elapsed().as_secs_f64() / f64::from(self.batch));
     }
 }
 
@@ -53,7 +58,11 @@ fn time(sheet: &[u8], rounds: u32) -> (f64, f64, f64, usize) {
     let mut encoding = || {
         black_box(oracle::pack::encode(black_box(&whole)).unwrap());
     };
-    let mut timers = [Timer::new(&mut ours), Timer::new(&mut both), Timer::new(&mut encoding)];
+    let mut timers = [
+        Timer::new(&mut ours),
+        Timer::new(&mut both),
+        Timer::new(&mut encoding),
+    ];
     for _ in 0..rounds {
         timers[0].round(&mut ours);
         timers[1].round(&mut both);
@@ -62,25 +71,85 @@ fn time(sheet: &[u8], rounds: u32) -> (f64, f64, f64, usize) {
     (timers[0].least, timers[1].least, timers[2].least, n)
 }
 
+fn cases() -> [Case; 6] {
+    [
+        Case {
+            name: "screen",
+            sheet: sheets::screen(35),
+        },
+        Case {
+            name: "large",
+            sheet: sheets::screen(1_900),
+        },
+        Case {
+            name: "tiny",
+            sheet: sheets::tiny(),
+        },
+        Case {
+            name: "strings",
+            sheet: sheets::strings(),
+        },
+        Case {
+            name: "labels",
+            sheet: sheets::labels(),
+        },
+        Case {
+            name: "deep",
+            sheet: sheets::deep(),
+        },
+    ]
+}
+
 fn main() {
-    let rounds = std::env::args().nth(1).map_or(15, |n| n.parse().expect("a number of rounds"));
-    let cases = [
-        Case { name: "screen", sheet: sheets::screen(35) },
-        Case { name: "large", sheet: sheets::screen(1_900) },
-        Case { name: "tiny", sheet: sheets::tiny() },
-        Case { name: "strings", sheet: sheets::strings() },
-        Case { name: "labels", sheet: sheets::labels() },
-        Case { name: "depth 16", sheet: sheets::deep() },
-    ];
+    let words: Vec<String> = std::env::args().skip(1).collect();
+    let words: Vec<&str> = words.iter().map(String::as_str).collect();
+    match words[..] {
+        [] => ratios(15),
+        ["run", case, side, times] => run(case, side, times.parse().expect("a number of times")),
+        [rounds] => ratios(rounds.parse().expect("a number of rounds")),
+        _ => panic!("usage: speed [ROUNDS] or speed run CASE ours|both|encoding TIMES"),
+    }
+}
+
+/// One side of one case so many times, and nothing else: for a profiler or a counter of instructions.
+fn run(case: &str, side: &str, times: u32) {
+    let cases = cases();
+    let sheet = &cases.iter().find(|c| c.name == case).expect("a case").sheet;
+    let mut out = vec![0; 4 * sheet.len() + 64];
+    let whole = oracle::sheet::read(sheet, b'y').expect("a sheet that reads");
+    for _ in 0..times {
+        match side {
+            "ours" => drop(black_box(merinovault::pack(black_box(sheet), &mut out))),
+            "both" => {
+                let whole = oracle::sheet::read(black_box(sheet), b'y').unwrap();
+                drop(black_box(oracle::pack::encode(&whole)));
+            }
+            "encoding" => drop(black_box(oracle::pack::encode(black_box(&whole)))),
+            _ => panic!("ours, both or encoding"),
+        }
+    }
+}
+
+fn ratios(rounds: u32) {
     println!("how many times as fast as the Rust's (i) reading and encoding, (ii) encoding alone");
-    println!("{:<10} {:>9} {:>9} {:>7} {:>7}", "case", "sheet", "block", "(i)", "(ii)");
-    for case in &cases {
+    println!(
+        "{:<10} {:>9} {:>9} {:>7} {:>7}",
+        "case", "sheet", "block", "(i)", "(ii)"
+    );
+    for case in &cases() {
         let (ours, both, encoding, n) = time(&case.sheet, rounds);
-        println!("{:<10} {:>9} {:>9} {:>7.2} {:>7.2}", case.name, case.sheet.len(), n, both / ours, encoding / ours);
+        println!(
+            "{:<10} {:>9} {:>9} {:>7.2} {:>7.2}",
+            case.name,
+            case.sheet.len(),
+            n,
+            both / ours,
+            encoding / ours
+        );
     }
     println!("\ntime for each byte of the block, against the first");
     let mut first = None;
-    for handlers in [45, 140, 450, 1_400, 4_500] {
+    for handlers in [45, 140, 450, 1_400, 4_500, 8_000] {
         let sheet = sheets::screen(handlers);
         let (ours, _, _, n) = time(&sheet, rounds.min(5));
         let each = ours / n as f64;
