@@ -35,11 +35,6 @@ impl Timer {
     }
 }
 
-struct Case {
-    name: &'static str,
-    sheet: Vec<u8>,
-}
-
 /// Seconds of: our entry, the Rust's reading and encoding, its encoding alone; and the block's length.
 fn time(sheet: &[u8], rounds: u32) -> (f64, f64, f64, usize) {
     let mut out = vec![0; 4 * sheet.len() + 64];
@@ -71,34 +66,15 @@ fn time(sheet: &[u8], rounds: u32) -> (f64, f64, f64, usize) {
     (timers[0].least, timers[1].least, timers[2].least, n)
 }
 
-fn cases() -> [Case; 6] {
-    [
-        Case {
-            name: "screen",
-            sheet: sheets::screen(35),
-        },
-        Case {
-            name: "large",
-            sheet: sheets::screen(1_900),
-        },
-        Case {
-            name: "tiny",
-            sheet: sheets::tiny(),
-        },
-        Case {
-            name: "strings",
-            sheet: sheets::strings(),
-        },
-        Case {
-            name: "labels",
-            sheet: sheets::labels(),
-        },
-        Case {
-            name: "deep",
-            sheet: sheets::deep(),
-        },
-    ]
-}
+/// The cases, by name.
+const CASES: [(&str, fn() -> Vec<u8>); 6] = [
+    ("screen", || sheets::screen(35)),
+    ("large", || sheets::screen(1_900)),
+    ("tiny", sheets::tiny),
+    ("strings", sheets::strings),
+    ("labels", sheets::labels),
+    ("deep", sheets::deep),
+];
 
 fn main() {
     let words: Vec<String> = std::env::args().skip(1).collect();
@@ -113,8 +89,11 @@ fn main() {
 
 /// One side of one case so many times, and nothing else: for a profiler or a counter of instructions.
 fn run(case: &str, side: &str, times: u32) {
-    let cases = cases();
-    let sheet = &cases.iter().find(|c| c.name == case).expect("a case").sheet;
+    let (_, made) = CASES
+        .iter()
+        .find(|(name, _)| *name == case)
+        .expect("a case");
+    let sheet = &made();
     let mut out = vec![0; 4 * sheet.len() + 64];
     let whole = oracle::sheet::read(sheet, b'y').expect("a sheet that reads");
     for _ in 0..times {
@@ -136,12 +115,13 @@ fn ratios(rounds: u32) {
         "{:<10} {:>9} {:>9} {:>7} {:>7}",
         "case", "sheet", "block", "(i)", "(ii)"
     );
-    for case in &cases() {
-        let (ours, both, encoding, n) = time(&case.sheet, rounds);
+    for (name, made) in CASES {
+        let sheet = made();
+        let (ours, both, encoding, n) = time(&sheet, rounds);
         println!(
             "{:<10} {:>9} {:>9} {:>7.2} {:>7.2}",
-            case.name,
-            case.sheet.len(),
+            name,
+            sheet.len(),
             n,
             both / ours,
             encoding / ours
