@@ -186,6 +186,14 @@ slots-small end tab es m h k l = go (ltb l 1024) refl
 
 -- ---- a main body
 
+-- it reads as one tree
+pub same-tree : (b : List ℕ) (t u : Actions) → ReadsMain b t → ReadsMain b u → t ≡ u
+same-tree b t u h k = go (h .read) (h .next) (h .is-read) (h .is-tree) (k .read) (k .next) (k .is-read) (k .is-tree)
+  where
+    go : (x : ActionsOf Text ℕ) (p : Place) → readMain edition1 b deepest ≡ got x p → mapBody spelling x ≡ t
+        → (y : ActionsOf Text ℕ) (q : Place) → readMain edition1 b deepest ≡ got y q → mapBody spelling y ≡ u → t ≡ u
+    go x p d i y q f j = cc
+
 module _ (b : List ℕ) (end : BytePosition) (tab : List ℕ) (m : MainJudgeable b end tab) where
   is-body : readBody edition1 b 16 (placed 0) ≡ got (m .reads .read) (m .reads .next)
   is-body = main-body b (m .reads .read) (m .reads .next) (m .reads .is-read)
@@ -211,16 +219,8 @@ module _ (b : List ℕ) (end : BytePosition) (tab : List ℕ) (m : MainJudgeable
     reads = is-body;
   }
 
-  -- whatever tree is read is this one
-  same-tree : (t : Actions) → ReadsMain b t → m .tree ≡ t
-  same-tree t r = go (m .reads .read) (m .reads .next) (r .read) (r .next) (m .reads .is-read) (r .is-read) (m .reads .is-tree) (r .is-tree)
-    where
-      go : (x : ActionsOf Text ℕ) (p : Place) (y : ActionsOf Text ℕ) (q : Place) → readMain edition1 b deepest ≡ got x p → readMain edition1 b deepest ≡ got y q
-          → mapBody spelling x ≡ m .tree → mapBody spelling y ≡ t → m .tree ≡ t
-      go x p y q e f g h = cc
-
   judged-main : (r : Verdict) → Says (tooFar (events (m .tree)) (events (m .tree))) r → MainJudged b r
-  judged-main r s = record { says = λ t h. subst (λ (u : Actions). Says (tooFar (events u) (events u)) r) (same-tree t h) s }
+  judged-main r s = record { says = λ t h. subst (λ (u : Actions). Says (tooFar (events u) (events u)) r) (same-tree b (m .tree) t (m .reads) h) s }
 
   pub main-short : end .0 ≤ 32768 → MainJudged b verdict.Near
   main-short h = judged-main verdict.Near (rw (none-far 1024 (end .0) (events (m .tree)) (events (m .tree)) within within h) Says.near)

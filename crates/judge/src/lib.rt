@@ -90,7 +90,8 @@ fn judge_bodies(
     Judged::Ends(p, w)
 }
 
-// An action within which `depth` bodies may stand one in another. Nothing in it is too long, so nothing is noted.
+// An action within which `depth` bodies may stand one in another. It reads, so its payload never stops; what is noted of its
+// length was known before.
 fn judge_action(b: &[u8], at: usize, depth: usize, pos: BytePosition, tab: &[usize]) -> Judged
     requires { ⌜ Judgeable (readAction edition1 (now b) (readBody edition1 (now b) depth) (placed at)) (now b) at pos (now tab) ⌝ }
     ensures { λ r. ⌜ Judging (now (tab .entry)) (measured actionSize actionTrace (pos .0) (readAction edition1 (now (b .entry)) (readBody edition1 (now (b .entry)) depth) (placed at))) r ⌝ }

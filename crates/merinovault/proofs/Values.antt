@@ -1,10 +1,10 @@
 -- Eight bytes stored into a slice of eight, and the two cases of its length. Assumes nothing.
 use mathlib.Core.Path.{_≡_, refl, sym, ap, _∙_}
-use Prim.Native.Nat.{ℕ, _+_, _/_, _%_, _<_}
+use Prim.Native.Nat.{ℕ, _/_, _%_, _<_}
 use native.Mathlib.Omega.{arith}
-use mathlib.Core.List.{List, _++_, append-nil}
-use lib.ListN.{length, drop-of-length-le}
-use lib.Seq.{sets, sets-eq}
+use mathlib.Core.List.{List, _++_}
+use lib.ListN.{length}
+use lib.Seq.{sets}
 use lib.IntN.{ℤ, pos}
 use borrow.Author.Tests.{eq-eqb, ne-eqb}
 use Rattle.layout.specs.Lists.{pick}
@@ -15,6 +15,7 @@ use Rattle.layout.specs.Step.{step}
 use Rattle.step.specs.Steps.{told}
 use Rattle.step.specs.declared.Stepped.{Stepped}
 use Rattle.step.specs.declared.Stepped.the-variants as steps
+use Rattle.pack.proofs.Packs as packs
 use Rattle.pack.proofs.Values.{natural-bits}
 use Rattle.fields.proofs.Stores.{sets-then}
 use Rattle.merinovault.specs.Calls.{ifEight}
@@ -35,7 +36,7 @@ filled l bits h e f g =
     whole : (x y : ℕ) → sets l 0 (le32 x ++ le32 y) ≡ le32 x ++ le32 y
     whole x y =
         let n : length (le32 x ++ le32 y) ≡ 8 = unfold le32 le16 in refl in
-        sets-eq (le32 x ++ le32 y) l 0 (omega (arith, n, e)) ∙ ap (λ (r : List ℕ). (le32 x ++ le32 y) ++ r) (drop-of-length-le l {i = 0 + length (le32 x ++ le32 y)} (omega (arith, n, e))) ∙ append-nil (le32 x ++ le32 y)
+        packs.filled l (le32 x ++ le32 y) (n ∙ sym e)
 
 -- of a slice of eight
 pub eight : {A : Type 0} (v : List ℕ) (a b : A) → length v ≡ 8 → ifEight v a b ≡ a

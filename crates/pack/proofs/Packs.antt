@@ -17,7 +17,7 @@ use Rattle.layout.specs.Write.{Event, labelAt, branchAt, payloadTooLong, bodyTo
 use Rattle.layout.specs.Lengths.{length-block}
 use Rattle.layout.specs.Judge.{tooLong, tooFar, orElse, judge}
 use Rattle.layout.specs.Pack.{spelling, packTree, packRead, packCut, pack, output, Outcome}
-use Rattle.layout.specs.Order.{long-first, far-next, room-last, then-done}
+use Rattle.layout.specs.Order.{signed64, long-first, far-next, room-last, then-done}
 use Rattle.layout.specs.Cut.{Cut, main, uncut, cut}
 use Rattle.laws.specs.Fits.{Bytes}
 use Rattle.laws.specs.ReadFits.{good-got, good-bad, main-good}
@@ -33,8 +33,8 @@ use Rattle.write.specs.Bodies.{MainWritable, WroteBlock}
 use Rattle.cut.specs.Cuts as cuts
 use Rattle.cut.specs.declared.CutMain.{CutMain}
 use Rattle.cut.specs.declared.CutMain.the-variants as cutMain
-use Rattle.layout.specs.Order.{signed64}
 use Rattle.judge.specs.Judging.{Says, near, far, MainJudged}
+use Rattle.judge.proofs.Mains.{same-tree}
 use Rattle.judge.specs.declared.Verdict.{Verdict}
 use Rattle.judge.specs.declared.Verdict.the-variants as verdict
 use Rattle.pack.specs.Answered.{number, value, Answered, TellsFault, MainWhole, MainShort, MainNear, MainPacked}
@@ -57,15 +57,7 @@ tree-small b t small r =
     let g = (good-got (r .read) (r .next) (main-good edition1 b small spelling (Unit {0}) (spells b small edition1) deepest) (r .is-read)) .0 in
     subst (λ (x : Actions). bodySize x + 12 ≤ 3 * length b) (r .is-tree) (g .1 tt)
 
--- It reads as one tree.
-same-tree : (b : List ℕ) (t u : Actions) → ReadsMain b t → ReadsMain b u → t ≡ u
-same-tree b t u h k = go (h .read) (h .next) (h .is-read) (h .is-tree) (k .read) (k .next) (k .is-read) (k .is-tree)
-  where
-    go : (x : ActionsOf Text ℕ) (p : Place) → readMain edition1 b deepest ≡ got x p → mapBody spelling x ≡ t
-        → (y : ActionsOf Text ℕ) (q : Place) → readMain edition1 b deepest ≡ got y q → mapBody spelling y ≡ u → t ≡ u
-    go x p d i y q f j = cc
-
--- And is answered by that tree alone.
+-- It is answered by its tree alone.
 read-tree : (b : List ℕ) (t : Actions) (start room : ℕ) → ReadsMain b t → packRead start (readMain edition1 b deepest) room ≡ packTree t room
 unfolding packRead
 read-tree b t start room r = rw (r .is-read, r .is-tree)
@@ -83,7 +75,7 @@ packed-by {b} {old} {new} {r} t h a =
 -- ---- 11 and 0
 
 -- A run as long as what it is written over.
-filled : (l vs : List ℕ) → length vs ≡ length l → sets l 0 vs ≡ vs
+pub filled : (l vs : List ℕ) → length vs ≡ length l → sets l 0 vs ≡ vs
 filled l vs e = sets-eq vs l 0 (omega arith) ∙ ap (λ (n : ℕ). vs ++ drop n l) (over e) ∙ ap (λ (x : List ℕ). vs ++ x) (drop-length l) ∙ append-nil vs
   where
     over : length vs ≡ length l → 0 + length vs ≡ length l
