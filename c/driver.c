@@ -3,9 +3,9 @@
  *
  *   driver < crates/replay/stdin
  *
- * A record is as crates/replay/src/main.rt tells: lengths, the room, the oracle's number and value, and the patterns of the sheet
- * and of the block. Number, value and block must be the oracle's. It writes what crates/replay writes: a line for each number
- * that was met, with its count; then how many answers differ, and the first that does.
+ * A record is as crates/replayed/src/lib.rt tells: lengths, the room, the oracle's number and value, and the patterns of the sheet
+ * and of the block, which are as crates/patterns/src/lib.rt tells. Number, value and block must be the oracle's. It writes what
+ * crates/replay writes: a line for each number that was met, with its count; then how many answers differ, and the first that does.
  *
  * Each sheet and block ends where memory ends, so a byte read past it stops the program. Each sheet and block is also stepped
  * through, and the answer held to a stepper written here. Status 0: all is well; 1: a fault, told on standard error; 2: a bad

@@ -323,7 +323,7 @@ REPEATED = re.compile(rb"(.{1,6}?)\1{15,}", re.S)
 
 
 def pattern(s):
-    """Bytes as crates/replay reads them: a run's length, and the bytes that fill it again and again."""
+    """Bytes as crates/patterns reads them: a run's length, and the bytes that fill it again and again."""
     runs, at = [], 0
     for found in REPEATED.finditer(s):
         runs += [(s[at : found.start()], 1), (found[1], len(found[0]) // len(found[1]))]

@@ -68,7 +68,7 @@ def generated(family, seed, count):
 
 
 def unrolled(pattern):
-    """The bytes that a pattern of crates/replay stands for."""
+    """The bytes that a pattern stands for, as crates/patterns reads it."""
     found, at = [], 0
     while at < len(pattern):
         run, n = struct.unpack_from("<IH", pattern, at)

@@ -1,5 +1,4 @@
 -- What the code's answer to a cut says, in the terms of the definitions. Assumes nothing.
-use mathlib.Core.Path.{_≡_}
 use Prim.Native.Nat.{ℕ, _-_, _≤_}
 use mathlib.Core.List.{List}
 use lib.ListN.{length, take, drop}

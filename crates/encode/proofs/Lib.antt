@@ -1,3 +1,1 @@
-pub mod Actions
 pub mod Shows
-pub mod Wholes

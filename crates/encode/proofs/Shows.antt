@@ -26,9 +26,11 @@ use Rattle.pcode.specs.declared.Action.{Action}
 use Rattle.pcode.specs.declared.Action.the-variants as code
 use Rattle.pcode.specs.Shown.{place, after, isText, ShownTarget, nothing, variable, register, Shown, small, gotoFrame, getUrl, storeRegister, constantPool, waitForFrame, setTarget, gotoLabel, waitForFrame2, defineFunction2, try, with, push, jump, getUrl2, defineFunction, if, gotoFrame2}
 use Rattle.encode_values.specs.declared.Ends.{Ends}
-use Rattle.encode.specs.Heads.{tableBits, headBytes, headOf, CatchFrom, FinallyFrom, BodiesFrom, NotFar, Writable, WroteHead}
-use Rattle.encode_values.specs.Pieces.{Piece, piece, written, nextOf, spanOf, stringBytes, paramBytes, valueBytes, joined, stringsAt, valuesAt, Room, Put}
-use Rattle.encode.specs.Payloads.{action, flatPiece, targetBytes, TargetWithin, functionPayload, function2Payload, function, function2}
+use Rattle.encode.specs.Heads.{headBytes, headOf, CatchFrom, FinallyFrom, BodiesFrom, NotFar, Writable, WroteHead}
+use Rattle.encode_values.specs.Pieces.{Piece, piece, action, written, nextOf, spanOf, stringBytes, paramBytes, valueBytes, joined, stringsAt, valuesAt, Room, Put}
+use Rattle.encode_values.specs.Pieces.{flatPiece}
+use Rattle.encode_flat.specs.Branches.{tableBits}
+use Rattle.encode_owners.specs.Payloads.{targetBytes, TargetWithin, functionPayload, function2Payload, function, function2}
 
 -- ---- lists
 

@@ -11,17 +11,13 @@ use Rattle.layout.specs.Tree.{Action, ActionOf, ActionsOf, CatchOf, FinallyOf, 
 use Rattle.layout.specs.Read.{Text, edition1, Place, Reader, got}
 use Rattle.layout.specs.Strings.{mapAction}
 use Rattle.layout.specs.Payload.{opcode, payload, ownerOpCode, ownerPayload, branchOpCode, catchShape, finallyShape, catchName, tryPayload, framed}
-use Rattle.layout.specs.Write.{distanceBits}
 use Rattle.layout.specs.Judge.{judged}
 use Rattle.layout.specs.Pack.{spelling}
 use Rattle.laws.specs.Fits.{Bytes}
 use Rattle.labels.specs.Table.{recordOf}
 use Rattle.pcode.specs.Shown.{Shown, place}
 use Rattle.pcode.specs.declared.Action as code
-
--- the sixteen bits of a branch, by the label table
-unfoldable pub tableBits : List ℕ → ℕ → ℕ → ℕ
-tableBits tab l after = distanceBits (recordOf (getD tab l 0)) after
+use Rattle.encode_flat.specs.Branches.{tableBits}
 
 -- an action's header and payload, the lengths of its bodies still 0
 unfoldable pub headBytes : (ℕ → ℕ → ℕ) → Action → ℕ → List ℕ

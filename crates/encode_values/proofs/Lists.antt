@@ -7,7 +7,7 @@ use mathlib.Core.List.{List, _∷_, _++_}
 use lib.ListN.{length, length-append}
 use lib.Seq.{sets, length-sets}
 use Rattle.layout.specs.Read.{Read, got, bad, Reader, chain, repeat}
-use Rattle.fields.proofs.Stores.{sets-append}
+use Rattle.stores.proofs.Stores.{sets-append}
 use Rattle.pcode.specs.Shown.{place}
 use Rattle.encode_values.specs.declared.Ends.{Ends}
 use Rattle.encode_values.specs.Pieces.{Piece, written, bytesOf, nextOf, Reads, joined, Room, Put}

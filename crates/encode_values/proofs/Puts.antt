@@ -10,7 +10,8 @@ use borrow.Author.Tests.{lt-ltb, le-ltb}
 use Rattle.layout.specs.Numbers.{le16, bit}
 use Rattle.layout.specs.Payload.{zeroEnded, constantBytes}
 use Rattle.layout.specs.Lengths.{length-zeroEnded}
-use Rattle.fields.proofs.Stores.{sets-then, length-part}
+use Rattle.fields.proofs.Runs.{length-part}
+use Rattle.stores.proofs.Stores.{sets-then}
 use Rattle.pcode.specs.declared.Span.{Span}
 use Rattle.pcode.specs.Shown.{after}
 use Rattle.encode_values.specs.Pieces.{piece, spanOf, Put}

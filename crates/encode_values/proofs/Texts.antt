@@ -11,7 +11,7 @@ use Rattle.layout.specs.Read.{Text, edition1, Read, got, bad, plain, chain, rea
 use Rattle.layout.specs.Payload.{zeroEnded}
 use Rattle.layout.specs.Pack.{spelling}
 use Rattle.fields.specs.Runs.{part}
-use Rattle.fields.proofs.Stores.{sets-then}
+use Rattle.stores.proofs.Stores.{sets-then}
 use Rattle.pcode.specs.Shown.{place, spanAt, after}
 use Rattle.pcode.proofs.Readings as reading
 use Rattle.pcode.proofs.Readings.{Gives, gives, Exactly, exactly}

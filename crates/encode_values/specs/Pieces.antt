@@ -1,12 +1,13 @@
 -- Pieces of the block: bytes to write, and the place where reading goes on. Assumes nothing.
 use mathlib.Core.Path.{_≡_}
 use Prim.Native.Nat.{ℕ, _+_, _≤_}
+use mathlib.Core.Bool.{false}
 use mathlib.Core.List.{List, [], _∷_, _++_}
 use lib.ListN.{length}
 use lib.Seq.{sets}
-use Rattle.layout.specs.Tree.{PushValueOf, FunctionParamOf, functionParam}
+use Rattle.layout.specs.Tree.{Flat, PushValueOf, FunctionParamOf, functionParam}
 use Rattle.layout.specs.Read.{Text, edition1, Read, got, bad, repeat, readString, readParam, readValue}
-use Rattle.layout.specs.Payload.{zeroEnded, pushBytes}
+use Rattle.layout.specs.Payload.{opcode, payload, zeroEnded, pushBytes, headed, framed}
 use Rattle.layout.specs.Strings.{mapValue}
 use Rattle.layout.specs.Pack.{spelling}
 use Rattle.fields.specs.Runs.{part}
@@ -24,7 +25,15 @@ Piece = Read (List ℕ)
 abbrev pub piece : List ℕ → ℕ → Piece
 piece s next = got s (place next)
 
--- its bytes, and its place; a reading that was refused has none
+-- a header and a payload
+abbrev pub action : ℕ → List ℕ → ℕ → Piece
+action op q next = piece (headed false op q) next
+
+-- an action without a body, as the definitions write it
+abbrev pub flatPiece : Flat → ℕ → Piece
+flatPiece f next = piece (framed (opcode f) (payload f)) next
+
+-- a piece's bytes, and its place; a reading that was refused has none
 abbrev pub bytesOf : Piece → List ℕ
 bytesOf (got s q) = s
 bytesOf (bad f q) = []

@@ -9,14 +9,14 @@ ghost use Rattle.layout.specs.Payload.{zeroEnded, constantBytes, doubleBytes};
 ghost use Rattle.pcode.specs.Shown.{after};
 ghost use Rattle.encode_values.specs.Pieces.{piece, spanOf, stringAt, paramAt, valueAt, stringsAt, paramsAt, valuesAt, Room, Put};
 use fields::u16_at;
-use fields::write_f64_me;
-use fields::write_string;
-use fields::write_u8;
-use fields::write_u16;
-use fields::write_u32;
 use pcode::PushValue;
 use pcode::Span;
 use pcode::push_value_at;
+use stores::write_f64_me;
+use stores::write_string;
+use stores::write_u8;
+use stores::write_u16;
+use stores::write_u32;
 
 // The place where reading goes on, and the position where writing does.
 pub struct Ends {

@@ -7,7 +7,7 @@ use lib.ListN.{length, getD, drop}
 use lib.Seq.{getD-take, getD-drop}
 use Rattle.layout.specs.Read.{firstZero}
 use Rattle.fields.specs.Runs.{part, nulOr, firstNul}
-use Rattle.fields.proofs.Stores.{length-part}
+use Rattle.fields.proofs.Runs.{length-part}
 
 -- In a list s that is counted on from m: where the first z bytes are not zero, and the next one is or there is none, the
 -- place is i + (m + z).

@@ -1,12 +1,9 @@
-// Numbers and runs of bytes, read from slices and written into them. Numbers are little-endian.
+// Numbers and runs of bytes, read from slices. Numbers are little-endian.
 ghost use mathlib.Core.Path.{_≡_};
-ghost use mathlib.Core.List.{[], _∷_};
 ghost use Prim.Native.Nat.{ℕ, _+_, _<_, _≤_};
 ghost use lib.ListN.{length, getD};
-ghost use lib.Seq.{sets};
-ghost use Rattle.layout.specs.Numbers.{u16At, u32At, u64At, le16, le32};
-ghost use Rattle.layout.specs.Payload.{zeroEnded, doubleBytes};
-ghost use Rattle.fields.specs.Runs.{part, firstNul};
+ghost use Rattle.layout.specs.Numbers.{u16At, u32At, u64At};
+ghost use Rattle.fields.specs.Runs.{firstNul};
 
 // The u16 at a place.
 pub fn u16_at(b: &[u8], at: usize) -> usize
@@ -63,60 +60,4 @@ pub fn first_nul(b: &[u8], at: usize, n: usize) -> usize
         i += 1;
     }
     at + n
-}
-
-// One byte.
-pub fn write_u8(out: &mut [u8], at: usize, v: u8)
-    requires { ⌜ at + 1 ≤ length (now out) ⌝ }
-    ensures { λ _. ⌜ now (out .exit) ≡ sets (now (out .entry)) at (v ∷ []) ⌝ }
-{
-    out[at] = v;
-}
-
-// The low sixteen bits of a number.
-pub fn write_u16(out: &mut [u8], at: usize, v: usize)
-    requires { ⌜ at + 2 ≤ length (now out) ⌝ }
-    ensures { λ _. ⌜ now (out .exit) ≡ sets (now (out .entry)) at (le16 v) ⌝ }
-{
-    out[at] = (v % 256) as u8;
-    out[at + 1] = (v / 256 % 256) as u8;
-}
-
-// A u32.
-pub fn write_u32(out: &mut [u8], at: usize, v: u32)
-    requires { ⌜ at + 4 ≤ length (now out) ⌝ }
-    ensures { λ _. ⌜ now (out .exit) ≡ sets (now (out .entry)) at (le32 v) ⌝ }
-{
-    write_u16(out, at, (v % 65536) as usize);
-    write_u16(out, at + 2, (v / 65536) as usize);
-}
-
-// A double's 64 bits, the high word first.
-pub fn write_f64_me(out: &mut [u8], at: usize, bits: u64)
-    requires { ⌜ at + 8 ≤ length (now out) ⌝ }
-    ensures { λ _. ⌜ now (out .exit) ≡ sets (now (out .entry)) at (doubleBytes bits) ⌝ }
-{
-    write_u32(out, at, (bits / 4294967296) as u32);
-    write_u32(out, at + 4, (bits % 4294967296) as u32);
-}
-
-// n bytes of b from a place on.
-pub fn write_bytes(out: &mut [u8], at: usize, b: &[u8], from: usize, n: usize)
-    requires { ⌜ (at + n ≤ length (now out)) × (from + n ≤ length (now b)) ⌝ }
-    ensures { λ _. ⌜ now (out .exit) ≡ sets (now (out .entry)) at (part (now (b .entry)) from n) ⌝ }
-{
-    let mut i = 0;
-    while i < n {
-        out[at + i] = b[from + i];
-        i += 1;
-    }
-}
-
-// A string and its zero byte.
-pub fn write_string(out: &mut [u8], at: usize, b: &[u8], from: usize, n: usize)
-    requires { ⌜ (at + n + 1 ≤ length (now out)) × (from + n ≤ length (now b)) ⌝ }
-    ensures { λ _. ⌜ now (out .exit) ≡ sets (now (out .entry)) at (zeroEnded (part (now (b .entry)) from n)) ⌝ }
-{
-    write_bytes(out, at, b, from, n);
-    write_u8(out, at + n, 0);
 }

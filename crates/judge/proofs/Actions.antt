@@ -26,14 +26,14 @@ use Rattle.labels.specs.Table.{recordOf}
 use Rattle.labels.specs.declared.BytePosition.{BytePosition}
 use Rattle.operands.specs.Scanned.{placed, Roomy}
 use Rattle.operands.specs.declared.Fault.{Fault}
-use Rattle.payload.specs.Walk.{state, fault, outcome, actionSize, actionTrace, bodyLength, bodyEvents, inBodies, Measure, measure, branches, measured, Laying, flat, to-label, bodies, stops}
-use Rattle.payload.specs.declared.Laid.{Laid}
-use Rattle.payload.specs.declared.Laid.the-variants as laid
-use Rattle.payload.proofs.Runs.{branches-append, branches-payload}
-use Rattle.pcode.specs.Listed.{listed}
-use Rattle.scan.specs.Bodies.{Front, readFront}
-use Rattle.scan.proofs.Fronts.{FrontRead, front-read}
-use Rattle.scan.proofs.Walks.{body-deep, body-less, body-step, action-out, action-in, did-small, did-unknown, ran-is, ran-bad, outcome-is}
+use Rattle.walk.specs.Walk.{state, fault, outcome, actionSize, actionTrace, bodyLength, bodyEvents, inBodies, Measure, measure, branches, measured, Laying, flat, to-label, bodies, stops}
+use Rattle.walk.specs.declared.Laid.{Laid}
+use Rattle.walk.specs.declared.Laid.the-variants as laid
+use Rattle.walk.proofs.Runs.{branches-append, branches-payload}
+use Rattle.opcode.specs.Listed.{listed}
+use Rattle.front.specs.Front.{Front, readFront}
+use Rattle.front.proofs.Fronts.{FrontRead, front-read}
+use Rattle.bodies.proofs.Walks.{body-deep, body-less, body-step, action-out, action-in, did-small, did-unknown, ran-is, ran-bad, outcome-is}
 use Rattle.judge.specs.declared.Judged.{Judged}
 use Rattle.judge.specs.declared.Judged.the-variants as code
 use Rattle.judge.specs.Judging.{farBy, BranchJudged, Judgeable, Judging, near, far}
@@ -312,7 +312,7 @@ module _ (b : List ℕ) (d at : ℕ) (pos : BytePosition) (tab : List ℕ) (j : 
     bodies-asks q w n e = go (rw e at y)
       where
         go : Here (laid.Bodies q w n) → Judgeable (repeat (readBody edition1 b d) n (placed q)) b q w tab
-        go (bodies o g m) =
+        go (bodies least o g m) =
             let r = measured-read (total bodyLength) inBodies (w .0) (repeat (readBody edition1 b d) n (placed q)) (sym (m (readBody edition1 b d)) ∙ ap (measured actionSize actionTrace (pos .0)) (sym fields) ∙ measured-of actionSize actionTrace (pos .0) (j .reads)) in
             record {
               roomy = record { bytes = j .roomy .bytes; inside = o .within; room = omega (arith, j .roomy .room, j .roomy .inside, o .beyond, o .within, o .written) };
@@ -326,4 +326,4 @@ module _ (b : List ℕ) (d at : ℕ) (pos : BytePosition) (tab : List ℕ) (j : 
     bodies-found q w n r e k = go (rw e at y)
       where
         go : Here (laid.Bodies q w n) → Goal r
-        go (bodies o g m) = rw (fields, m (readBody edition1 b d)) k
+        go (bodies least o g m) = rw (fields, m (readBody edition1 b d)) k

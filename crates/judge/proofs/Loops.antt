@@ -12,9 +12,9 @@ use Rattle.layout.specs.Judge.{orElse, judged}
 use Rattle.layout.specs.Lengths.{total}
 use Rattle.labels.specs.declared.BytePosition.{BytePosition}
 use Rattle.operands.specs.Scanned.{placed, Roomy}
-use Rattle.payload.specs.Walk.{Measure, measure, branches, measured}
-use Rattle.payload.proofs.Runs.{branches-append}
-use Rattle.scan.proofs.Walks.{repeat-none, repeat-more}
+use Rattle.walk.specs.Walk.{Measure, measure, branches, measured}
+use Rattle.walk.proofs.Runs.{branches-append}
+use Rattle.bodies.proofs.Walks.{repeat-none, repeat-more}
 use Rattle.judge.specs.declared.Judged.{Judged}
 use Rattle.judge.specs.declared.Judged.the-variants as code
 use Rattle.judge.specs.Judging.{farBy, Judgeable, Judging, near, far}

@@ -9,27 +9,27 @@ use mathlib.Core.List.{List, [], _∷_, _++_}
 use lib.ListN.{length, getD, List·getD-eq-default}
 use lib.Dec.{ltb, eqb}
 use borrow.Author.Tests.{ltb-true, ltb-false, le-leb}
-use Rattle.layout.specs.Tree.{ActionIndex, firstAction, nextAction, Entry, entry, Action, flat, branch, owner, Try, ActionList, empty, more, Actions, ActionsOf, body, Catch, noCatch, catch, Finally, noFinally, finally}
-use Rattle.layout.specs.Read.{Text, edition1, deepest, Place, got, readBody, readMain}
-use Rattle.layout.specs.Strings.{mapBody}
+use Rattle.layout.specs.Tree.{ActionIndex, firstAction, nextAction, Entry, entry, Action, flat, branch, owner, Try, ActionList, empty, more, Actions, body, Catch, noCatch, catch, Finally, noFinally, finally}
+use Rattle.layout.specs.Read.{edition1, got, readBody}
 use Rattle.layout.specs.Payload.{ownerFields, catchName}
 use Rattle.layout.specs.Write.{size, sizes, bodySize, catchSize, finallySize, Position, moved, Event, labelAt, branchAt, payloadTooLong, bodyTooLong, eventIf, payloadTest, bodyTest, labelsAt, trace, traces, traceBody, traceCatch, traceFinally, events, later, recordIf, lookup}
 use Rattle.layout.specs.Judge.{isNear, farUnless, judged, orElse, tooFar}
 use Rattle.layout.specs.Pack.{spelling}
 use Rattle.laws.specs.ReadFits.{good-got, body-good}
-use Rattle.laws.specs.Packed.{ReadsMain, spells}
+use Rattle.laws.specs.Packed.{spells, same-tree}
 use Rattle.labels.specs.Table.{slot, recordOf, TableHolds}
 use Rattle.labels.specs.declared.BytePosition.{BytePosition}
 use Rattle.labels.proofs.Labels.{table-record}
 use Rattle.operands.specs.Scanned.{placed}
-use Rattle.payload.specs.Walk.{bodyLength, bodyEvents, measure, branches, measured}
+use Rattle.walk.specs.Walk.{bodyLength, bodyEvents, measure, branches, measured}
 use Rattle.pcode.proofs.Readings.{given}
 use Rattle.pcode.proofs.Trees.{Under, UnderActions, UnderBody, UnderCatch, UnderFinally, main-body, body-under}
 use Rattle.judge.specs.declared.Judged.{Judged}
 use Rattle.judge.specs.declared.Judged.the-variants as code
 use Rattle.judge.specs.declared.Verdict.{Verdict}
 use Rattle.judge.specs.declared.Verdict.the-variants as verdict
-use Rattle.judge.specs.Judging.{farBy, Judgeable, Judging, MainJudgeable, Says, MainJudged}
+use Rattle.labels.specs.Mains.{MainMeasured}
+use Rattle.judge.specs.Judging.{farBy, Judgeable, Judging, Says, MainJudged}
 use Rattle.judge.proofs.Loops.{found, found-far}
 
 -- ---- where events lie
@@ -186,15 +186,7 @@ slots-small end tab es m h k l = go (ltb l 1024) refl
 
 -- ---- a main body
 
--- it reads as one tree
-pub same-tree : (b : List ℕ) (t u : Actions) → ReadsMain b t → ReadsMain b u → t ≡ u
-same-tree b t u h k = go (h .read) (h .next) (h .is-read) (h .is-tree) (k .read) (k .next) (k .is-read) (k .is-tree)
-  where
-    go : (x : ActionsOf Text ℕ) (p : Place) → readMain edition1 b deepest ≡ got x p → mapBody spelling x ≡ t
-        → (y : ActionsOf Text ℕ) (q : Place) → readMain edition1 b deepest ≡ got y q → mapBody spelling y ≡ u → t ≡ u
-    go x p d i y q f j = cc
-
-module _ (b : List ℕ) (end : BytePosition) (tab : List ℕ) (m : MainJudgeable b end tab) where
+module _ (b : List ℕ) (end : BytePosition) (tab : List ℕ) (m : MainMeasured b end tab) where
   is-body : readBody edition1 b 16 (placed 0) ≡ got (m .reads .read) (m .reads .next)
   is-body = main-body b (m .reads .read) (m .reads .next) (m .reads .is-read)
 

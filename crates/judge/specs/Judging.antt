@@ -8,14 +8,13 @@ use Rattle.layout.specs.Answers.{Refusal, JumpOffsetOverflow}
 use Rattle.layout.specs.Order.{signed64}
 use Rattle.layout.specs.Tree.{Actions}
 use Rattle.layout.specs.Read.{Place, Read, got}
-use Rattle.layout.specs.Write.{Event, labelAt, branchAt, payloadTooLong, bodyTooLong, events, bodySize}
+use Rattle.layout.specs.Write.{Event, labelAt, branchAt, payloadTooLong, bodyTooLong, events}
 use Rattle.layout.specs.Judge.{orElse, judged, tooFar}
-use Rattle.laws.specs.Fits.{Bytes}
 use Rattle.laws.specs.Packed.{ReadsMain}
-use Rattle.labels.specs.Table.{recordOf, TableHolds}
+use Rattle.labels.specs.Table.{recordOf}
 use Rattle.labels.specs.declared.BytePosition.{BytePosition}
 use Rattle.operands.specs.Scanned.{Roomy}
-use Rattle.payload.specs.Walk.{Measure}
+use Rattle.walk.specs.Walk.{Measure}
 use Rattle.judge.specs.declared.Judged.{Judged}
 use Rattle.judge.specs.declared.Judged.the-variants as code
 use Rattle.judge.specs.declared.Verdict.{Verdict}
@@ -55,15 +54,6 @@ pub data Judging (tab : List ℕ) : Read Measure → Judged → Type 0 where
   far : {m : Measure} {q : Place} {bits : ℕ} → farBy tab (m .branching) ≡ some (JumpOffsetOverflow (signed64 bits)) → Judging tab (got m q) (code.Far bits)
 
 -- ---- a whole main body
-
--- what is asked: it reads whole, as far as position `end`, and the table holds its labels
-pub record MainJudgeable (b : List ℕ) (end : BytePosition) (tab : List ℕ) : Type 0 where
-  pub bytes : Bytes b
-  pub tree : Actions
-  pub reads : ReadsMain b tree
-  pub is-end : end .0 ≡ bodySize tree
-  pub holds : TableHolds 1024 tab (events tree)
-  pub limited : length b ≤ 1048576
 
 -- what the verdict says: no branch goes too far, or 10 and its value
 pub data Says : Option Refusal → Verdict → Type 0 where

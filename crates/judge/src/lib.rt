@@ -3,14 +3,15 @@ ghost use Prim.Native.Nat.{_+_, _≤_, _<_};
 ghost use Rattle.layout.specs.Read.{edition1, readAction, readBody, repeat};
 ghost use Rattle.layout.specs.Lengths.{total};
 ghost use Rattle.operands.specs.Scanned.{placed};
-ghost use Rattle.payload.specs.Walk.{measured, actionSize, actionTrace, bodyLength, bodyEvents, inBodies};
-ghost use Rattle.judge.specs.Judging.{Table, Judgeable, Judging, BranchJudged, MainJudgeable, MainJudged};
+ghost use Rattle.walk.specs.Walk.{measured, actionSize, actionTrace, bodyLength, bodyEvents, inBodies};
+ghost use Rattle.judge.specs.Judging.{Table, Judgeable, Judging, BranchJudged, MainJudged};
+ghost use Rattle.labels.specs.Mains.{MainMeasured};
 use fields::u16_at;
 use labels::BytePosition;
 use labels::distance;
 use labels::is_far;
-use payload::Laid;
 use payload::scan_payload;
+use walk::Laid;
 
 // Where reading and writing would end, or the 64 bits of the first distance in writing order that does not fit.
 pub enum Judged {
@@ -112,7 +113,7 @@ fn judge_action(b: &[u8], at: usize, depth: usize, pos: BytePosition, tab: &[usi
 // A main body that is written as far as position `end`. No distance overflows where that is at most 32,768: a branch leads
 // from there to the start at the farthest.
 pub fn judge_main(b: &[u8], end: BytePosition, tab: &[usize]) -> Verdict
-    requires { ⌜ MainJudgeable (now b) end (now tab) ⌝ }
+    requires { ⌜ MainMeasured (now b) end (now tab) ⌝ }
     ensures { λ r. ⌜ MainJudged (now (b .entry)) r ⌝ }
 {
     if end.0 <= 32768 {

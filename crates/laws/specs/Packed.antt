@@ -32,7 +32,8 @@ pub record Written (t : Actions) (room : ℕ) (q : List ℕ) : Type 0 where
   pub has-room : blockSize t ≤ room
   pub is-block : blockBytes t ≡ q
 
-refused-done : {X A : Type 0} {r : Refusal} {a : A} → Refused r ≡ Done a → X
+-- a refusal is no Done
+pub refused-done : {X A : Type 0} {r : Refusal} {a : A} → Refused r ≡ Done a → X
 refused-done k =
     let z : _≡_ {A = ℕ} 0 1 = cc in
     absurd (omega arith)
@@ -56,6 +57,14 @@ pub record ReadsMain (b : List ℕ) (t : Actions) : Type 0 where
   pub next : Place
   pub is-read : readMain edition1 b deepest ≡ got read next
   pub is-tree : mapBody spelling read ≡ t
+
+-- a main body reads as one tree
+pub same-tree : (b : List ℕ) (t u : Actions) → ReadsMain b t → ReadsMain b u → t ≡ u
+same-tree b t u h k = go (h .read) (h .next) (h .is-read) (h .is-tree) (k .read) (k .next) (k .is-read) (k .is-tree)
+  where
+    go : (x : ActionsOf Text ℕ) (p : Place) → readMain edition1 b deepest ≡ got x p → mapBody spelling x ≡ t
+        → (y : ActionsOf Text ℕ) (q : Place) → readMain edition1 b deepest ≡ got y q → mapBody spelling y ≡ u → t ≡ u
+    go x p d i y q f j = cc
 
 -- ---- a sheet that is packed
 

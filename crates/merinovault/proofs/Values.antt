@@ -1,42 +1,20 @@
--- Eight bytes stored into a slice of eight, and the two cases of its length. Assumes nothing.
-use mathlib.Core.Path.{_≡_, refl, sym, ap, _∙_}
-use Prim.Native.Nat.{ℕ, _/_, _%_, _<_}
-use native.Mathlib.Omega.{arith}
-use mathlib.Core.List.{List, _++_}
+-- What a caller is told, by the two cases of the length of its value slice. Assumes nothing.
+use mathlib.Core.Path.{_≡_, sym, ap, _∙_}
+use Prim.Native.Nat.{ℕ, _<_}
+use mathlib.Core.List.{List}
 use lib.ListN.{length}
-use lib.Seq.{sets}
 use lib.IntN.{ℤ, pos}
 use borrow.Author.Tests.{eq-eqb, ne-eqb}
 use Rattle.layout.specs.Lists.{pick}
-use Rattle.layout.specs.Numbers.{le16, le32, le64, bits64, i64Bytes}
+use Rattle.layout.specs.Numbers.{le64, bits64, i64Bytes}
 use Rattle.layout.specs.Answers.{Answer, refusalNumber, refusalValue, number, value, valueBytes}
 use Rattle.layout.specs.Answers as answers
 use Rattle.layout.specs.Step.{step}
 use Rattle.step.specs.Steps.{told}
 use Rattle.step.specs.declared.Stepped.{Stepped}
 use Rattle.step.specs.declared.Stepped.the-variants as steps
-use Rattle.pack.proofs.Packs as packs
-use Rattle.pack.proofs.Values.{natural-bits}
-use Rattle.fields.proofs.Stores.{sets-then}
+use Rattle.answer.proofs.Values.{natural-bits}
 use Rattle.merinovault.specs.Calls.{ifEight}
-
-length-le32 : (n : ℕ) → length (le32 n) ≡ 4
-unfolding le32 le16
-length-le32 n = refl
-
--- the low word, then the high word
-pub filled : {m n : List ℕ} (l : List ℕ) (bits : ℕ) → bits < 18446744073709551616 → length l ≡ 8 → m ≡ sets l 0 (le32 (bits % 4294967296)) → n ≡ sets m 4 (le32 (bits / 4294967296)) → n ≡ le64 bits
-unfolding le64
-filled l bits h e f g =
-    let a : List ℕ = le32 (bits % 4294967296) in
-    let b : List ℕ = le32 (bits / 4294967296) in
-    let i : bits / 4294967296 ≡ bits / 4294967296 % 4294967296 = omega (arith, h) in
-    sets-then l 0 a b 4 (length-le32 (bits % 4294967296)) f g ∙ whole (bits % 4294967296) (bits / 4294967296) ∙ ap (λ (n : ℕ). a ++ le32 n) i
-  where
-    whole : (x y : ℕ) → sets l 0 (le32 x ++ le32 y) ≡ le32 x ++ le32 y
-    whole x y =
-        let n : length (le32 x ++ le32 y) ≡ 8 = unfold le32 le16 in refl in
-        packs.filled l (le32 x ++ le32 y) (n ∙ sym e)
 
 -- of a slice of eight
 pub eight : {A : Type 0} (v : List ℕ) (a b : A) → length v ≡ 8 → ifEight v a b ≡ a

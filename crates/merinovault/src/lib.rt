@@ -3,24 +3,14 @@
 ghost use mathlib.Core.Path.{_≡_};
 ghost use lib.IntN.{pos};
 ghost use lib.ListN.{length};
-ghost use Rattle.layout.specs.Numbers.{le64};
 ghost use Rattle.layout.specs.Answers.{number, lengthOf, valueBytes};
 ghost use Rattle.layout.specs.Pack.{pack, output};
 ghost use Rattle.layout.specs.Step.{step};
 ghost use Rattle.merinovault.specs.Calls.{ifEight};
-use fields::write_u32;
-use pack::number_of;
-use pack::value_of;
+use answer::number_of;
+use answer::value_of;
 use step::Stepped;
-
-// The 64 bits of a value, the low byte first.
-fn write_value(value: &mut [u8], bits: u64)
-    requires { ⌜ length (now value) ≡ 8 ⌝ }
-    ensures { λ _. ⌜ now (value .exit) ≡ le64 bits ⌝ }
-{
-    write_u32(value, 0, (bits % 4294967296) as u32);
-    write_u32(value, 4, (bits / 4294967296) as u32);
-}
+use stores::fill_u64;
 
 // Packs a sheet into the lent output, whose bytes past a Done length keep their values; on any other answer all do.
 #[no_mangle]
@@ -33,7 +23,7 @@ pub extern "C" fn merinovault_pack(sheet: &[u8], out: &mut [u8], value: &mut [u8
         return 11;
     }
     let a = pack::pack(sheet, out);
-    write_value(value, value_of(a));
+    fill_u64(value, value_of(a));
     number_of(a)
 }
 
@@ -48,11 +38,11 @@ pub extern "C" fn merinovault_step(block: &[u8], value: &mut [u8]) -> u32
     }
     match step::step(block) {
         Stepped::Done(n) => {
-            write_value(value, n as u64);
+            fill_u64(value, n as u64);
             0
         }
         Stepped::Unclean(p) => {
-            write_value(value, p as u64);
+            fill_u64(value, p as u64);
             13
         }
     }

@@ -1,4 +1,2 @@
 pub mod Scans
 pub mod Reading
-pub mod Values
-pub mod Lists

@@ -1,30 +1,9 @@
--- How many bytes the operands are written in, and a string that stands after some bytes. Assumes nothing.
-use Prim.Native.Nat.{ℕ, _+_}
-use mathlib.Core.List.{List}
-use lib.Dec.{ltb}
-use Rattle.layout.specs.Lists.{pick}
-use Rattle.layout.specs.Tree.{PushValueOf}
-use Rattle.layout.specs.Read.{Text, edition1, Reader, _>>=_, readBytes, readString}
-use Rattle.layout.specs.Strings.{mapValue}
-use Rattle.layout.specs.Lengths.{stringLength, pushLength}
+-- How many bytes an operand is written in. Assumes nothing.
+use Prim.Native.Nat.{ℕ}
+use Rattle.layout.specs.Read.{Text}
+use Rattle.layout.specs.Lengths.{stringLength}
 use Rattle.layout.specs.Pack.{spelling}
 
 -- a string and its zero byte
 unfoldable pub stringSize : Text → ℕ
 stringSize s = stringLength (spelling s)
-
--- a string after `skip` bytes, which are passed over: a parameter is one after its register
-unfoldable pub readNamed : List ℕ → ℕ → Reader Text
-readNamed b skip = do
-  bytes ← readBytes b skip
-  readString edition1 b
-
-unfoldable pub namedSize : ℕ → Text → ℕ
-namedSize skip s = skip + stringSize s
-
--- a pushed constant's kind and number
-unfoldable pub constantSize : ℕ → ℕ
-constantSize i = pick (ltb i 256) 2 3
-
-unfoldable pub valueSize : PushValueOf Text → ℕ
-valueSize v = pushLength (mapValue spelling v)

@@ -1,11 +1,12 @@
 // The packer: a sheet's block in the lent output, or one of 1 to 11.
-ghost use mathlib.Core.Path.{_≡_};
 ghost use Prim.Native.Nat.{_≤_};
 ghost use lib.ListN.{length};
-ghost use Rattle.layout.specs.Numbers.{bits64};
 ghost use Rattle.layout.specs.Read.{edition1, deepest, readMain};
 ghost use Rattle.layout.specs.Pack.{packRead, Outcome};
-ghost use Rattle.pack.specs.Answered.{number, value, Answered, TellsFault, MainWhole, MainShort, MainNear, MainPacked};
+ghost use Rattle.answer.specs.Answered.{number, value, Answered};
+ghost use Rattle.room.specs.Near.{MainPacked};
+ghost use Rattle.pack.specs.Steps.{TellsFault, MainWhole, MainShort};
+use answer::Answer;
 use cut::CutMain;
 use cut::cut_main;
 use judge::Verdict;
@@ -13,64 +14,8 @@ use judge::judge_main;
 use labels::BytePosition;
 use operands::Fault;
 use operands::Scan;
+use room::pack_near;
 use scan::scan_main;
-use write::write_main;
-
-// Document 01's answers to a packer, each with its value; a distance as its 64 bits.
-pub enum Answer {
-    Done(usize),
-    SheetTooLong(usize),
-    BadTrailer,
-    CutShort(usize),
-    UnknownCode(usize),
-    BadField(usize),
-    TooDeep(usize),
-    LeftOver(usize),
-    ActionLenOverflow(usize),
-    BlockLenOverflow(usize),
-    JumpOffsetOverflow(u64),
-    NoRoom(usize),
-}
-
-// The answer's number.
-pub fn number_of(a: Answer) -> u32
-    ensures { λ r. ⌜ r ≡ number a ⌝ }
-{
-    match a {
-        Answer::Done(_) => 0,
-        Answer::SheetTooLong(_) => 1,
-        Answer::BadTrailer => 2,
-        Answer::CutShort(_) => 3,
-        Answer::UnknownCode(_) => 4,
-        Answer::BadField(_) => 5,
-        Answer::TooDeep(_) => 6,
-        Answer::LeftOver(_) => 7,
-        Answer::ActionLenOverflow(_) => 8,
-        Answer::BlockLenOverflow(_) => 9,
-        Answer::JumpOffsetOverflow(_) => 10,
-        Answer::NoRoom(_) => 11,
-    }
-}
-
-// The 64 bits of the answer's value.
-pub fn value_of(a: Answer) -> u64
-    ensures { λ r. ⌜ r ≡ bits64 (value a) ⌝ }
-{
-    match a {
-        Answer::Done(n) => n as u64,
-        Answer::SheetTooLong(n) => n as u64,
-        Answer::BadTrailer => 0,
-        Answer::CutShort(p) => p as u64,
-        Answer::UnknownCode(p) => p as u64,
-        Answer::BadField(p) => p as u64,
-        Answer::TooDeep(p) => p as u64,
-        Answer::LeftOver(p) => p as u64,
-        Answer::ActionLenOverflow(n) => n as u64,
-        Answer::BlockLenOverflow(n) => n as u64,
-        Answer::JumpOffsetOverflow(bits) => bits,
-        Answer::NoRoom(n) => n as u64,
-    }
-}
 
 // 3 to 7, at a place of the sheet.
 fn fault_answer(f: Fault, place: usize) -> Answer
@@ -83,20 +28,6 @@ fn fault_answer(f: Fault, place: usize) -> Answer
         Fault::TooDeep => Answer::TooDeep(place),
         Fault::LeftOver => Answer::LeftOver(place),
     }
-}
-
-// A main body in which nothing is too long and no branch goes too far: 11 or 0. The writer is lent the front of the output that
-// the block fills, and nothing past it.
-fn pack_near(b: &[u8], end: BytePosition, tab: &[usize], out: &mut [u8]) -> Answer
-    requires { ⌜ MainNear (now b) end (now tab) ⌝ }
-    ensures { λ r. ⌜ MainPacked (now (b .entry)) (now (out .entry)) r (now (out .exit)) ⌝ }
-{
-    let len = end.0 + 1;
-    if out.len() < len {
-        return Answer::NoRoom(len);
-    }
-    write_main(b, tab, &mut out[..len]);
-    Answer::Done(len)
 }
 
 // A main body in which nothing is too long: 10 where a branch goes too far, else 11 or 0.

@@ -22,19 +22,21 @@ use Rattle.laws.specs.Fits.{Bytes, Clean, ParamFits}
 use Rattle.laws.specs.ReadFits.{Good, fine, good-then, good-got, u8-good, u16-good, tested-good, text-good, param-good, counted-good}
 use Rattle.laws.specs.Packed.{spells}
 use Rattle.operands.specs.Scanned.{placed, faultOf, scanned}
-use Rattle.operands.specs.Operands.{stringSize, readNamed, namedSize, valueSize}
+use Rattle.operands.specs.Operands.{stringSize}
+use Rattle.lists.specs.Elements.{readNamed, namedSize, valueSize}
 use Rattle.operands.specs.declared.Scan.{Scan}
 use Rattle.operands.proofs.Scans.{number-as}
-use Rattle.payload.specs.declared.Laid.{Laid}
-use Rattle.payload.specs.declared.Laid.the-variants as laid
-use Rattle.payload.specs.Fields.{readWaitForFrame, readGotoFrame2, readGetUrl2, readGetUrl, flatSize, readFunction, readFunction2, ownerSize, readCaught, caughtSize, bodiesAfter}
-use Rattle.payload.specs.Walk.{state, notedIf, noteAll, run, outcome, branches, measured, actionSize, actionTrace, bodyLength, inBodies, bodiesEvents, Onward, Laying, laidAs, branchLaid, notedFrom, Tried}
-use Rattle.payload.proofs.Runs.{noted-short, outcome-got, measured-got}
+use Rattle.walk.specs.declared.Laid.{Laid}
+use Rattle.walk.specs.declared.Laid.the-variants as laid
+use Rattle.action_fields.specs.Fields.{readWaitForFrame, readGotoFrame2, readGetUrl2, readGetUrl, flatSize, readFunction, readFunction2, ownerSize, readCaught, caughtSize, bodiesAfter}
+use Rattle.walk.specs.Walk.{state, notedIf, noteAll, run, outcome, branches, measured, actionSize, actionTrace, bodyLength, inBodies, bodiesEvents, Onward, Laying, laidAs, branchLaid, notedFrom, Tried}
+use Rattle.walk.proofs.Runs.{noted-short, outcome-got, measured-got}
 use Rattle.labels.specs.Table.{recordAll}
 use Rattle.operands.specs.declared.Fault.the-variants as fault
-use Rattle.payload.proofs.Steps.{total-each, strings-total, scanned-list, named-plain, label-here}
-use Rattle.payload.proofs.Tries.{lay-try}
-use Rattle.payload.proofs.Layings.{Long, lay-long, lay-flat, lay-branch, owner-outcome, owner-measured, lay-owner}
+use Rattle.action_fields.proofs.Steps.{total-each, strings-total, scanned-list, named-plain}
+use Rattle.payload.proofs.Branches.{label-here}
+use Rattle.walk.proofs.Tries.{lay-try}
+use Rattle.walk.proofs.Layings.{Long, lay-long, lay-flat, lay-branch, owner-outcome, owner-measured, lay-owner}
 
 -- two chains in a row are one
 regroup : {A B C : Type 0} (x : Read A) (k : A → B) (g : B → C) → chain x (λ a q. got (g (k a)) q) ≡ chain (chain x (λ a q. got (k a) q)) (λ y r. got (g y) r)
@@ -315,7 +317,7 @@ module _ (b : List ℕ) (op at pos : ℕ) (over : List ℕ) where
   pub arm-with : op ≡ 0x94 → at + 1 ≤ length b
       → Laying (λ inner. readFieldsIf edition1 b inner (opcodeOf op) (placed at) (placed (at + 1))) at (length b) pos over over (laid.Bodies (at + 1) (record { 0 = pos + 3 + 2 }) 1)
   unfolding readFieldsIf
-  arm-with o h = rw (o, codes .10) (Laying.bodies {q = at + 1} {n = 1} {w = record { 0 = pos + 3 + 2 }} (record { beyond = omega arith; within = h; written = omega arith }) (λ inner tab. with-outcome inner tab) (λ inner. with-measured inner))
+  arm-with o h = rw (o, codes .10) (Laying.bodies {q = at + 1} {n = 1} {w = record { 0 = pos + 3 + 2 }} (omega arith) (record { beyond = omega arith; within = h; written = omega arith }) (λ inner tab. with-outcome inner tab) (λ inner. with-measured inner))
     where
       with-size : ownerSize With ≡ 2
       with-size = unfold ownerSize mapOwner ownerLength in refl

@@ -1,5 +1,2 @@
-pub mod Steps
-pub mod Runs
-pub mod Layings
-pub mod Tries
+pub mod Branches
 pub mod Arms

@@ -1,4 +1,1 @@
-pub mod Decimals
-pub mod Puts
-pub mod Hexes
 pub mod Texts

@@ -1,46 +1,45 @@
 -- Laws of the answer's line and of the whole text. Assumes nothing.
 use mathlib.Core.Path.{_≡_, refl, sym, ap, ap₂, _∙_}
-use Prim.Native.Nat.{ℕ, _+_, _-_, _*_, _≤_, _<_}
+use Prim.Native.Nat.{ℕ, _+_, _*_, _≤_, _<_}
 use native.Mathlib.Omega.{arith}
 use mathlib.Core.List.{List, [], _∷_, append-nil}
 use lib.ListN.{length, take, drop, length-append}
 use lib.Seq.{take-append-seam, length-take-le}
 use lib.IntN.{ℤ, pos}
-use borrow.Author.Tests.{lt-ltb, le-ltb}
+use borrow.Author.Tests.{lt-ltb, le-ltb, eq-eqb, ne-eqb}
 use Rattle.io.specs.Counts.{Counts}
 use Rattle.layout.specs.Lists.{pick}
 use Rattle.layout.specs.Numbers.{bits64}
 use Rattle.layout.specs.Order.{signed64}
-use Rattle.layout.specs.Answers.{CutShort, UnknownCode, BadField, TooDeep, LeftOver, Refusal, SheetTooLong, BadTrailer, ReadingFault, ActionLenOverflow, BlockLenOverflow, JumpOffsetOverflow, NoRoom, InputFull, Unclean, Answer, Done, Refused, Told, number, value, lengthOf, faultNumber, refusalNumber}
+use Rattle.layout.specs.Answers.{CutShort, UnknownCode, BadField, TooDeep, LeftOver, Refusal, SheetTooLong, BadTrailer, ReadingFault, ActionLenOverflow, BlockLenOverflow, JumpOffsetOverflow, NoRoom, InputFull, Unclean, Answer, Done, Refused, Told, number, value, lengthOf, faultNumber, refusalNumber, refusalValue}
 use Rattle.layout.specs.Pack.{pack, output, Outcome}
-use Rattle.pack.proofs.Values.{natural-bits}
-use Rattle.print.specs.Text.{decimal, signed, line, hexLines, blockOf, printed, answered, blockText, Room, Put}
-use Rattle.print.specs.Sample.{full}
-use Rattle.print.proofs.Hexes.{length-hexLines}
-use Rattle.print.proofs.Puts.{put-then, put-as}
+use Rattle.answer.proofs.Values.{natural-bits}
+use Rattle.answer.specs.Answered.{valueBy}
+use Rattle.print_text.specs.Pieces.{decimal, signed, hexLines, Room, Put}
+use Rattle.print_text.proofs.Hexes.{length-hexLines}
+use Rattle.print_text.proofs.Puts.{put-then, put-as}
+use Rattle.print.specs.Text.{line, blockOf, printed, answered, blockText}
 
 -- ---- the line
 
--- the digits of a number that is not negative
-pub put-natural : {v : ℤ} {n at r : ℕ} {old new : List ℕ} → v ≡ pos n → Put (decimal n) at old new r → Put (signed v) at old new r
-unfolding signed
-put-natural e h = rw e h
+-- the bits of 10 are put as a signed number, and those of another number as they are
+pub put-distance : {n at r : ℕ} {old new : List ℕ} (bits : ℕ) → n ≡ 10 → Put (signed (signed64 bits)) at old new r → Put (signed (valueBy n bits)) at old new r
+unfolding valueBy pick
+put-distance {n} bits e h = rw (eq-eqb n 10 e) h
 
--- 64 bits that stand for such a number, and others
-pub not-negative : {bits at r : ℕ} {old new : List ℕ} → bits < 9223372036854775808 → Put (decimal bits) at old new r → Put (signed (signed64 bits)) at old new r
-unfolding signed signed64 pick
-not-negative {bits} l h = rw (lt-ltb bits 9223372036854775808 l) h
-
-pub negative : {bits at r : ℕ} {old new : List ℕ} → 9223372036854775808 ≤ bits → Put (45 ∷ decimal (18446744073709551615 - bits + 1)) at old new r
-    → Put (signed (signed64 bits)) at old new r
-unfolding signed signed64 pick
-negative {bits} l h = rw (le-ltb bits 9223372036854775808 l) h
+pub put-natural : {n at r : ℕ} {old new : List ℕ} (bits : ℕ) → (n ≡ 10 → ⊥) → Put (decimal bits) at old new r → Put (signed (valueBy n bits)) at old new r
+unfolding signed valueBy pick
+put-natural {n} bits e h = rw (ne-eqb n 10 e) h
 
 -- number, space, value, line feed
 pub put-pieces : {at p q : ℕ} {a b c d e : List ℕ} (n : ℕ) (v : ℤ) → Put (decimal n) at a b p → Put (32 ∷ []) p b c (p + 1) → Put (signed v) (p + 1) c d q
     → Put (10 ∷ []) q d e (q + 1) → Put (line n v) at a e (q + 1)
 unfolding line
 put-pieces n v h i j k = put-then h (put-then i (put-then j k))
+
+-- the line of an answer whose number and bits were put
+pub line-of : {n m at r : ℕ} {v : ℤ} {old new : List ℕ} (bits : ℕ) → n ≡ m → v ≡ valueBy m bits → Put (line n (valueBy n bits)) at old new r → Put (line m v) at old new r
+line-of bits e f h = put-as (ap₂ line e (ap (λ (k : ℕ). valueBy k bits) e ∙ sym f)) h
 
 -- ---- the text
 
@@ -62,7 +61,7 @@ refused-number InputFull e = omega (arith, e)
 refused-number (Unclean p) e = omega (arith, e)
 
 -- an input that fills, and one that does not
-pub answered-full : (input : List ℕ) → length input ≡ 65536 → Refused InputFull ≡ answered input
+answered-full : (input : List ℕ) → length input ≡ 65536 → Refused InputFull ≡ answered input
 unfolding answered pick
 answered-full input e = rw (le-ltb (length input) 65536 (omega (arith, e))) refl
 
@@ -74,9 +73,9 @@ answered-packed input l e = rw (lt-ltb (length input) 65536 (less (length input)
     less n l e = omega (arith, l, e)
 
 -- the text of the first
-pub full-text : (input : List ℕ) → length input ≡ 65536 → printed (Refused InputFull) ≡ blockText input
-unfolding blockText
-full-text input e = ap printed (answered-full input e)
+pub full-text : (input : List ℕ) → length input ≡ 65536 → line 12 (valueBy 12 65536) ≡ blockText input
+unfolding blockText printed blockOf number value refusalNumber refusalValue valueBy pick
+full-text input e = sym (append-nil (line 12 (pos 65536))) ∙ ap printed (answered-full input e)
 
 -- and its output, which keeps its bytes
 pub full-output : (input out : List ℕ) → length input ≡ 65536 → out ≡ output (answered input) out
@@ -130,10 +129,7 @@ module _ {old : List ℕ} (text : List ℕ) {r : ℕ} (room : Room 196651 0 old)
       let l : r ≤ length text = omega (arith, h, room .room, same) in
       (l, sym (length-take-le r text l))
 
-  -- that of an input that fills, a refusal's, and a Done's
-  pub counts-full : {at new : List ℕ} → Put (printed (Refused InputFull)) 0 at new r → Counts r text
-  counts-full h = counts (omega (arith, h .end, ap length full))
-
+  -- that of a line alone, and a Done's
   pub counts-line : r ≤ 43 → Counts r text
   counts-line h = counts (omega (arith, h))
 

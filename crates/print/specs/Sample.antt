@@ -1,4 +1,4 @@
--- Some texts, computed: document 01's sample, an input that fills, a negative value, and lines at their ends. Assumes nothing.
+-- Some texts, computed: document 01's sample, an input that fills, and a negative value. Assumes nothing.
 use mathlib.Core.Path.{_≡_, refl}
 use mathlib.Core.List.{[], _∷_}
 use lib.IntN.{negsuc}
@@ -14,7 +14,8 @@ use Rattle.layout.specs.Judge.{tooLong, distance, isNear, farUnless, judged, or
 use Rattle.layout.specs.Cut.{trailerDistance, isMarked, cutIf, cutAt, cutIfTrailer, cutIfShort, cut}
 use Rattle.layout.specs.Pack.{unless, ifRoom, packTree, spelling, packRead, packCut, pack, output}
 use Rattle.layout.specs.Answers.{number, value, refusalNumber, refusalValue, InputFull, Refused}
-use Rattle.print.specs.Text.{lastDigit, digitsWithin, decimal, signed, line, hexDigit, behind, hexByte, hexFrom, hexLines, blockOf, printed, answered, blockText}
+use Rattle.print_text.specs.Pieces.{lastDigit, digitsWithin, decimal, signed, hexDigit, behind, hexByte, hexFrom, hexLines}
+use Rattle.print.specs.Text.{line, blockOf, printed, answered, blockText}
 
 -- document 01's sample: "0 6", and "99 02 00 FB FF 00"
 pub sample : blockText (0x01 ∷ 0x00 ∷ 0x00 ∷ 0x00 ∷ 0x00 ∷ 0x00 ∷ 0x01 ∷ 0x00 ∷ 0x99 ∷ 0x00 ∷ 0x00 ∷ 0x0B ∷ 0x00 ∷ 0x00 ∷ 0x00 ∷ 0x01 ∷ 0x00 ∷ 0x41 ∷ 0x31 ∷ [])
@@ -31,14 +32,3 @@ full = refl
 pub negative : line 10 (negsuc 32768) ≡ 49 ∷ 48 ∷ 32 ∷ 45 ∷ 51 ∷ 50 ∷ 55 ∷ 54 ∷ 57 ∷ 10 ∷ []
 unfolding lastDigit digitsWithin decimal signed line pick
 negative = refl
-
--- sixteen bytes stand on one line, and a seventeenth on the next
-pub sixteen : hexLines (0xA0 ∷ 0xA1 ∷ 0xA2 ∷ 0xA3 ∷ 0xA4 ∷ 0xA5 ∷ 0xA6 ∷ 0xA7 ∷ 0xA8 ∷ 0xA9 ∷ 0xAA ∷ 0xAB ∷ 0xAC ∷ 0xAD ∷ 0xAE ∷ 0xAF ∷ [])
-    ≡ 65 ∷ 48 ∷ 32 ∷ 65 ∷ 49 ∷ 32 ∷ 65 ∷ 50 ∷ 32 ∷ 65 ∷ 51 ∷ 32 ∷ 65 ∷ 52 ∷ 32 ∷ 65 ∷ 53 ∷ 32 ∷ 65 ∷ 54 ∷ 32 ∷ 65 ∷ 55 ∷ 32 ∷ 65 ∷ 56 ∷ 32 ∷ 65 ∷ 57 ∷ 32 ∷ 65 ∷ 65 ∷ 32 ∷ 65 ∷ 66 ∷ 32 ∷ 65 ∷ 67 ∷ 32 ∷ 65 ∷ 68 ∷ 32 ∷ 65 ∷ 69 ∷ 32 ∷ 65 ∷ 70 ∷ 10 ∷ []
-unfolding hexDigit behind hexByte hexFrom hexLines pick
-sixteen = refl
-
-pub seventeen : hexLines (0xA0 ∷ 0xA1 ∷ 0xA2 ∷ 0xA3 ∷ 0xA4 ∷ 0xA5 ∷ 0xA6 ∷ 0xA7 ∷ 0xA8 ∷ 0xA9 ∷ 0xAA ∷ 0xAB ∷ 0xAC ∷ 0xAD ∷ 0xAE ∷ 0xAF ∷ 0xB0 ∷ [])
-    ≡ 65 ∷ 48 ∷ 32 ∷ 65 ∷ 49 ∷ 32 ∷ 65 ∷ 50 ∷ 32 ∷ 65 ∷ 51 ∷ 32 ∷ 65 ∷ 52 ∷ 32 ∷ 65 ∷ 53 ∷ 32 ∷ 65 ∷ 54 ∷ 32 ∷ 65 ∷ 55 ∷ 32 ∷ 65 ∷ 56 ∷ 32 ∷ 65 ∷ 57 ∷ 32 ∷ 65 ∷ 65 ∷ 32 ∷ 65 ∷ 66 ∷ 32 ∷ 65 ∷ 67 ∷ 32 ∷ 65 ∷ 68 ∷ 32 ∷ 65 ∷ 69 ∷ 32 ∷ 65 ∷ 70 ∷ 10 ∷ 66 ∷ 48 ∷ 10 ∷ []
-unfolding hexDigit behind hexByte hexFrom hexLines pick
-seventeen = refl

@@ -15,7 +15,7 @@ use Rattle.layout.specs.Order.{same-outcome}
 use Rattle.layout.specs.Lengths.{length-block}
 use Rattle.laws.specs.Meaning.{meaning}
 use Rattle.laws.specs.Fits.{Bytes}
-use Rattle.laws.specs.Packed.{Written, Packed, is-packed, sheetDistance}
+use Rattle.laws.specs.Packed.{Written, refused-done, Packed, is-packed, sheetDistance}
 use Rattle.laws.specs.Demands.{same-meaning, length-done, noteLength, same-note, same-note-output}
 use Rattle.agreement.specs.Source.{ActionEncoder, Result, ok, err, encode}
 use Rattle.agreement.specs.SourceAgrees.{Agrees, in-room, no-room, overflowed, same-as-source, agrees-once}
@@ -43,11 +43,6 @@ refusal-over (JumpOffsetOverflow z) = omega arith
 refusal-over (NoRoom n) = omega arith
 refusal-over InputFull = omega arith
 refusal-over (Unclean p) = omega arith
-
-refused-done : {X A : Type 0} {r : Refusal} {a : A} → Refused r ≡ Done a → X
-refused-done j =
-    let z : _≡_ {A = ℕ} 0 1 = cc in
-    absurd (omega arith)
 
 -- ---- a call that answers 0 with value k, which is `Outcome s o 0 (pos k) after`
 

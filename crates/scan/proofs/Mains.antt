@@ -16,7 +16,7 @@ use Rattle.layout.specs.Write.{Event, labelAt, branchAt, payloadTooLong, bodyTo
 use Rattle.layout.specs.Judge.{tooLong}
 use Rattle.layout.specs.Pack.{spelling}
 use Rattle.laws.specs.Fits.{Bytes}
-use Rattle.laws.specs.ReadFits.{good-got, body-good}
+use Rattle.laws.specs.ReadFits.{good-got, good-bad, body-good, main-good}
 use Rattle.laws.specs.Packed.{spells}
 use Rattle.labels.specs.Table.{recordAll}
 use Rattle.labels.proofs.Labels.{length-recordAll, table-holds}
@@ -25,9 +25,10 @@ use Rattle.operands.specs.declared.Scan.{Scan}
 use Rattle.operands.specs.declared.Scan.the-variants as scan
 use Rattle.operands.specs.declared.Fault.{Fault}
 use Rattle.operands.specs.Scanned.{placed, faultOf}
-use Rattle.payload.specs.Walk.{State, state, noted, noteAll, run, fault, outcome, Ran, bodyLength, bodyEvents}
-use Rattle.scan.specs.Bodies.{Ready, Empty, Holds, MainScanned, whole, stopped}
-use Rattle.scan.proofs.Walks.{ran-is, ran-bad, outcome-is}
+use Rattle.walk.specs.Walk.{State, state, noted, noteAll, run, fault, outcome, Ran, bodyLength, bodyEvents}
+use Rattle.bodies.specs.Ready.{Ready}
+use Rattle.scan.specs.Mains.{Empty, Holds, MainScanned, whole, stopped}
+use Rattle.bodies.proofs.Walks.{ran-is, ran-bad, outcome-is}
 
 -- ---- every element of a slice of bytes is one
 
@@ -118,3 +119,15 @@ module _ (b tab over : List ℕ) (small : Bytes b) (e : Empty tab over) where
                 holds = λ l i. ap (λ v. getD v l 0) a ∙ table-holds l (bodyEvents t 0) tab (omega (arith, e .full)) (e .zeros l i);
               })
               (rw c (first-held (bodyEvents t 0) over (e .two) (e .zero))))
+
+-- the place of a fault lies in the main body
+pub main-place : (b tab over : List ℕ) (r : Scan) → Bytes b → MainScanned tab over (readMain edition1 b deepest) r → (f : Fault) (p : ℕ) → r ≡ scan.Stops f p → p ≤ length b
+main-place b tab over r small m f p e = go (readMain edition1 b deepest) refl m e
+  where
+    go : (x : Read (ActionsOf Text ℕ)) {r : Scan} → readMain edition1 b deepest ≡ x → MainScanned tab over x r → r ≡ scan.Stops f p → p ≤ length b
+    go (got t q) k (whole u v w) e =
+        let z : _≡_ {A = ℕ} 0 1 = cc in
+        absurd (omega arith)
+    go (bad g q) k stopped e =
+        let j : p ≡ q .at = cc in
+        omega (arith, good-bad g q (main-good edition1 b small spelling (Unit {0}) (spells b small edition1) deepest) k)

@@ -1,27 +1,23 @@
 -- Laws of the reading of a sheet. Assumes nothing.
 use mathlib.Core.Path.{_≡_, refl, sym, _∙_}
-use Prim.Native.Nat.{ℕ, _+_, _-_, _≤_}
+use Prim.Native.Nat.{ℕ, _+_, _-_}
 use native.Mathlib.Omega.{arith}
 use mathlib.Core.Option.{none, some}
 use mathlib.Core.List.{List}
-use lib.ListN.{length, take, drop}
+use lib.ListN.{take, drop}
 use Rattle.layout.specs.Answers.{ReadingFault}
-use Rattle.layout.specs.Answers as answers
 use Rattle.layout.specs.Tree.{ActionsOf}
-use Rattle.layout.specs.Read.{Text, edition1, deepest, Read, got, bad, readMain}
-use Rattle.layout.specs.Pack.{spelling}
-use Rattle.layout.specs.Cut.{main, cut}
-use Rattle.laws.specs.Fits.{Bytes}
-use Rattle.laws.specs.ReadFits.{good-bad, main-good}
-use Rattle.laws.specs.Packed.{spells, is-main}
+use Rattle.layout.specs.Read.{Text, edition1, deepest, Read, readMain}
+use Rattle.layout.specs.Cut.{cut}
 use Rattle.labels.specs.declared.BytePosition.{BytePosition}
 use Rattle.operands.specs.declared.Fault.{Fault}
 use Rattle.operands.specs.declared.Scan.{Scan}
 use Rattle.operands.specs.declared.Scan.the-variants as scan
 use Rattle.operands.specs.Scanned.{faultOf, meant}
 use Rattle.operands.proofs.Scans.{meant-back}
-use Rattle.scan.specs.Bodies.{MainScanned, whole, stopped}
+use Rattle.scan.specs.Mains.{MainScanned, whole, stopped}
 use Rattle.cut.specs.Cuts as cuts
+use Rattle.cut.proofs.Mains.{is-cut}
 use Rattle.cut.specs.declared.CutMain.{CutMain}
 use Rattle.cut.specs.declared.CutMain.the-variants as cutMain
 use Rattle.sheet.specs.Readings.{faultIn, faultOfCut, readSheet, said}
@@ -54,18 +50,6 @@ module _ (tab over : List ℕ) (start : ℕ) (x : Read (ActionsOf Text ℕ)) (r 
           let j : p ≡ q .at = cc in
           rw (i, j, meant-back g)
 
--- the place of a fault lies in the main body
-pub main-place : (b tab over : List ℕ) (r : Scan) → Bytes b → MainScanned tab over (readMain edition1 b deepest) r → (f : Fault) (p : ℕ) → r ≡ scan.Stops f p → p ≤ length b
-main-place b tab over r small m f p e = go (readMain edition1 b deepest) refl m e
-  where
-    go : (x : Read (ActionsOf Text ℕ)) {r : Scan} → readMain edition1 b deepest ≡ x → MainScanned tab over x r → r ≡ scan.Stops f p → p ≤ length b
-    go (got t q) k (whole u v w) e =
-        let z : _≡_ {A = ℕ} 0 1 = cc in
-        absurd (omega arith)
-    go (bad g q) k stopped e =
-        let j : p ≡ q .at = cc in
-        omega (arith, good-bad g q (main-good edition1 b small spelling (Unit {0}) (spells b small edition1) deepest) k)
-
 -- ---- the sheet
 
 module _ (s : List ℕ) (c : CutMain) (e : cuts.said s c ≡ cut s) where
@@ -78,17 +62,6 @@ module _ (s : List ℕ) (c : CutMain) (e : cuts.said s c ≡ cut s) where
   cut-bad k = rw (← e, k)
 
   module _ (start end : ℕ) (k : c ≡ cutMain.Main start end) where
-    is-cut : cut s ≡ main start (take (end - start) (drop start s))
-    unfolding cuts.said
-    is-cut = sym e ∙ rw k
-
-    -- the main body and its start are within the limit
-    pub cut-limits : (length (take (end - start) (drop start s)) ≤ 1048576) × (start ≤ 1048576)
-    cut-limits = let m = is-main s start (take (end - start) (drop start s)) is-cut in (omega (arith, m .is-long, m .is-limited), omega (arith, m .is-long, m .is-limited))
-
     pub cut-main : (r : Reading) → said r ≡ faultIn start (readMain edition1 (take (end - start) (drop start s)) deepest) → said r ≡ readSheet s
     unfolding readSheet faultOfCut
-    cut-main r h = h ∙ sym (rw is-cut)
-
-    pub cut-within : cuts.Within s c → (start ≤ end) × (end ≤ length s)
-    cut-within w = rw k at w
+    cut-main r h = h ∙ sym (rw (is-cut s c e start end k))

@@ -5,7 +5,6 @@ use native.Mathlib.Omega.{arith}
 use mathlib.Core.Option.{Option, none, some}
 use mathlib.Core.List.{List}
 use Rattle.layout.specs.Answers.{Refusal, SheetTooLong, BadTrailer, ReadingFault, Refused}
-use Rattle.layout.specs.Answers as answers
 use Rattle.layout.specs.Tree.{ActionsOf}
 use Rattle.layout.specs.Read.{Text, edition1, deepest, Read, got, bad, readMain}
 use Rattle.layout.specs.Cut.{Cut, main, uncut, cut}

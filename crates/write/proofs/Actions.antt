@@ -17,7 +17,8 @@ use Rattle.pcode.specs.Shown.{place, Shown, small, gotoFrame, getUrl, storeRegi
 use Rattle.pcode.specs.declared.Action.{Action}
 use Rattle.pcode.proofs.Readings.{Gives, gives, given, then, itself}
 use Rattle.pcode.proofs.Actions.{opcode-room}
-use Rattle.encode.specs.Heads.{tableBits, headBytes, headOf, CatchFrom, FinallyFrom, BodiesFrom, NotFar, Writable, WroteHead}
+use Rattle.encode_flat.specs.Branches.{tableBits}
+use Rattle.encode.specs.Heads.{headBytes, headOf, CatchFrom, FinallyFrom, BodiesFrom, NotFar, Writable, WroteHead}
 use Rattle.write.specs.Bodies.{bodiesOf, readIf, readTried, lengthOf, lengthIf, lengthTried, lengthAction, nearOf, nearIf, NearCatch, NearFinally, nearTried, nearAction, actionOf, closed, closedTried, Room, Wrote}
 use Rattle.write.specs.declared.Bodies.{Bodies}
 use Rattle.write.specs.declared.Bodies.the-variants as bodies

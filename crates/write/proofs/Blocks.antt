@@ -11,11 +11,12 @@ use Rattle.layout.specs.OpCode.{OpCode, byte}
 use Rattle.layout.specs.Tree.{Owner, OwnerOf, ActionOf, ActionsOf, flat, branch, owner, Try, Catch, CatchOf, noCatch, catch, FinallyOf, noFinally, finally}
 use Rattle.layout.specs.Read.{Text}
 use Rattle.layout.specs.Strings.{mapAction, mapBody, mapCatch, mapFinally, mapOwner}
-use Rattle.layout.specs.Payload.{payload, ownerOpCode, ownerFields, ownerPayload, branchOpCode, catchShape, finallyShape, catchName, tryPayload, framed}
+use Rattle.layout.specs.Payload.{ownerOpCode, ownerFields, ownerPayload, branchOpCode, catchShape, finallyShape, catchName, tryPayload, framed}
 use Rattle.layout.specs.Write.{bytes, catchBytes, finallyBytes, size, catchSize, finallySize}
 use Rattle.layout.specs.Lengths.{ownerLength, length-le16, length-ownerFields, length-ownerPayload, length-tryPayload, framed-long, length-framed, branch-long, owner-long, try-long, length-body}
 use Rattle.layout.specs.Pack.{spelling}
-use Rattle.encode.specs.Heads.{tableBits, headBytes, headOf}
+use Rattle.encode_flat.specs.Branches.{tableBits}
+use Rattle.encode.specs.Heads.{headBytes, headOf}
 use Rattle.write.specs.Bodies.{Tried, lengthOf, lengthIf, lengthAction, bodyOf, actionOf, closed, closedIf, closedTried}
 use Rattle.write.proofs.Patches.{patched}
 

@@ -5,7 +5,7 @@ use native.Mathlib.Omega.{arith}
 use mathlib.Core.List.{List}
 use lib.ListN.{length}
 use lib.Seq.{sets, length-sets}
-use Rattle.fields.proofs.Stores.{sets-append}
+use Rattle.stores.proofs.Stores.{sets-append}
 use Rattle.layout.specs.Numbers.{u16At}
 use Rattle.layout.specs.Tree.{Entry, ActionOf, ActionListOf, empty, more, ActionsOf, body}
 use Rattle.layout.specs.Read.{Text, edition1, Place, got, Reader, readEntries, readAction, readActions, readBodyWith, readBody}
@@ -16,7 +16,7 @@ use Rattle.layout.specs.Pack.{spelling}
 use Rattle.labels.proofs.Labels.{entries-read}
 use Rattle.pcode.specs.Shown.{place}
 use Rattle.pcode.proofs.Readings.{Gives, gives, refuses, given, next, then, itself, u16}
-use Rattle.encode.specs.Heads.{tableBits}
+use Rattle.encode_flat.specs.Branches.{tableBits}
 use Rattle.write.specs.Bodies.{lengthOf, lengthAction, NearActions, nearOf, nearAction, bodyOf, actionOf, Room, Wrote}
 use Rattle.encode_values.specs.declared.Ends.{Ends}
 

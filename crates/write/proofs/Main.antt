@@ -6,8 +6,8 @@ use mathlib.Core.Option.{Option, none}
 use mathlib.Core.List.{List, [], _∷_}
 use lib.ListN.{length}
 use lib.Seq.{sets}
-use Rattle.fields.proofs.Stores.{sets-then}
-use Rattle.layout.specs.Tree.{branch, Actions, ActionsOf, body}
+use Rattle.stores.proofs.Stores.{sets-then}
+use Rattle.layout.specs.Tree.{Actions, ActionsOf}
 use Rattle.layout.specs.Read.{Text, edition1, deepest, Place, got, readBody, readMain}
 use Rattle.layout.specs.Strings.{mapBody}
 use Rattle.layout.specs.Write.{bytes, bodyBytes, bodySize, Position, events, distanceBits, branchBits, blockBytes, blockSize}
@@ -18,7 +18,7 @@ use Rattle.labels.specs.Table.{TableHolds}
 use Rattle.labels.proofs.Labels.{table-record}
 use Rattle.pcode.specs.Shown.{place}
 use Rattle.pcode.proofs.Readings.{given}
-use Rattle.encode.specs.Heads.{tableBits}
+use Rattle.encode_flat.specs.Branches.{tableBits}
 use Rattle.write.specs.Bodies.{lengthOf, nearOf, bodyOf, Room, Wrote, MainWritable, WroteBlock}
 use Rattle.encode_values.specs.declared.Ends.{Ends}
 use Rattle.pcode.proofs.Trees.{UnderBody, main-body, body-under}

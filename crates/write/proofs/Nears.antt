@@ -7,7 +7,7 @@ use mathlib.Core.List.{List, [], _∷_, _++_}
 use lib.ListN.{length, getD}
 use Rattle.layout.specs.Tree.{ActionIndex, firstAction, nextAction, Entry, Action, flat, branch, owner, Try, ActionList, empty, more, Actions, body, Catch, noCatch, catch, Finally, noFinally, finally}
 use Rattle.layout.specs.Payload.{ownerFields, catchName}
-use Rattle.layout.specs.Write.{bytes, size, bodySize, catchSize, finallySize, Position, Event, labelAt, branchAt, payloadTooLong, bodyTooLong, moved, payloadTest, bodyTest, labelsAt, trace, traces, traceBody, traceCatch, traceFinally, lookup, events}
+use Rattle.layout.specs.Write.{size, bodySize, catchSize, finallySize, Position, Event, labelAt, branchAt, payloadTooLong, bodyTooLong, moved, payloadTest, bodyTest, labelsAt, trace, traces, traceBody, traceCatch, traceFinally, lookup}
 use Rattle.layout.specs.Judge.{judged, orElse, tooFar}
 use Rattle.layout.specs.Answers.{Refusal}
 use Rattle.labels.specs.Table.{recordOf}

@@ -6,7 +6,7 @@ use native.Mathlib.Omega.{arith}
 use mathlib.Core.List.{List, [], _∷_, _++_, append-assoc}
 use lib.ListN.{length, set}
 use lib.Seq.{sets, set-comm, set-set}
-use Rattle.fields.proofs.Stores.{sets-append}
+use Rattle.stores.proofs.Stores.{sets-append}
 
 -- A store before a run may come first.
 set-sets : (vs l : List ℕ) (i j x : ℕ) → i < j → set (sets l j vs) i x ≡ sets (set l i x) j vs

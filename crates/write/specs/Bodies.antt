@@ -20,7 +20,7 @@ use Rattle.labels.specs.Table.{recordOf, TableHolds}
 use Rattle.pcode.specs.Shown.{place}
 use Rattle.pcode.specs.declared.Action as pcode
 use Rattle.pcode.specs.declared.Action.the-variants as code
-use Rattle.encode.specs.Heads.{tableBits}
+use Rattle.encode_flat.specs.Branches.{tableBits}
 use Rattle.write.specs.declared.Bodies.{Bodies}
 use Rattle.write.specs.declared.Bodies.the-variants as bodies
 use Rattle.encode_values.specs.declared.Ends.{Ends}

@@ -1,17 +1,16 @@
 // The cycle that writes a main body whose labels are known: a body writes its actions, and an action its bodies.
 ghost use mathlib.Core.Path.{_≡_};
 ghost use Prim.Native.Nat.{_+_, _-_, _≤_};
-ghost use lib.ListN.{length};
 ghost use lib.Seq.{sets};
 ghost use Rattle.layout.specs.Read.{edition1, readAction, readBody};
 ghost use Rattle.write.specs.Bodies.{bodiesOf, readIf, readTried, lengthOf, lengthIf, lengthTried, lengthAction, nearOf, nearIf, nearTried, nearAction, bodyOf, actionOf, closed, closedIf, closedTried, Room, Wrote, MainWritable, WroteBlock};
 use encode::write_head;
 use encode_values::Ends;
 use fields::u16_at;
-use fields::write_u8;
+use opcode::OpCode;
 use pcode::Action;
-use pcode::OpCode;
 use pcode::action_at;
+use stores::write_u8;
 use writer::write_block_length_at;
 
 // The bodies that follow an action's payload: none, one, or those of a Try by its shape.

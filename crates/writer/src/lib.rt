@@ -6,8 +6,8 @@ ghost use lib.ListN.{length};
 ghost use lib.Seq.{sets};
 ghost use Rattle.layout.specs.Numbers.{le16};
 ghost use Rattle.writer.specs.Written.{appended, patched};
-use fields::write_u8;
-use fields::write_u16;
+use stores::write_u8;
+use stores::write_u16;
 
 // The output, and the position reached in it: the part of source 000's ActionEncoder that owns its output.
 pub struct Writer<'a> {

@@ -68,8 +68,8 @@ fn time(sheet: &[u8], rounds: u32) -> (f64, f64, f64, usize) {
 
 /// The cases, by name.
 const CASES: [(&str, fn() -> Vec<u8>); 6] = [
-    ("screen", || sheets::screen(35)),
-    ("large", || sheets::screen(1_900)),
+    ("screen", || sheets::screen(50)),
+    ("large", || sheets::screen(2_570)),
     ("tiny", sheets::tiny),
     ("strings", sheets::strings),
     ("labels", sheets::labels),
@@ -129,7 +129,7 @@ fn ratios(rounds: u32) {
     }
     println!("\ntime for each byte of the block, against the first");
     let mut first = None;
-    for handlers in [45, 140, 450, 1_400, 4_500, 8_000] {
+    for handlers in [70, 140, 450, 1_400, 4_500, 8_000] {
         let sheet = sheets::screen(handlers);
         let (ours, _, _, n) = time(&sheet, rounds.min(5));
         let each = ours / n as f64;

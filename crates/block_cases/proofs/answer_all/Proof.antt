@@ -16,6 +16,18 @@ abbrev μ-loop : tie.MeasureT-loop
 loop-holds : tie.Need-loop-holds Inv-loop μ-loop
 loop-holds c = search needs
 
+add-loop : tie.Need-add-loop Inv-loop μ-loop
+add-loop c = search needs
+
+u32-at-requires : tie.Need-u32-at-requires Inv-loop μ-loop
+u32-at-requires c κs = search needs
+
+cast-n : tie.Need-cast-n Inv-loop μ-loop
+cast-n c = search needs
+
+add-p : tie.Need-add-p Inv-loop μ-loop
+add-p c = search needs
+
 sub-if1 : tie.Need-sub-if1 Inv-loop μ-loop
 sub-if1 c = search needs
 
@@ -30,30 +42,6 @@ same-length-3 c = search needs
 
 returns : tie.Need-returns Inv-loop μ-loop
 returns c = search needs
-
-u32-at-requires : tie.Need-u32-at-requires Inv-loop μ-loop
-u32-at-requires c κs = search needs
-
-cast-n : tie.Need-cast-n Inv-loop μ-loop
-cast-n c = search needs
-
-add-p : tie.Need-add-p Inv-loop μ-loop
-add-p c = search needs
-
-sub-if2 : tie.Need-sub-if2 Inv-loop μ-loop
-sub-if2 c = search needs
-
-same-length-4 : tie.Need-same-length-4 Inv-loop μ-loop
-same-length-4 c = search needs
-
-same-length-5 : tie.Need-same-length-5 Inv-loop μ-loop
-same-length-5 c = search needs
-
-same-length-6 : tie.Need-same-length-6 Inv-loop μ-loop
-same-length-6 c = search needs
-
-returns-2 : tie.Need-returns-2 Inv-loop μ-loop
-returns-2 c = search needs
 
 add-unroll : tie.Need-add-unroll Inv-loop μ-loop
 add-unroll c = search needs
@@ -70,11 +58,17 @@ part-unroll-end c = search needs
 unroll-requires : tie.Need-unroll-requires Inv-loop μ-loop
 unroll-requires c κs = search needs
 
-add-p-2 : tie.Need-add-p-2 Inv-loop μ-loop
-add-p-2 c = search needs
+slice-reshare-prefix-answer : tie.Need-slice-reshare-prefix-answer Inv-loop μ-loop
+slice-reshare-prefix-answer c = search needs
+
+slice-aggregate-answer : tie.Need-slice-aggregate-answer Inv-loop μ-loop
+slice-aggregate-answer c = search needs
 
 answer-requires : tie.Need-answer-requires Inv-loop μ-loop
-answer-requires c κs = let i = c .before .before .before .before .before .before .before .before .before .before .before .before .loop .inv in let q = c .before .before .before .before .before .before .before .before .before .before .before .before .before .before .before .before .before .pre in (omega (arith, c .before .before .before .before .before .unroll .kept .1 .0, i .1, q .0), omega (arith, i .2, q .1), record { room = omega (arith, i .3, q .2 .room); small = omega (arith, i .3, q .2 .small) })
+answer-requires c κs = let i = c .before .before .before .before .before .before .before .before .before .before .before .loop .inv in let q = c .before .before .before .before .before .before .before .before .before .before .before .before .before .before .before .before .pre in let u = c .before .before .before .before .before .unroll in (omega (arith, u .ensures .0, u .ensures .1, u .kept .1 .0, i .1, q .0), omega (arith, i .2, q .1), record { room = omega (arith, i .3, q .2 .room); small = omega (arith, i .3, q .2 .small) })
+
+add-p-2 : tie.Need-add-p-2 Inv-loop μ-loop
+add-p-2 c = search needs
 
 loop-less : tie.Need-loop-less Inv-loop μ-loop
 loop-less c = search needs
@@ -82,17 +76,17 @@ loop-less c = search needs
 loop-again : tie.Need-loop-again Inv-loop μ-loop
 loop-again c = search needs
 
-same-length-7 : tie.Need-same-length-7 Inv-loop μ-loop
-same-length-7 c = search needs
+same-length-4 : tie.Need-same-length-4 Inv-loop μ-loop
+same-length-4 c = search needs
 
-same-length-8 : tie.Need-same-length-8 Inv-loop μ-loop
-same-length-8 c = search needs
+same-length-5 : tie.Need-same-length-5 Inv-loop μ-loop
+same-length-5 c = search needs
 
-same-length-9 : tie.Need-same-length-9 Inv-loop μ-loop
-same-length-9 c = search needs
+same-length-6 : tie.Need-same-length-6 Inv-loop μ-loop
+same-length-6 c = search needs
 
-returns-3 : tie.Need-returns-3 Inv-loop μ-loop
-returns-3 c = search needs
+returns-2 : tie.Need-returns-2 Inv-loop μ-loop
+returns-2 c = search needs
 
 pub answer-all-spec : {M : Type 1} → statement M
 answer-all-spec =
@@ -101,29 +95,27 @@ answer-all-spec =
     Inv-loop
     μ-loop
     loop-holds
+    add-loop
+    u32-at-requires
+    cast-n
+    add-p
     sub-if1
     same-length
     same-length-2
     same-length-3
     returns
-    u32-at-requires
-    cast-n
-    add-p
-    sub-if2
-    same-length-4
-    same-length-5
-    same-length-6
-    returns-2
     add-unroll
     sub-unroll
     part-unroll-start
     part-unroll-end
     unroll-requires
-    add-p-2
+    slice-reshare-prefix-answer
+    slice-aggregate-answer
     answer-requires
+    add-p-2
     loop-less
     loop-again
-    same-length-7
-    same-length-8
-    same-length-9
-    returns-3)
+    same-length-4
+    same-length-5
+    same-length-6
+    returns-2)

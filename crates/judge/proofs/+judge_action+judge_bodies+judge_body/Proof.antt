@@ -1,7 +1,7 @@
 use Rattle.judge.proofs.Actions as laws
 use Rattle.judge.proofs.Loops as loops
 use Rattle.judge.specs.Judging.{Judging}
-use Rattle.payload.specs.Walk.{measured, bodyLength, bodyEvents, inBodies}
+use Rattle.walk.specs.Walk.{measured, bodyLength, bodyEvents, inBodies}
 use Rattle.operands.specs.Scanned.{placed}
 use Rattle.layout.specs.Read.{edition1, readBody, repeat}
 use Rattle.layout.specs.Lengths.{total}

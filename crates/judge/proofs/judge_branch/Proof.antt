@@ -3,10 +3,6 @@ use native.Mathlib.Omega.{arith}
 use borrow.Author.Needs.{needs}
 use Rattle.judge.proofs.judge_branch.Statement.{statement}
 use Rattle.judge.proofs.judge_branch.Tie as tie
-use Rattle.judge.proofs.judge_branch.Reads as reads
-use Rattle.judge.proofs.judge_branch.Lts as lts
-use Rattle.labels.proofs.distance.Reads as distance-reads
-use Rattle.labels.proofs.is_far.Reads as is-far-reads
 
 distance-requires : tie.Need-distance-requires
 distance-requires c κs = omega (arith, c .before .pre .0 .slots, c .before .pre .1)

@@ -2,9 +2,6 @@ use Rattle.judge.proofs.Mains.{main-short, main-asks, main-near, main-f
 use borrow.Author.Needs.{needs}
 use Rattle.judge.proofs.judge_main.Statement.{statement}
 use Rattle.judge.proofs.judge_main.Tie as tie
-use Rattle.judge.proofs.judge_main.Reads as reads
-use Rattle.judge.proofs.judge_main.Lts as lts
-use Rattle.judge.proofs.judge_body.Reads as judge-body-reads
 
 returns : tie.Need-returns
 returns c = main-short _ _ _ (c .before .before .before .before .pre) (c .if1 .taken)

@@ -4,12 +4,6 @@ use mathlib.Core.Path.{sym, _∙_}
 use borrow.Author.Needs.{needs}
 use Rattle.merinovault.proofs.merinovault_pack.Statement.{statement}
 use Rattle.merinovault.proofs.merinovault_pack.Tie as tie
-use Rattle.merinovault.proofs.merinovault_pack.Reads as reads
-use Rattle.merinovault.proofs.merinovault_pack.Lts as lts
-use Rattle.merinovault.proofs.write_value.Reads as write-value-reads
-use Rattle.pack.proofs.number_of.Reads as number-of-reads
-use Rattle.pack.proofs.pack.Reads as pack-reads
-use Rattle.pack.proofs.value_of.Reads as value-of-reads
 
 returns : tie.Need-returns
 returns c = (sym (other _ _ _ (c .if1 .taken)), (sym (other _ _ _ (c .if1 .taken)), sym (other _ _ _ (c .if1 .taken))))
@@ -20,8 +14,8 @@ pack-requires c κs = search needs
 value-of-requires : tie.Need-value-of-requires
 value-of-requires c κs = search needs
 
-write-value-requires : tie.Need-write-value-requires
-write-value-requires c κs = search needs
+fill-u64-requires : tie.Need-fill-u64-requires
+fill-u64-requires c κs = search needs
 
 number-of-requires : tie.Need-number-of-requires
 number-of-requires c κs = search needs
@@ -33,7 +27,7 @@ same-length-2 : tie.Need-same-length-2
 same-length-2 c = search needs
 
 returns-2 : tie.Need-returns-2
-returns-2 c = let e = c .before .before .before .before .before .before .before .before .before .before .if1 .left in let o = c .before .before .before .before .before .before .before .before .pack .ensures in (c .number-of .ensures ∙ o .told .is-number ∙ sym (eight _ _ _ e), (told-bytes lengthOf _ (c .before .before .before .write-value .ensures) (c .before .before .before .before .value-of .ensures) (o .told .is-value) ∙ sym (eight _ _ _ e), o .holds ∙ sym (eight _ _ _ e)))
+returns-2 c = let e = c .before .before .before .before .before .before .before .before .before .before .if1 .left in let o = c .before .before .before .before .before .before .before .before .pack .ensures in (c .number-of .ensures ∙ o .told .is-number ∙ sym (eight _ _ _ e), (told-bytes lengthOf _ (c .before .before .before .fill-u64 .ensures) (c .before .before .before .before .value-of .ensures .0) (o .told .is-value) ∙ sym (eight _ _ _ e), o .holds ∙ sym (eight _ _ _ e)))
 
 pub merinovault-pack-spec : {M : Type 1} → statement M
 merinovault-pack-spec =
@@ -42,7 +36,7 @@ merinovault-pack-spec =
     returns
     pack-requires
     value-of-requires
-    write-value-requires
+    fill-u64-requires
     number-of-requires
     same-length
     same-length-2

@@ -5,10 +5,6 @@ use native.Mathlib.Omega.{arith}
 use borrow.Author.Needs.{needs}
 use Rattle.merinovault.proofs.merinovault_step.Statement.{statement}
 use Rattle.merinovault.proofs.merinovault_step.Tie as tie
-use Rattle.merinovault.proofs.merinovault_step.Reads as reads
-use Rattle.merinovault.proofs.merinovault_step.Lts as lts
-use Rattle.merinovault.proofs.write_value.Reads as write-value-reads
-use Rattle.step.proofs.step.Reads as step-reads
 
 returns : tie.Need-returns
 returns c = (sym (other _ _ _ (c .if1 .taken)), sym (other _ _ _ (c .if1 .taken)))
@@ -19,26 +15,26 @@ step-requires c κs = search needs
 enum-known-n : tie.Need-enum-known-n
 enum-known-n c = search needs
 
-write-value-requires : tie.Need-write-value-requires
-write-value-requires c κs = search needs
+fill-u64-requires : tie.Need-fill-u64-requires
+fill-u64-requires c κs = search needs
 
 enum-known-p : tie.Need-enum-known-p
 enum-known-p c = search needs
 
-write-value-requires-2 : tie.Need-write-value-requires-2
-write-value-requires-2 c κs = search needs
+fill-u64-requires-2 : tie.Need-fill-u64-requires-2
+fill-u64-requires-2 c κs = search needs
 
 same-length : tie.Need-same-length
 same-length c = search needs
 
 returns-2 : tie.Need-returns-2
-returns-2 c = let d = step-done _ _ (c .before .before .before .before .before .before .before .step .ensures) _ (c .before .before .before .before .before .n .given .1) in let e = c .before .before .before .before .before .before .before .before .if1 .left in (done-number _ _ [] e _ d, done-value _ _ _ e _ d (omega arith) (c .before .before .write-value .ensures))
+returns-2 c = let d = step-done _ _ (c .before .before .before .before .before .before .before .step .ensures) _ (c .before .before .before .before .before .n .given .1) in let e = c .before .before .before .before .before .before .before .before .if1 .left in (done-number _ _ [] e _ d, done-value _ _ _ e _ d (omega arith) (c .before .before .fill-u64 .ensures))
 
 same-length-2 : tie.Need-same-length-2
 same-length-2 c = search needs
 
 returns-3 : tie.Need-returns-3
-returns-3 c = let d = step-unclean _ _ (c .before .before .before .before .before .before .before .step .ensures) _ (c .before .before .before .before .before .p .given .1) in let e = c .before .before .before .before .before .before .before .before .if1 .left in (unclean-number _ _ [] e _ d, unclean-value _ _ _ e _ d (omega arith) (c .before .before .write-value2 .ensures))
+returns-3 c = let d = step-unclean _ _ (c .before .before .before .before .before .before .before .step .ensures) _ (c .before .before .before .before .before .p .given .1) in let e = c .before .before .before .before .before .before .before .before .if1 .left in (unclean-number _ _ [] e _ d, unclean-value _ _ _ e _ d (omega arith) (c .before .before .fill-u642 .ensures))
 
 pub merinovault-step-spec : {M : Type 1} → statement M
 merinovault-step-spec =
@@ -47,9 +43,9 @@ merinovault-step-spec =
     returns
     step-requires
     enum-known-n
-    write-value-requires
+    fill-u64-requires
     enum-known-p
-    write-value-requires-2
+    fill-u64-requires-2
     same-length
     returns-2
     same-length-2

@@ -5,8 +5,6 @@ use native.Mathlib.Omega.{arith}
 use borrow.Author.Needs.{needs}
 use Rattle.operands.proofs.scan_bytes.Statement.{statement}
 use Rattle.operands.proofs.scan_bytes.Tie as tie
-use Rattle.operands.proofs.scan_bytes.Reads as reads
-use Rattle.operands.proofs.scan_bytes.Lts as lts
 
 sub-if1 : tie.Need-sub-if1
 sub-if1 c = search needs

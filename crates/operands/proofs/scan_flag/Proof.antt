@@ -5,8 +5,6 @@ use native.Mathlib.Omega.{arith}
 use borrow.Author.Needs.{needs}
 use Rattle.operands.proofs.scan_flag.Statement.{statement}
 use Rattle.operands.proofs.scan_flag.Tie as tie
-use Rattle.operands.proofs.scan_flag.Reads as reads
-use Rattle.operands.proofs.scan_flag.Lts as lts
 
 returns : tie.Need-returns
 unfolding faultOf

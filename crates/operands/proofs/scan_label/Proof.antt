@@ -5,9 +5,6 @@ use native.Mathlib.Omega.{arith}
 use borrow.Author.Needs.{needs}
 use Rattle.operands.proofs.scan_label.Statement.{statement}
 use Rattle.operands.proofs.scan_label.Tie as tie
-use Rattle.operands.proofs.scan_label.Reads as reads
-use Rattle.operands.proofs.scan_label.Lts as lts
-use Rattle.fields.proofs.u16_at.Reads as u16-at-reads
 
 sub-if1 : tie.Need-sub-if1
 sub-if1 c = search needs

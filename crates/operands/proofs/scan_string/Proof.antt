@@ -5,10 +5,6 @@ use native.Mathlib.Omega.{arith}
 use borrow.Author.Needs.{needs}
 use Rattle.operands.proofs.scan_string.Statement.{statement}
 use Rattle.operands.proofs.scan_string.Tie as tie
-use Rattle.operands.proofs.scan_string.Reads as reads
-use Rattle.operands.proofs.scan_string.Lts as lts
-use Rattle.fields.proofs.first_nul.Reads as first-nul-reads
-use Rattle.fields.proofs.u16_at.Reads as u16-at-reads
 
 sub-if1 : tie.Need-sub-if1
 sub-if1 c = search needs

@@ -2,6 +2,7 @@
 use Prim.Native.Nat.{_≤_}
 use lib.ListN.{length}
 use native.Mathlib.Omega.{arith}
+use Rattle.cut.proofs.Mains as mains
 use Rattle.pack.proofs.Packs as packs
 use borrow.Author.Needs.{needs}
 use Rattle.pack.proofs.pack.Statement.{statement}
@@ -24,7 +25,7 @@ within : (c : tie.After-known-told2)
     → (c .before .start .given .0 .0 ≤ c .before .start .given .0 .1 .0) × (c .before .start .given .0 .1 .0 ≤ length (c .before .before .before .before .before .before .args .sheet .now))
 within c =
     let m = c .before .before .before in
-    packs.cut-within _ _ (m .cut-main .ensures .0) _ _ (c .before .start .given .1) (m .cut-main .ensures .1)
+    mains.cut-within _ _ (m .cut-main .ensures .0) _ _ (c .before .start .given .1) (m .cut-main .ensures .1)
 
 sub-pack-main : tie.Need-sub-pack-main
 sub-pack-main c = omega (arith, within c .0, within c .1)
@@ -36,7 +37,7 @@ part-pack-main-end : tie.Need-part-pack-main-end
 part-pack-main-end c = omega (arith, within c .0, within c .1)
 
 pack-main-requires : tie.Need-pack-main-requires
-pack-main-requires c κs = packs.cut-limits _ _ (c .before .before .before .before .before .cut-main .ensures .0) _ _ (c .before .before .before .start .given .1)
+pack-main-requires c κs = mains.cut-limits _ _ (c .before .before .before .before .before .cut-main .ensures .0) _ _ (c .before .before .before .start .given .1)
 
 returns : tie.Need-returns
 returns c = packs.cut-long _ _ (c .before .before .before .cut-main .ensures .0) _ (c .before .n .given .1) _

@@ -5,8 +5,8 @@ use Prim.Native.Nat.{ℕ}
 use native.Mathlib.Omega.{arith}
 use lib.ListN.{length-replicate, getD-replicate}
 use Rattle.laws.specs.Fits.{Bytes}
-use Rattle.scan.proofs.Mains.{all-bytes}
-use Rattle.pack.specs.Answered.{MainWhole}
+use Rattle.scan.proofs.Mains.{all-bytes, main-place}
+use Rattle.pack.specs.Steps.{MainWhole}
 use Rattle.pack.proofs.Packs as packs
 use borrow.Author.Needs.{needs}
 use Rattle.pack.proofs.pack_main.Statement.{statement}
@@ -33,7 +33,7 @@ add-fault-answer : tie.Need-add-fault-answer
 add-fault-answer c =
     let m = c .before .before .before .before .before in
     let start = m .before .before .before .before .before in
-    omega (arith, start .pre .0, start .pre .1, packs.fault-place _ _ _ _ (m .scan-main .ensures) _ _ (c .before .f .given .1) (is-bytes (m .before .before .before .before)))
+    omega (arith, start .pre .0, start .pre .1, main-place _ _ _ _ (is-bytes (m .before .before .before .before)) (m .scan-main .ensures) _ _ (c .before .f .given .1))
 
 fault-answer-requires : tie.Need-fault-answer-requires
 fault-answer-requires c κs = search needs

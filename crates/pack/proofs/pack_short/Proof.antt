@@ -5,7 +5,7 @@ use Rattle.pack.proofs.pack_short.Statement.{statement}
 use Rattle.pack.proofs.pack_short.Tie as tie
 
 judge-main-requires : tie.Need-judge-main-requires
-judge-main-requires c κs = c .before .before .before .pre .judgeable
+judge-main-requires c κs = c .before .before .before .pre .measured
 
 enum-known-bits : tie.Need-enum-known-bits
 enum-known-bits c = search needs

@@ -1,25 +1,9 @@
 use Rattle.payload.proofs.Arms as arms
 use native.Mathlib.Omega.{arith}
-use Rattle.payload.proofs.Layings as lay
+use Rattle.walk.proofs.Layings as lay
 use borrow.Author.Needs.{needs}
 use Rattle.payload.proofs.scan_payload.Statement.{statement}
 use Rattle.payload.proofs.scan_payload.Tie as tie
-use Rattle.payload.proofs.scan_payload.Reads as reads
-use Rattle.payload.proofs.scan_payload.Lts as lts
-use Rattle.operands.proofs.scan_bytes.Reads as scan-bytes-reads
-use Rattle.operands.proofs.scan_push.Reads as scan-push-reads
-use Rattle.operands.proofs.scan_string.Reads as scan-string-reads
-use Rattle.operands.proofs.scan_strings.Reads as scan-strings-reads
-use Rattle.payload.proofs.flat_payload.Reads as flat-payload-reads
-use Rattle.payload.proofs.long_payload.Reads as long-payload-reads
-use Rattle.payload.proofs.scan_branch.Reads as scan-branch-reads
-use Rattle.payload.proofs.scan_function.Reads as scan-function-reads
-use Rattle.payload.proofs.scan_function2.Reads as scan-function2-reads
-use Rattle.payload.proofs.scan_get_url.Reads as scan-get-url-reads
-use Rattle.payload.proofs.scan_get_url2.Reads as scan-get-url2-reads
-use Rattle.payload.proofs.scan_goto_frame2.Reads as scan-goto-frame2-reads
-use Rattle.payload.proofs.scan_try.Reads as scan-try-reads
-use Rattle.payload.proofs.scan_wait_for_frame.Reads as scan-wait-for-frame-reads
 
 add-p : tie.Need-add-p
 add-p c = search needs

@@ -1,14 +1,10 @@
-use Rattle.payload.specs.Fields.{bodiesAfter}
+use Rattle.action_fields.specs.Fields.{bodiesAfter}
 use mathlib.Core.Path.{sym, _∙_}
 use native.Mathlib.Omega.{arith}
-use Rattle.payload.proofs.Layings as lay
+use Rattle.walk.proofs.Layings as lay
 use borrow.Author.Needs.{needs}
 use Rattle.payload.proofs.scan_try.Statement.{statement}
 use Rattle.payload.proofs.scan_try.Tie as tie
-use Rattle.payload.proofs.scan_try.Reads as reads
-use Rattle.payload.proofs.scan_try.Lts as lts
-use Rattle.payload.proofs.long_payload.Reads as long-payload-reads
-use Rattle.payload.proofs.scan_catch.Reads as scan-catch-reads
 
 scan-catch-requires : tie.Need-scan-catch-requires
 scan-catch-requires c κs = search needs

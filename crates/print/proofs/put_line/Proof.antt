@@ -1,18 +1,10 @@
 -- `print::put_line` meets its contract: number, space, value and line feed are put in turn. Assumes nothing.
 use native.Mathlib.Omega.{arith}
-use Rattle.print.proofs.Puts.{put-as, put-one}
+use Rattle.print_text.proofs.Puts.{put-one}
 use Rattle.print.proofs.Texts.{put-pieces}
-use mathlib.Core.Path.{ap}
-use Rattle.print.specs.Text.{decimal}
 use borrow.Author.Needs.{needs}
 use Rattle.print.proofs.put_line.Statement.{statement}
 use Rattle.print.proofs.put_line.Tie as tie
-
-number-of-requires : tie.Need-number-of-requires
-number-of-requires c κs = search needs
-
-cast-put-number : tie.Need-cast-put-number
-cast-put-number c = search needs
 
 put-number-requires : tie.Need-put-number-requires
 put-number-requires c κs = search needs
@@ -36,14 +28,12 @@ same-length : tie.Need-same-length
 same-length c = search needs
 
 returns : tie.Need-returns
-returns c = (put-pieces _ _ (put-as (ap decimal (c .before .before .before .before .before .before .before .before .before .before .before .before .before .before .before .number-of .ensures)) (c .before .before .before .before .before .before .before .before .before .before .before .before .before .before .put-number .ensures .0)) (put-one (c .before .before .before .before .before .before .before .before .before .before .write-u8 .ensures)) (c .before .before .before .before .before .before .put-value .ensures .0) (put-one (c .before .before .write-u82 .ensures)), omega (arith, c .before .before .before .before .before .before .before .before .before .before .before .before .before .before .put-number .ensures .1, c .before .before .before .before .before .before .put-value .ensures .1))
+returns c = (put-pieces _ _ (c .before .before .before .before .before .before .before .before .before .before .before .before .before .before .put-number .ensures .0) (put-one (c .before .before .before .before .before .before .before .before .before .before .write-u8 .ensures)) (c .before .before .before .before .before .before .put-value .ensures .0) (put-one (c .before .before .write-u82 .ensures)), omega (arith, c .before .before .before .before .before .before .before .before .before .before .before .before .before .before .put-number .ensures .1, c .before .before .before .before .before .before .put-value .ensures .1))
 
 pub put-line-spec : {M : Type 1} → statement M
 put-line-spec =
     tie.close
     (tie.spec
-    number-of-requires
-    cast-put-number
     put-number-requires
     write-u8-requires
     add-put-value

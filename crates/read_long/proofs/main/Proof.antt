@@ -1,14 +1,9 @@
 use lib.Seq.{length-take-le}
 use native.Mathlib.Omega.{arith}
-use Prim.Native.Nat.{ℕ}
-use mathlib.Core.Path.{_≡_, sym}
+use mathlib.Core.Path.{sym}
 use borrow.Author.Needs.{needs}
 use Rattle.read_long.proofs.main.Statement.{statement}
 use Rattle.read_long.proofs.main.Tie as tie
-use Rattle.read_long.proofs.main.Reads as reads
-use Rattle.read_long.proofs.main.Lts as lts
-use Rattle.read_long.proofs.answer.Reads as answer-reads
-use Rattle.read_long.proofs.zeros.Reads as zeros-reads
 
 zeros-requires : tie.Need-zeros-requires
 zeros-requires c κs = search needs

@@ -1,10 +1,8 @@
 use lib.ListN.{length-replicate}
 use Prim.Native.Nat.{ℕ}
-use mathlib.Core.Path.{_≡_, sym}
+use mathlib.Core.Path.{sym}
 use Rattle.read_long.proofs.zeros.Statement.{statement}
 use Rattle.read_long.proofs.zeros.Tie as tie
-use Rattle.read_long.proofs.zeros.Reads as reads
-use Rattle.read_long.proofs.zeros.Lts as lts
 
 returns : tie.Need-returns
 returns c = sym (length-replicate {A = ℕ} 1048578 0)

@@ -1,13 +1,8 @@
 use lib.ListN.{length}
 use Prim.Native.Nat.{_≤_, _-_}
-use native.Mathlib.Omega.{arith}
 use borrow.Author.Needs.{needs}
 use Rattle.read_sheets.proofs.answer_all.Statement.{statement}
 use Rattle.read_sheets.proofs.answer_all.Tie as tie
-use Rattle.read_sheets.proofs.answer_all.Reads as reads
-use Rattle.read_sheets.proofs.answer_all.Lts as lts
-use Rattle.fields.proofs.u32_at.Reads as u32-at-reads
-use Rattle.read_sheets.proofs.answer.Reads as answer-reads
 
 abbrev Inv-loop : tie.InvT-loop
 Inv-loop input p₀ p = p ≤ length input

@@ -4,9 +4,6 @@ use native.Mathlib.Omega.{arith}
 use borrow.Author.Needs.{needs}
 use Rattle.scan.proofs.scan_main.Statement.{statement}
 use Rattle.scan.proofs.scan_main.Tie as tie
-use Rattle.scan.proofs.scan_main.Reads as reads
-use Rattle.scan.proofs.scan_main.Lts as lts
-use Rattle.scan.proofs.scan_body.Reads as scan-body-reads
 
 scan-body-requires : tie.Need-scan-body-requires
 scan-body-requires c κs = ready _ _ _ (all-bytes (c .before .before .before .before .before .args .b .now) (λ i l. omega (arith, c .before .before .before .before .shared-slice-known .given i))) (c .before .before .before .before .before .pre .1) (c .before .before .before .before .before .pre .0)

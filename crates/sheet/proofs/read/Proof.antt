@@ -1,12 +1,9 @@
+use Rattle.cut.proofs.Mains as mains
 use Rattle.sheet.proofs.Sheets as sheets
 use native.Mathlib.Omega.{arith}
 use borrow.Author.Needs.{needs}
 use Rattle.sheet.proofs.read.Statement.{statement}
 use Rattle.sheet.proofs.read.Tie as tie
-use Rattle.sheet.proofs.read.Reads as reads
-use Rattle.sheet.proofs.read.Lts as lts
-use Rattle.cut.proofs.cut_main.Reads as cut-main-reads
-use Rattle.sheet.proofs.read_main.Reads as read-main-reads
 
 cut-main-requires : tie.Need-cut-main-requires
 cut-main-requires c κs = search needs
@@ -21,16 +18,16 @@ enum-known-start : tie.Need-enum-known-start
 enum-known-start c = search needs
 
 sub-read-main : tie.Need-sub-read-main
-sub-read-main c = let w = sheets.cut-within _ _ (c .before .before .before .cut-main .ensures .0) _ _ (c .before .start .given .1) (c .before .before .before .cut-main .ensures .1) in omega (arith, w .0, w .1)
+sub-read-main c = let w = mains.cut-within _ _ (c .before .before .before .cut-main .ensures .0) _ _ (c .before .start .given .1) (c .before .before .before .cut-main .ensures .1) in omega (arith, w .0, w .1)
 
 part-read-main-start : tie.Need-part-read-main-start
-part-read-main-start c = let w = sheets.cut-within _ _ (c .before .before .before .cut-main .ensures .0) _ _ (c .before .start .given .1) (c .before .before .before .cut-main .ensures .1) in omega (arith, w .0, w .1)
+part-read-main-start c = let w = mains.cut-within _ _ (c .before .before .before .cut-main .ensures .0) _ _ (c .before .start .given .1) (c .before .before .before .cut-main .ensures .1) in omega (arith, w .0, w .1)
 
 part-read-main-end : tie.Need-part-read-main-end
-part-read-main-end c = let w = sheets.cut-within _ _ (c .before .before .before .cut-main .ensures .0) _ _ (c .before .start .given .1) (c .before .before .before .cut-main .ensures .1) in omega (arith, w .0, w .1)
+part-read-main-end c = let w = mains.cut-within _ _ (c .before .before .before .cut-main .ensures .0) _ _ (c .before .start .given .1) (c .before .before .before .cut-main .ensures .1) in omega (arith, w .0, w .1)
 
 read-main-requires : tie.Need-read-main-requires
-read-main-requires c κs = sheets.cut-limits _ _ (c .before .before .before .before .cut-main .ensures .0) _ _ (c .before .before .start .given .1)
+read-main-requires c κs = mains.cut-limits _ _ (c .before .before .before .before .cut-main .ensures .0) _ _ (c .before .before .start .given .1)
 
 returns : tie.Need-returns
 returns c = sheets.cut-long _ _ (c .before .before .before .cut-main .ensures .0) _ (c .before .n .given .1)

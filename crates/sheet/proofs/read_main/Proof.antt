@@ -1,5 +1,5 @@
-use Rattle.sheet.proofs.Sheets.{main-whole, main-stops, main-place}
-use Rattle.scan.proofs.Mains.{all-bytes}
+use Rattle.sheet.proofs.Sheets.{main-whole, main-stops}
+use Rattle.scan.proofs.Mains.{all-bytes, main-place}
 use lib.ListN.{length-replicate, getD-replicate}
 use native.Mathlib.Omega.{arith}
 use Prim.Native.Nat.{ℕ}
@@ -7,9 +7,6 @@ use mathlib.Core.Path.{refl}
 use borrow.Author.Needs.{needs}
 use Rattle.sheet.proofs.read_main.Statement.{statement}
 use Rattle.sheet.proofs.read_main.Tie as tie
-use Rattle.sheet.proofs.read_main.Reads as reads
-use Rattle.sheet.proofs.read_main.Lts as lts
-use Rattle.scan.proofs.scan_main.Reads as scan-main-reads
 
 slice-aggregate-scan-main : tie.Need-slice-aggregate-scan-main
 slice-aggregate-scan-main c = search needs

@@ -3,9 +3,6 @@ use native.Mathlib.Omega.{arith}
 use borrow.Author.Needs.{needs}
 use Rattle.step.proofs.look_at.Statement.{statement}
 use Rattle.step.proofs.look_at.Tie as tie
-use Rattle.step.proofs.look_at.Reads as reads
-use Rattle.step.proofs.look_at.Lts as lts
-use Rattle.fields.proofs.u16_at.Reads as u16-at-reads
 
 shared-slice-read-op : tie.Need-shared-slice-read-op
 shared-slice-read-op c = search needs

@@ -37,7 +37,7 @@ use denote.Triple.Walked.{says, needs, Stays, stay-none, gave-slice, walkOf, goe
 use denote.Exit.{yes}
 use denote.Signature.{plain}
 use Rattle.layout.specs.Numbers.{le16}
-use Rattle.fields.proofs.Stores.{sets-append}
+use Rattle.stores.proofs.Stores.{sets-append}
 use Rattle.writer.specs.declared.Writer.{Writer}
 use Rattle.writer.specs.Written.{appended}
 use Rattle.writer.proofs.Writer as T

@@ -1,0 +1,130 @@
+// The fields of an opcode, as far as its bodies: read, checked and measured.
+// `pos` is the position in the block that writing would have reached after the header.
+ghost use mathlib.Core.Path.{_≡_};
+ghost use Rattle.operands.specs.Scanned.{placed, scanned, Roomy};
+ghost use Rattle.action_fields.specs.Fields.{readWaitForFrame, readGotoFrame2, readGetUrl2, readGetUrl, flatSize, readFunction, readRegisters, readFunction2, ownerSize, readCaught, caughtSize};
+use fields::u16_at;
+use labels::BytePosition;
+use lists::scan_strings;
+use operands::Fault;
+use operands::Scan;
+use operands::scan_bytes;
+use operands::scan_flag;
+use operands::scan_string;
+
+// ---- payloads without a body
+
+// WaitForFrame: a frame and a count of actions to skip.
+pub fn scan_wait_for_frame(b: &[u8], at: usize, pos: BytePosition) -> Scan
+    requires { ⌜ Roomy (now b) at pos ⌝ }
+    ensures { λ r. ⌜ r ≡ scanned flatSize (pos .0) (readWaitForFrame (now (b .entry)) (placed at)) ⌝ }
+{
+    if b.len() - at < 2 {
+        return Scan::Stops(Fault::CutShort, at);
+    }
+    scan_bytes(b, at + 2, 1, BytePosition(pos.0 + 3))
+}
+
+// GotoFrame2: a bias and whether to play; the bias is written when it is not 0.
+pub fn scan_goto_frame2(b: &[u8], at: usize, pos: BytePosition) -> Scan
+    requires { ⌜ Roomy (now b) at pos ⌝ }
+    ensures { λ r. ⌜ r ≡ scanned flatSize (pos .0) (readGotoFrame2 (now (b .entry)) (placed at)) ⌝ }
+{
+    if b.len() - at < 2 {
+        return Scan::Stops(Fault::CutShort, at);
+    }
+    if u16_at(b, at) == 0 {
+        return scan_flag(b, at + 2, BytePosition(pos.0 + 1));
+    }
+    scan_flag(b, at + 2, BytePosition(pos.0 + 3))
+}
+
+// GetUrl2: two flags and a method.
+pub fn scan_get_url2(b: &[u8], at: usize, pos: BytePosition) -> Scan
+    requires { ⌜ Roomy (now b) at pos ⌝ }
+    ensures { λ r. ⌜ r ≡ scanned flatSize (pos .0) (readGetUrl2 (now (b .entry)) (placed at)) ⌝ }
+{
+    match scan_flag(b, at, pos) {
+        Scan::Stops(f, p) => Scan::Stops(f, p),
+        Scan::Ends(p, w) => match scan_flag(b, p, w) {
+            Scan::Stops(f, q) => Scan::Stops(f, q),
+            Scan::Ends(q, x) => scan_bytes(b, q, 1, BytePosition(x.0 + 1)),
+        },
+    }
+}
+
+// GetUrl: two strings.
+pub fn scan_get_url(b: &[u8], at: usize, pos: BytePosition) -> Scan
+    requires { ⌜ Roomy (now b) at pos ⌝ }
+    ensures { λ r. ⌜ r ≡ scanned flatSize (pos .0) (readGetUrl (now (b .entry)) (placed at)) ⌝ }
+{
+    match scan_string(b, at, pos) {
+        Scan::Stops(f, p) => Scan::Stops(f, p),
+        Scan::Ends(p, w) => scan_string(b, p, w),
+    }
+}
+
+// ---- payloads before bodies
+
+// A function's name and parameters.
+pub fn scan_function(b: &[u8], at: usize, pos: BytePosition) -> Scan
+    requires { ⌜ Roomy (now b) at pos ⌝ }
+    ensures { λ r. ⌜ r ≡ scanned ownerSize (pos .0) (readFunction (now (b .entry)) (placed at)) ⌝ }
+{
+    match scan_string(b, at, pos) {
+        Scan::Stops(f, p) => Scan::Stops(f, p),
+        Scan::Ends(p, w) => scan_strings(b, p, 0, BytePosition(w.0 + 4)),
+    }
+}
+
+// A register count, and flags of which bits 9 to 15 are zero.
+fn scan_registers(b: &[u8], at: usize, pos: BytePosition) -> Scan
+    requires { ⌜ Roomy (now b) at pos ⌝ }
+    ensures { λ r. ⌜ r ≡ scanned (λ _. 3) (pos .0) (readRegisters (now (b .entry)) (placed at)) ⌝ }
+{
+    if b.len() <= at {
+        return Scan::Stops(Fault::CutShort, at);
+    }
+    let p = at + 1;
+    if b.len() - p < 2 {
+        return Scan::Stops(Fault::CutShort, p);
+    }
+    if 511 < u16_at(b, p) {
+        return Scan::Stops(Fault::BadField, p);
+    }
+    Scan::Ends(p + 2, BytePosition(pos.0 + 3))
+}
+
+// A function's name, its parameters after their registers, its register count and flags.
+pub fn scan_function2(b: &[u8], at: usize, pos: BytePosition) -> Scan
+    requires { ⌜ Roomy (now b) at pos ⌝ }
+    ensures { λ r. ⌜ r ≡ scanned ownerSize (pos .0) (readFunction2 (now (b .entry)) (placed at)) ⌝ }
+{
+    match scan_string(b, at, pos) {
+        Scan::Stops(f, p) => Scan::Stops(f, p),
+        Scan::Ends(p, w) => match scan_strings(b, p, 1, BytePosition(w.0 + 4)) {
+            Scan::Stops(f, q) => Scan::Stops(f, q),
+            Scan::Ends(q, x) => scan_registers(b, q, x),
+        },
+    }
+}
+
+// A Try's shape and catch target.
+pub fn scan_catch(b: &[u8], at: usize, pos: BytePosition) -> Scan
+    requires { ⌜ Roomy (now b) at pos ⌝ }
+    ensures { λ r. ⌜ r ≡ scanned caughtSize (pos .0) (readCaught (now (b .entry)) (placed at)) ⌝ }
+{
+    if b.len() <= at {
+        return Scan::Stops(Fault::CutShort, at);
+    }
+    let p = at + 1;
+    match b[at] {
+        0 => Scan::Ends(p, BytePosition(pos.0 + 8)),
+        1 => scan_string(b, p, BytePosition(pos.0 + 7)),
+        2 => Scan::Ends(p, BytePosition(pos.0 + 8)),
+        3 => scan_string(b, p, BytePosition(pos.0 + 7)),
+        5 => scan_bytes(b, p, 1, BytePosition(pos.0 + 8)),
+        7 => scan_bytes(b, p, 1, BytePosition(pos.0 + 8)),
+        _ => Scan::Stops(Fault::BadField, at),
+    }
+}

@@ -1,0 +1,13 @@
+-- What the walk of bodies and actions asks. Assumes nothing.
+use mathlib.Core.Path.{_≡_}
+use Prim.Native.Nat.{ℕ}
+use mathlib.Core.List.{List}
+use lib.ListN.{length}
+use Rattle.labels.specs.declared.BytePosition.{BytePosition}
+use Rattle.operands.specs.Scanned.{Roomy}
+
+-- room for every position, a slot for each label, and two numbers for the first overflow
+pub record Ready (b : List ℕ) (at : ℕ) (pos : BytePosition) (tab over : List ℕ) : Type 0 where
+  pub roomy : Roomy b at pos
+  pub full : length tab ≡ 1024
+  pub two : length over ≡ 2

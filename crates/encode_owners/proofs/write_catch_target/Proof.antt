@@ -1,0 +1,90 @@
+-- `encode_owners::write_catch_target` meets its contract: in each case the bytes are the target's. Assumes nothing.
+use mathlib.Core.Path.{refl}
+use native.Mathlib.Omega.{arith}
+use denote.Ref.{now}
+use borrow.Author.Needs.{needs}
+use Rattle.encode_values.proofs.Puts as values
+use Rattle.encode_owners.specs.Payloads.{targetBytes, TargetWithin}
+use Rattle.encode_owners.proofs.write_catch_target.Statement.{statement}
+use Rattle.encode_owners.proofs.write_catch_target.Tie as tie
+
+enum-told : tie.Need-enum-told
+enum-told c = search needs
+
+write-byte-requires : tie.Need-write-byte-requires
+unfolding targetBytes
+write-byte-requires c κs = rw (c .before .enum-told .given .1) at (c .before .before .before .before .before .pre .1)
+
+enum-known-t : tie.Need-enum-known-t
+enum-known-t c = search needs
+
+write-string-requires : tie.Need-write-string-requires
+unfolding targetBytes TargetWithin
+write-string-requires c κs =
+    let p = rw (c .before .before .t .given .1) at (c .before .before .before .before .before .before .pre) in
+    let l = values.length-span (now (c .before .before .before .before .before .before .args .b)) (c .before .before .t .given .0 .0) (p .0) in
+    (omega (arith, p .1 .room), omega (arith, p .0))
+
+add-t14 : tie.Need-add-t14
+unfolding targetBytes TargetWithin
+add-t14 c =
+    let p = rw (c .before .before .before .before .before .before .t .given .1) at (c .before .before .before .before .before .before .before .before .before .before .pre) in
+    let l = values.length-span (now (c .before .before .before .before .before .before .before .before .before .before .args .b)) (c .before .before .before .before .before .before .t .given .0 .0) (p .0) in
+    omega (arith, p .1 .room, p .1 .sums)
+
+add-t15 : tie.Need-add-t15
+unfolding targetBytes TargetWithin
+add-t15 c =
+    let p = rw (c .before .before .before .before .before .before .t .given .1) at (c .before .before .before .before .before .before .before .before .before .before .pre) in
+    let l = values.length-span (now (c .before .before .before .before .before .before .before .before .before .before .args .b)) (c .before .before .before .before .before .before .t .given .0 .0) (p .0) in
+    omega (arith, p .1 .room, p .1 .sums)
+
+enum-known-t-2 : tie.Need-enum-known-t-2
+enum-known-t-2 c = search needs
+
+write-byte-requires-2 : tie.Need-write-byte-requires-2
+unfolding targetBytes
+write-byte-requires-2 c κs = rw (c .before .before .t2 .given .1) at (c .before .before .before .before .before .before .pre .1)
+
+same-length : tie.Need-same-length
+same-length c = search needs
+
+returns : tie.Need-returns
+unfolding targetBytes
+returns c = rw (c .before .before .before .before .enum-told .given .1) (c .before .before .write-byte .ensures)
+
+same-length-2 : tie.Need-same-length-2
+same-length-2 c = search needs
+
+returns-2 : tie.Need-returns-2
+unfolding targetBytes TargetWithin
+returns-2 c =
+    let p = rw (c .before .before .before .before .before .before .t .given .1) at (c .before .before .before .before .before .before .before .before .before .before .pre) in
+    let l = values.length-span (now (c .before .before .before .before .before .before .before .before .before .before .args .b)) (c .before .before .before .before .before .before .t .given .0 .0) (p .0) in
+    rw (c .before .before .before .before .before .before .t .given .1) (record { wrote = c .before .before .before .write-string .ensures; end = omega arith; next = refl })
+
+same-length-3 : tie.Need-same-length-3
+same-length-3 c = search needs
+
+returns-3 : tie.Need-returns-3
+unfolding targetBytes
+returns-3 c = rw (c .before .before .before .before .before .t2 .given .1) (c .before .before .write-byte2 .ensures)
+
+pub write-catch-target-spec : {M : Type 1} → statement M
+write-catch-target-spec =
+    tie.close
+    (tie.spec
+    enum-told
+    write-byte-requires
+    enum-known-t
+    write-string-requires
+    add-t14
+    add-t15
+    enum-known-t-2
+    write-byte-requires-2
+    same-length
+    returns
+    same-length-2
+    returns-2
+    same-length-3
+    returns-3)

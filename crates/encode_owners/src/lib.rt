@@ -1,0 +1,102 @@
+// What is written of a function and of a Try before their bodies, as source 000's ActionEncoder does, over a lent output. `b` is the
+// main body, `pos` a position in the block and `next` the place in the main body after what is written.
+ghost use Prim.Native.Nat.{_≤_};
+ghost use lib.ListN.{length};
+ghost use Rattle.layout.specs.Payload.{tryPayload};
+ghost use Rattle.pcode.specs.Shown.{after};
+ghost use Rattle.encode_values.specs.Pieces.{piece, action, nextOf, Room, Put};
+ghost use Rattle.encode_owners.specs.Payloads.{targetBytes, TargetWithin, function, function2};
+use encode_values::Ends;
+use encode_values::write_byte;
+use encode_values::write_params;
+use encode_values::write_strings;
+use fields::u16_at;
+use opcode::OpCode;
+use pcode::CatchTarget;
+use pcode::Function;
+use stores::write_string;
+use stores::write_u8;
+use stores::write_u16;
+use writer::write_action_header;
+
+// The body's length is the payload's last two bytes, 0 for now. The header comes last, here and below: only then is its length known.
+pub fn write_define_function(out: &mut [u8], pos: usize, b: &[u8], f: Function) -> Ends
+    requires { ⌜ (after (f .name) ≤ length (now b)) × Room (function (now b) f) pos (now out) ⌝ }
+    ensures { λ r. ⌜ Put (function (now (b .entry)) f) pos (now (out .entry)) (now (out .exit)) r ⌝ }
+{
+    let name = f.name;
+    let w = pos + 3 + (name.len + 1);
+    write_string(out, pos + 3, b, name.at, name.len);
+    write_u16(out, w, f.count);
+    let e = write_strings(out, w + 2, b, f.count, f.at);
+    write_u16(out, e.pos, 0);
+    write_action_header(out, pos, OpCode::DEFINE_FUNCTION, e.pos + 2 - (pos + 3));
+    Ends {
+        next: e.next,
+        pos: e.pos + 2,
+    }
+}
+
+// Registers and flags stand behind the parameters in the main body, and before them in the block.
+pub fn write_define_function_2(out: &mut [u8], pos: usize, b: &[u8], f: Function) -> Ends
+    requires { ⌜ (after (f .name) ≤ length (now b)) × (nextOf (function2 (now b) f) ≤ length (now b)) × Room (function2 (now b) f) pos (now out) ⌝ }
+    ensures { λ r. ⌜ Put (function2 (now (b .entry)) f) pos (now (out .entry)) (now (out .exit)) r ⌝ }
+{
+    let name = f.name;
+    let w = pos + 3 + (name.len + 1);
+    write_string(out, pos + 3, b, name.at, name.len);
+    write_u16(out, w, f.count);
+    let e = write_params(out, w + 5, b, f.count, f.at);
+    let registers = e.next;
+    let body = registers + 3;
+    write_u8(out, w + 2, b[registers]);
+    write_u16(out, w + 3, u16_at(b, registers + 1));
+    write_u16(out, e.pos, 0);
+    write_action_header(out, pos, OpCode::DEFINE_FUNCTION2, e.pos + 2 - (pos + 3));
+    Ends {
+        next: body,
+        pos: e.pos + 2,
+    }
+}
+
+// A name, a register, or one zero byte.
+fn write_catch_target(out: &mut [u8], pos: usize, b: &[u8], t: CatchTarget, next: usize) -> Ends
+    requires { ⌜ TargetWithin (now b) t × Room (piece (targetBytes (now b) t) next) pos (now out) ⌝ }
+    ensures { λ r. ⌜ Put (piece (targetBytes (now (b .entry)) t) next) pos (now (out .entry)) (now (out .exit)) r ⌝ }
+{
+    match t {
+        CatchTarget::Nothing => write_byte(out, pos, 0, next),
+        CatchTarget::Variable(s) => {
+            write_string(out, pos, b, s.at, s.len);
+            Ends {
+                next,
+                pos: pos + s.len + 1,
+            }
+        }
+        CatchTarget::Register(r) => write_byte(out, pos, r, next),
+    }
+}
+
+// The lengths of the three bodies are 0 for now.
+pub fn write_try(
+    out: &mut [u8],
+    pos: usize,
+    b: &[u8],
+    shape: u8,
+    t: CatchTarget,
+    next: usize,
+) -> Ends
+    requires { ⌜ TargetWithin (now b) t × Room (action 0x8F (tryPayload shape 0 0 0 (targetBytes (now b) t)) next) pos (now out) ⌝ }
+    ensures { λ r. ⌜ Put (action 0x8F (tryPayload shape 0 0 0 (targetBytes (now (b .entry)) t)) next) pos (now (out .entry)) (now (out .exit)) r ⌝ }
+{
+    write_u8(out, pos + 3, shape);
+    write_u16(out, pos + 4, 0);
+    write_u16(out, pos + 6, 0);
+    write_u16(out, pos + 8, 0);
+    let e = write_catch_target(out, pos + 10, b, t, next);
+    write_action_header(out, pos, OpCode::TRY, e.pos - (pos + 3));
+    Ends {
+        next: e.next,
+        pos: e.pos,
+    }
+}

@@ -1,0 +1,63 @@
+-- `encode_flat::write_string_action` meets its contract: the header's run and then the string's are one run, and the header holds the string's length. Assumes nothing.
+use native.Mathlib.Omega.{arith}
+use denote.Ref.{now}
+use borrow.Author.Needs.{needs}
+use Rattle.encode_values.proofs.Puts as values
+use Rattle.encode_values.proofs.Headers as headers
+use Rattle.encode_strings.proofs.Rooms as rooms
+use Rattle.encode_strings.proofs.write_string_action.Statement.{statement}
+use Rattle.encode_strings.proofs.write_string_action.Tie as tie
+
+add-write-action-header : tie.Need-add-write-action-header
+add-write-action-header c = search needs
+
+write-action-header-requires : tie.Need-write-action-header-requires
+write-action-header-requires c κs =
+    let a = c .before .before .before .before .args in
+    let h = rooms.string-action-room _ (now (a .b)) (a .s) (c .before .before .before .before .pre .0) (c .before .before .before .before .pre .1) in
+    omega arith
+
+add-write-string : tie.Need-add-write-string
+add-write-string c = search needs
+
+write-string-requires : tie.Need-write-string-requires
+write-string-requires c κs =
+    let a = c .before .before .before .before .before .before .before .before .args in
+    let h = rooms.string-action-room _ (now (a .b)) (a .s) (c .before .before .before .before .before .before .before .before .pre .0) (c .before .before .before .before .before .before .before .before .pre .1) in
+    (omega (arith, c .before .before .before .write-action-header .kept .0), omega arith)
+
+add-t9 : tie.Need-add-t9
+add-t9 c = search needs
+
+add-t12 : tie.Need-add-t12
+add-t12 c = search needs
+
+add-t13 : tie.Need-add-t13
+add-t13 c = search needs
+
+add-t14 : tie.Need-add-t14
+add-t14 c = search needs
+
+same-length : tie.Need-same-length
+same-length c = search needs
+
+returns : tie.Need-returns
+returns c =
+    let a = c .before .before .before .before .before .before .before .before .before .before .before .before .before .args in
+    let l = values.length-span (now (a .b)) (a .s) (c .before .before .before .before .before .before .before .before .before .before .before .before .before .pre .0) in
+    headers.action-put _ _ _ (omega arith) (c .before .before .before .before .before .before .before .before .write-action-header .ensures) (c .before .before .before .before .write-string .ensures) (omega arith)
+
+pub write-string-action-spec : {M : Type 1} → statement M
+write-string-action-spec =
+    tie.close
+    (tie.spec
+    add-write-action-header
+    write-action-header-requires
+    add-write-string
+    write-string-requires
+    add-t9
+    add-t12
+    add-t13
+    add-t14
+    same-length
+    returns)

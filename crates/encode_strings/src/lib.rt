@@ -1,0 +1,74 @@
+// Actions with strings or with a list, as source 000's ActionEncoder writes them, over a lent output. `b` is the main body, and
+// `pos` a position in the block.
+ghost use mathlib.Core.Bool.{false};
+ghost use mathlib.Core.List.{_++_};
+ghost use Prim.Native.Nat.{_+_, _≤_};
+ghost use lib.ListN.{length};
+ghost use Rattle.layout.specs.Numbers.{le16};
+ghost use Rattle.layout.specs.Tree.{GetUrl};
+ghost use Rattle.layout.specs.Payload.{zeroEnded, headed};
+ghost use Rattle.pcode.specs.Shown.{after};
+ghost use Rattle.encode_values.specs.Pieces.{action, flatPiece, written, spanOf, stringsAt, valuesAt, Room, Put};
+use encode_values::Ends;
+use encode_values::write_push_values;
+use encode_values::write_strings;
+use opcode::OpCode;
+use pcode::Span;
+use stores::write_string;
+use stores::write_u16;
+use writer::write_action_header;
+
+// SetTarget and GotoLabel.
+pub fn write_string_action(out: &mut [u8], pos: usize, op: u8, b: &[u8], s: Span) -> Ends
+    requires { ⌜ (after s ≤ length (now b)) × Room (action op (zeroEnded (spanOf (now b) s)) (after s)) pos (now out) ⌝ }
+    ensures { λ r. ⌜ Put (action op (zeroEnded (spanOf (now (b .entry)) s)) (after s)) pos (now (out .entry)) (now (out .exit)) r ⌝ }
+{
+    write_action_header(out, pos, op, s.len + 1);
+    write_string(out, pos + 3, b, s.at, s.len);
+    Ends {
+        next: s.at + s.len,
+        pos: pos + 3 + s.len + 1,
+    }
+}
+
+// Two strings.
+pub fn write_get_url(out: &mut [u8], pos: usize, b: &[u8], url: Span, target: Span) -> Ends
+    requires { ⌜ (after url ≤ length (now b)) × (after target ≤ length (now b)) × Room (flatPiece (GetUrl (spanOf (now b) url) (spanOf (now b) target)) (after target)) pos (now out) ⌝ }
+    ensures { λ r. ⌜ Put (flatPiece (GetUrl (spanOf (now (b .entry)) url) (spanOf (now (b .entry)) target)) (after target)) pos (now (out .entry)) (now (out .exit)) r ⌝ }
+{
+    write_action_header(out, pos, OpCode::GET_URL, url.len + target.len + 2);
+    write_string(out, pos + 3, b, url.at, url.len);
+    let w = pos + 3 + (url.len + 1);
+    write_string(out, w, b, target.at, target.len);
+    Ends {
+        next: target.at + target.len,
+        pos: w + target.len + 1,
+    }
+}
+
+// The header comes after the values: only then is its length known.
+pub fn write_push(out: &mut [u8], pos: usize, b: &[u8], n: usize, at: usize) -> Ends
+    requires { ⌜ Room (written (λ q. headed false 0x96 q) (valuesAt (now b) n at)) pos (now out) ⌝ }
+    ensures { λ r. ⌜ Put (written (λ q. headed false 0x96 q) (valuesAt (now (b .entry)) n at)) pos (now (out .entry)) (now (out .exit)) r ⌝ }
+{
+    let e = write_push_values(out, pos + 3, b, n, at);
+    write_action_header(out, pos, OpCode::PUSH, e.pos - (pos + 3));
+    Ends {
+        next: e.next,
+        pos: e.pos,
+    }
+}
+
+// The header comes after the strings.
+pub fn write_constant_pool(out: &mut [u8], pos: usize, b: &[u8], n: usize, at: usize) -> Ends
+    requires { ⌜ Room (written (λ q. headed false 0x88 (le16 n ++ q)) (stringsAt (now b) n at)) pos (now out) ⌝ }
+    ensures { λ r. ⌜ Put (written (λ q. headed false 0x88 (le16 n ++ q)) (stringsAt (now (b .entry)) n at)) pos (now (out .entry)) (now (out .exit)) r ⌝ }
+{
+    write_u16(out, pos + 3, n);
+    let e = write_strings(out, pos + 5, b, n, at);
+    write_action_header(out, pos, OpCode::CONSTANT_POOL, e.pos - (pos + 3));
+    Ends {
+        next: e.next,
+        pos: e.pos,
+    }
+}

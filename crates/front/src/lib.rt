@@ -1,0 +1,55 @@
+// The front of a body: its label entries and its action count, read and checked. Nothing of it is written.
+ghost use mathlib.Core.Path.{_≡_};
+ghost use Prim.Native.Nat.{_≤_};
+ghost use lib.ListN.{length};
+ghost use Rattle.layout.specs.Read.{edition1, readEntries};
+ghost use Rattle.operands.specs.Scanned.{placed, scanned};
+ghost use Rattle.front.specs.Front.{readFront};
+use fields::u16_at;
+use labels::BytePosition;
+use operands::Fault;
+use operands::Scan;
+use operands::scan_bytes;
+
+// n label entries: label numbers in range and strictly rising.
+fn scan_entries(b: &[u8], at: usize, n: usize, pos: BytePosition) -> Scan
+    requires { ⌜ at ≤ length (now b) ⌝ }
+    ensures { λ r. ⌜ r ≡ scanned (λ _. 0) (pos .0) (readEntries edition1 (now (b .entry)) n 0 (placed at)) ⌝ }
+{
+    let mut left = n;
+    let mut p = at;
+    let mut least = 0;
+    while 0 < left {
+        if b.len() - p < 2 {
+            return Scan::Stops(Fault::CutShort, p);
+        }
+        let label = u16_at(b, p);
+        if 1023 < label {
+            return Scan::Stops(Fault::BadField, p);
+        }
+        if label < least {
+            return Scan::Stops(Fault::BadField, p);
+        }
+        if b.len() - p < 4 {
+            return Scan::Stops(Fault::CutShort, p + 2);
+        }
+        least = label + 1;
+        p += 4;
+        left -= 1;
+    }
+    Scan::Ends(p, pos)
+}
+
+// A body's front: its label entries and its action count.
+pub fn scan_front(b: &[u8], at: usize, pos: BytePosition) -> Scan
+    requires { ⌜ at ≤ length (now b) ⌝ }
+    ensures { λ r. ⌜ r ≡ scanned (λ _. 0) (pos .0) (readFront (now (b .entry)) (placed at)) ⌝ }
+{
+    if b.len() - at < 2 {
+        return Scan::Stops(Fault::CutShort, at);
+    }
+    match scan_entries(b, at + 2, u16_at(b, at), pos) {
+        Scan::Stops(f, p) => Scan::Stops(f, p),
+        Scan::Ends(p, w) => scan_bytes(b, p, 2, w),
+    }
+}

@@ -1,0 +1,76 @@
+use borrow.Author.Needs.{needs}
+use Rattle.layout.specs.Read.{edition1, readValue, readCounted}
+use Rattle.layout.specs.Lengths.{total}
+use Rattle.operands.specs.Scanned.{placed, faultOf, scanned}
+use Rattle.lists.specs.Elements.{valueSize}
+use Rattle.lists.proofs.Lists as lists
+use native.Mathlib.Omega.{arith}
+use Rattle.lists.proofs.scan_push.Statement.{statement}
+use Rattle.lists.proofs.scan_push.Tie as tie
+
+abbrev Inv-loop : tie.InvT-loop
+Inv-loop b at left₀ p₀ w₀ left p w =
+    lists.Going (readValue edition1 b) valueSize b (scanned (total valueSize) (w₀ .0) (readCounted b (readValue edition1 b) (placed at))) left p w
+
+abbrev μ-loop : tie.MeasureT-loop
+μ-loop b at left₀ p₀ w₀ left p w = left
+
+sub-if1 : tie.Need-sub-if1 Inv-loop μ-loop
+sub-if1 c = search needs
+
+returns : tie.Need-returns Inv-loop μ-loop
+unfolding faultOf
+returns c = lists.counted-out _ _ _ _ _ (omega arith)
+
+u16-at-requires : tie.Need-u16-at-requires Inv-loop μ-loop
+u16-at-requires c κs = search needs
+
+add-p : tie.Need-add-p Inv-loop μ-loop
+add-p c = search needs
+
+loop-holds : tie.Need-loop-holds Inv-loop μ-loop
+loop-holds c = lists.counted-start _ _ _ _ _ _ (omega arith) (c .u16-at .ensures .0) (c .before .before .before .pre)
+
+scan-push-value-requires : tie.Need-scan-push-value-requires Inv-loop μ-loop
+scan-push-value-requires c κs = c .before .loop .inv .roomy
+
+enum-known-f : tie.Need-enum-known-f Inv-loop μ-loop
+enum-known-f c = search needs
+
+returns-2 : tie.Need-returns-2 Inv-loop μ-loop
+returns-2 c = lists.going-stops _ _ _ _ _ _ _ (c .before .before .before .before .before .loop .inv) (c .before .before .before .before .loop-test .taken) _ (c .before .before .before .scan-push-value .ensures) _ _ (c .before .f .given .1)
+
+enum-known-q : tie.Need-enum-known-q Inv-loop μ-loop
+enum-known-q c = search needs
+
+sub-left : tie.Need-sub-left Inv-loop μ-loop
+sub-left c = search needs
+
+loop-less : tie.Need-loop-less Inv-loop μ-loop
+loop-less c = search needs
+
+loop-again : tie.Need-loop-again Inv-loop μ-loop
+loop-again c = let g = c .before .before .before .before .before .loop .inv in lists.going-ends _ _ _ _ _ _ _ g (c .before .before .before .before .loop-test .taken) _ (c .before .before .before .scan-push-value .ensures) (lists.values-grow _ (g .roomy .bytes)) _ _ (c .before .q .given .1)
+
+returns-3 : tie.Need-returns-3 Inv-loop μ-loop
+returns-3 c = lists.going-end _ _ _ _ _ _ _ (c .before .loop .inv) (c .loop-test .left)
+
+pub scan-push-spec : {M : Type 1} → statement M
+scan-push-spec =
+    tie.close
+    (tie.spec
+    Inv-loop
+    μ-loop
+    sub-if1
+    returns
+    u16-at-requires
+    add-p
+    loop-holds
+    scan-push-value-requires
+    enum-known-f
+    returns-2
+    enum-known-q
+    sub-left
+    loop-less
+    loop-again
+    returns-3)

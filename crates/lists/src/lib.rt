@@ -1,0 +1,113 @@
+// Lists of strings, of parameters and of push values: read, checked (3 to 5) and measured.
+ghost use mathlib.Core.Path.{_≡_};
+ghost use Prim.Native.Nat.{_≤_};
+ghost use Rattle.layout.specs.Read.{edition1, readU16, readCounted, readValue};
+ghost use Rattle.layout.specs.Lengths.{total};
+ghost use Rattle.operands.specs.Scanned.{placed, scanned, Roomy};
+ghost use Rattle.lists.specs.Elements.{namedSize, readNamed, constantSize, valueSize};
+use fields::u16_at;
+use labels::BytePosition;
+use operands::Fault;
+use operands::Scan;
+use operands::scan_bytes;
+use operands::scan_flag;
+use operands::scan_string;
+
+// A string after `skip` bytes: 0, or 1 for a parameter's register.
+pub fn scan_named(b: &[u8], at: usize, skip: usize, pos: BytePosition) -> Scan
+    requires { ⌜ Roomy (now b) at pos × (skip ≤ 1) ⌝ }
+    ensures { λ r. ⌜ r ≡ scanned (namedSize skip) (pos .0) (readNamed (now (b .entry)) skip (placed at)) ⌝ }
+{
+    if b.len() - at < skip {
+        return Scan::Stops(Fault::CutShort, at);
+    }
+    scan_string(b, at + skip, BytePosition(pos.0 + skip))
+}
+
+// A count, then that many strings, each after `skip` bytes; `pos` is the position after the written count.
+pub fn scan_strings(b: &[u8], at: usize, skip: usize, pos: BytePosition) -> Scan
+    requires { ⌜ Roomy (now b) at pos × (skip ≤ 1) ⌝ }
+    ensures { λ r. ⌜ r ≡ scanned (total (namedSize skip)) (pos .0) (readCounted (now (b .entry)) (readNamed (now (b .entry)) skip) (placed at)) ⌝ }
+{
+    if b.len() - at < 2 {
+        return Scan::Stops(Fault::CutShort, at);
+    }
+    let mut left = u16_at(b, at);
+    let mut p = at + 2;
+    let mut w = pos;
+    while 0 < left {
+        match scan_named(b, p, skip, w) {
+            Scan::Stops(f, q) => {
+                return Scan::Stops(f, q);
+            }
+            Scan::Ends(q, x) => {
+                p = q;
+                w = x;
+            }
+        }
+        left -= 1;
+    }
+    Scan::Ends(p, w)
+}
+
+// A constant's number: kind and number take 2 bytes in the block, or 3.
+fn scan_constant(b: &[u8], at: usize, pos: BytePosition) -> Scan
+    requires { ⌜ Roomy (now b) at pos ⌝ }
+    ensures { λ r. ⌜ r ≡ scanned constantSize (pos .0) (readU16 (now (b .entry)) (placed at)) ⌝ }
+{
+    if b.len() - at < 2 {
+        return Scan::Stops(Fault::CutShort, at);
+    }
+    if u16_at(b, at) < 256 {
+        return Scan::Ends(at + 2, BytePosition(pos.0 + 2));
+    }
+    Scan::Ends(at + 2, BytePosition(pos.0 + 3))
+}
+
+// A push value: its kind, then what the kind says.
+pub fn scan_push_value(b: &[u8], at: usize, pos: BytePosition) -> Scan
+    requires { ⌜ Roomy (now b) at pos ⌝ }
+    ensures { λ r. ⌜ r ≡ scanned valueSize (pos .0) (readValue edition1 (now (b .entry)) (placed at)) ⌝ }
+{
+    if b.len() <= at {
+        return Scan::Stops(Fault::CutShort, at);
+    }
+    let p = at + 1;
+    match b[at] {
+        0 => scan_string(b, p, BytePosition(pos.0 + 1)),
+        2 => Scan::Ends(p, BytePosition(pos.0 + 1)),
+        3 => Scan::Ends(p, BytePosition(pos.0 + 1)),
+        4 => scan_bytes(b, p, 1, BytePosition(pos.0 + 2)),
+        5 => scan_flag(b, p, BytePosition(pos.0 + 2)),
+        6 => scan_bytes(b, p, 8, BytePosition(pos.0 + 9)),
+        7 => scan_bytes(b, p, 4, BytePosition(pos.0 + 5)),
+        8 => scan_constant(b, p, pos),
+        _ => Scan::Stops(Fault::UnknownCode, at),
+    }
+}
+
+// A count, then that many push values.
+pub fn scan_push(b: &[u8], at: usize, pos: BytePosition) -> Scan
+    requires { ⌜ Roomy (now b) at pos ⌝ }
+    ensures { λ r. ⌜ r ≡ scanned (total valueSize) (pos .0) (readCounted (now (b .entry)) (readValue edition1 (now (b .entry))) (placed at)) ⌝ }
+{
+    if b.len() - at < 2 {
+        return Scan::Stops(Fault::CutShort, at);
+    }
+    let mut left = u16_at(b, at);
+    let mut p = at + 2;
+    let mut w = pos;
+    while 0 < left {
+        match scan_push_value(b, p, w) {
+            Scan::Stops(f, q) => {
+                return Scan::Stops(f, q);
+            }
+            Scan::Ends(q, x) => {
+                p = q;
+                w = x;
+            }
+        }
+        left -= 1;
+    }
+    Scan::Ends(p, w)
+}

@@ -1,0 +1,38 @@
+-- What the walk of a whole main body asks and promises. Assumes nothing.
+use mathlib.Core.Path.{_≡_}
+use Prim.Native.Nat.{ℕ, _<_}
+use mathlib.Core.Option.{Option, none, some}
+use mathlib.Core.List.{List}
+use lib.ListN.{length, getD}
+use lib.IntN.{pos}
+use Rattle.layout.specs.Answers.{Refusal, refusalNumber, refusalValue}
+use Rattle.layout.specs.Answers as answers
+use Rattle.layout.specs.Tree.{ActionsOf}
+use Rattle.layout.specs.Read.{Text, Place, Read, got, bad}
+use Rattle.layout.specs.Strings.{mapBody}
+use Rattle.layout.specs.Write.{events, bodySize}
+use Rattle.layout.specs.Judge.{tooLong}
+use Rattle.layout.specs.Pack.{spelling}
+use Rattle.labels.specs.Table.{TableHolds}
+use Rattle.labels.specs.declared.BytePosition.{BytePosition}
+use Rattle.operands.specs.Scanned.{faultOf}
+use Rattle.operands.specs.declared.Scan.{Scan}
+use Rattle.operands.specs.declared.Scan.the-variants as scan
+
+-- what the caller lends: an empty table, and nothing noted
+pub record Empty (tab over : List ℕ) : Type 0 where
+  pub full : length tab ≡ 1024
+  pub zeros : (l : ℕ) → l < 1024 → getD tab l 0 ≡ 0
+  pub two : length over ≡ 2
+  pub zero : getD over 0 0 ≡ 0
+
+-- two numbers hold the first of 8 and 9: its number and its value; without one the first is 0
+abbrev pub Holds : Option Refusal → List ℕ → Type 0
+Holds none over = getD over 0 0 ≡ 0
+Holds (some r) over = (getD over 0 0 ≡ refusalNumber r) × (pos (getD over 1 0) ≡ refusalValue r)
+
+-- the answer to a main body: where it reads whole, its size, every label's final record, and the first of 8 and 9
+pub data MainScanned (tab over : List ℕ) : Read (ActionsOf Text ℕ) → Scan → Type 0 where
+  whole : {x : ActionsOf Text ℕ} {p : Place} {w : BytePosition} → w .0 ≡ bodySize (mapBody spelling x) → TableHolds 1024 tab (events (mapBody spelling x))
+      → Holds (tooLong (events (mapBody spelling x))) over → MainScanned tab over (got x p) (scan.Ends (p .at) w)
+  stopped : {f : answers.Fault} {p : Place} → MainScanned tab over (bad f p) (scan.Stops (faultOf f) (p .at))

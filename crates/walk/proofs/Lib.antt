@@ -1,0 +1,4 @@
+pub mod Runs
+pub mod Longs
+pub mod Layings
+pub mod Tries
