@@ -1,5 +1,5 @@
 #!/usr/bin/env python3
-"""Writes stdin and stdout of crates/block, block_empty, block_full and block_cases: inputs of the block program, and what the oracle prints of each.
+"""Writes stdin and stdout of crates/block, block_full and block_cases: inputs of the block program, and what the oracle prints of each.
 
 Run in the checkout after the oracle is built: python3 oracle/blocks.py
 """
@@ -74,7 +74,6 @@ def write(crate, stdin, stdout):
 def main():
     assert text(SAMPLE) == SAMPLE_TEXT
     write("block", SAMPLE, text(SAMPLE))
-    write("block_empty", b"", text(b""))
     full = as_long_as(SPACE, HAND[5][0])
     assert text(full) == "12 65536\n"
     write("block_full", full, text(full))
