@@ -1,12 +1,160 @@
 // Replays the oracle's answers: packs each sheet of a list, and holds number, value and every byte of the output to what the list
 // says. Writes a line for each number that was met, with its count, and then how many answers differ and the first that does.
+//
+// A record is the lengths of two patterns, the room, and the answer's number and value, in 21 bytes; then the pattern of the sheet
+// and that of the block.
 ghost use mathlib.Core.Path.{_≡_};
+ghost use Prim.Native.Nat.{_≤_};
 ghost use lib.ListN.{length};
+use answer::Answer;
+use answer::number_of;
+use answer::value_of;
+use fields::u32_at;
+use fields::u64_at;
+use io::print_decimal;
+use io::write_all;
 use libc::STDIN_FILENO;
-use replayed::record_length;
-use replayed::replay_one;
-use tally::count;
-use tally::write_counts;
+use libc::STDOUT_FILENO;
+use patterns::unroll_at;
+
+// ---- one record
+
+// What every byte of the output holds before a sheet is packed.
+const FRESH: u8 = 0xA5;
+
+fn refresh(out: &mut [u8]) {
+    let mut i = 0;
+    while i < out.len() {
+        out[i] = FRESH;
+        i += 1;
+    }
+}
+
+// Whether the output starts with the block and is fresh behind it.
+fn holds(out: &[u8], block: &[u8]) -> bool {
+    let mut i = 0;
+    while i < out.len() {
+        let due = if i < block.len() { block[i] } else { FRESH };
+        if out[i] != due {
+            return false;
+        }
+        i += 1;
+    }
+    block.len() <= out.len()
+}
+
+// Whether an answer has this number and value.
+fn tells(answer: Answer, number: u8, value: u64) -> bool {
+    if number_of(answer) != number as u32 {
+        return false;
+    }
+    value_of(answer) == value
+}
+
+// Whether packing into the first `room` bytes of the output gives this number, value and block, and leaves the bytes behind them.
+fn agrees(sheet: &[u8], room: usize, number: u8, value: u64, block: &[u8], out: &mut [u8]) -> bool {
+    if out.len() < room {
+        return false;
+    }
+    refresh(out);
+    if tells(pack::pack(sheet, &mut out[..room]), number, value) {
+        return holds(out, block);
+    }
+    false
+}
+
+// Whether packing the sheet gives what the head of a record says, and this block. 64 bytes behind the room are looked at too.
+fn replay_sheet(head: &[u8], sheet: &[u8], block: &[u8], out: &mut [u8]) -> bool
+    requires { ⌜ 21 ≤ length (now head) ⌝ }
+{
+    let room = u32_at(head, 8) as usize;
+    let number = head[12];
+    let value = u64_at(head, 13);
+    if out.len() < room + 64 {
+        return false;
+    }
+    agrees(sheet, room, number, value, block, &mut out[..room + 64])
+}
+
+// Whether the record at the front of the input agrees.
+fn replay_one(input: &[u8], sheet: &mut [u8], block: &mut [u8], out: &mut [u8]) -> bool
+    requires { ⌜ 21 ≤ length (now input) ⌝ }
+{
+    let n = u32_at(input, 0) as usize;
+    let m = u32_at(input, 4) as usize;
+    let long = unroll_at(input, 21, n, sheet);
+    let wide = unroll_at(input, 21 + n, m, block);
+    replay_sheet(input, &sheet[..long], &block[..wide], out)
+}
+
+// The length of the record at the front of the input.
+fn record_length(input: &[u8]) -> usize
+    requires { ⌜ 21 ≤ length (now input) ⌝ }
+    ensures { λ r. ⌜ 21 ≤ r ⌝ }
+{
+    21 + u32_at(input, 0) as usize + u32_at(input, 4) as usize
+}
+
+// ---- counts: 0 to 11 are those of the numbers, 12 that of the answers that differ, 13 the first of these, counted from 1
+
+// One more of a kind.
+fn bump(counts: &mut [usize; 14], kind: usize) {
+    if 14 <= kind {
+        return;
+    }
+    if counts[kind] < 4294967295 {
+        counts[kind] += 1;
+    }
+}
+
+// Keeps the first answer that differs.
+fn note_first(counts: &mut [usize; 14], record: usize) {
+    if counts[13] == 0 {
+        counts[13] = record;
+    }
+}
+
+// Counts an answer by its number, and one that differs.
+fn count(counts: &mut [usize; 14], number: u8, agree: bool, record: usize) {
+    bump(counts, number as usize);
+    if agree {
+        return;
+    }
+    bump(counts, 12);
+    note_first(counts, record);
+}
+
+// The line of a number that was met, with its count.
+fn write_count(number: usize, count: usize) {
+    if count == 0 {
+        return;
+    }
+    print_decimal(STDOUT_FILENO, number as u64);
+    write_all(STDOUT_FILENO, b" ");
+    print_decimal(STDOUT_FILENO, count as u64);
+    write_all(STDOUT_FILENO, b"\n");
+}
+
+// How many answers differ, and the first that does.
+fn write_differ(n: usize, first: usize) {
+    write_all(STDOUT_FILENO, b"differ ");
+    print_decimal(STDOUT_FILENO, n as u64);
+    write_all(STDOUT_FILENO, b", first ");
+    print_decimal(STDOUT_FILENO, first as u64);
+    write_all(STDOUT_FILENO, b"\n");
+}
+
+// A line for each number that was met, and one for the answers that differ.
+fn write_counts(counts: &[usize; 14]) {
+    let mut i = 0;
+    while i < 12 {
+        write_count(i, counts[i]);
+        i += 1;
+    }
+    write_differ(counts[12], counts[13]);
+}
+
+// ---- the list
 
 // Two bytes more than the longest sheet has.
 fn space() -> [u8; 1048578]
