@@ -12,17 +12,17 @@ use Rattle.layout.specs.Lists.{each}
 use Rattle.layout.specs.Numbers.{u16At}
 use Rattle.layout.specs.Answers as answers
 use Rattle.layout.specs.Tree.{GotoFrame2, GetUrl, GetUrl2, WaitForFrame, DefineFunction, DefineFunction2, FunctionParamOf, functionParam, CatchTargetOf, Variable, Register}
-use Rattle.layout.specs.Read.{Text, edition1, Place, ahead, Read, got, bad, Reader, chain, ifWhole, ifWithin, tested, repeat, readU8, readU16, readBytes, readFlag, readString, readParam, readCounted, isShape, hasCatch, hasRegister, readCatchTarget}
+use Rattle.layout.specs.Read.{Text, edition1, Place, placed, ahead, Read, got, bad, Reader, chain, ifWhole, ifWithin, tested, repeat, readU8, readU16, readBytes, readFlag, readString, readParam, readCounted, isShape, hasCatch, hasRegister, readCatchTarget}
 use Rattle.layout.specs.Strings.{mapFlat, mapOwner, mapParam}
 use Rattle.layout.specs.Lengths.{total, payloadLength, ownerLength, stringLength, paramLength, gotoFrame2Length}
 use Rattle.layout.specs.Pack.{spelling}
 use Rattle.laws.specs.ReadFits.{good-got, flag-good}
-use Rattle.labels.specs.declared.BytePosition.{BytePosition}
-use Rattle.operands.specs.declared.Fault.{Fault}
-use Rattle.operands.specs.declared.Fault.the-variants as fault
-use Rattle.operands.specs.declared.Scan.{Scan}
-use Rattle.operands.specs.declared.Scan.the-variants as scan
-use Rattle.operands.specs.Scanned.{placed, faultOf, scanned, Roomy}
+use Rattle.positions.specs.declared.BytePosition.{BytePosition}
+use Rattle.positions.specs.declared.Fault.{Fault}
+use Rattle.positions.specs.declared.Fault.the-variants as fault
+use Rattle.positions.specs.declared.Scan.{Scan}
+use Rattle.positions.specs.declared.Scan.the-variants as scan
+use Rattle.positions.specs.Scanned.{faultOf, scanned, Roomy}
 use Rattle.operands.specs.Operands.{stringSize}
 use Rattle.lists.specs.Elements.{readNamed, namedSize}
 use Rattle.operands.proofs.Scans.{ends-is, stops-is, ends, stops, scanned-as, number-as}

@@ -1,16 +1,17 @@
 // The fields of an opcode, as far as its bodies: read, checked and measured.
 // `pos` is the position in the block that writing would have reached after the header.
 ghost use mathlib.Core.Path.{_≡_};
-ghost use Rattle.operands.specs.Scanned.{placed, scanned, Roomy};
+ghost use Rattle.layout.specs.Read.{placed};
+ghost use Rattle.positions.specs.Scanned.{scanned, Roomy};
 ghost use Rattle.action_fields.specs.Fields.{readWaitForFrame, readGotoFrame2, readGetUrl2, readGetUrl, flatSize, readFunction, readRegisters, readFunction2, ownerSize, readCaught, caughtSize};
 use fields::u16_at;
-use labels::BytePosition;
 use lists::scan_strings;
-use operands::Fault;
-use operands::Scan;
 use operands::scan_bytes;
 use operands::scan_flag;
 use operands::scan_string;
+use positions::BytePosition;
+use positions::Fault;
+use positions::Scan;
 
 // ---- payloads without a body
 

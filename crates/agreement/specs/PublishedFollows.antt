@@ -16,13 +16,13 @@ use Rattle.layout.specs.OpCode.{OpCode, SmallOpCode, smallByte, byte, smallOpCo
 use Rattle.layout.specs.Answers.{Refusal, JumpOffsetOverflow, Done}
 use Rattle.layout.specs.Tree.{PushValue, String, Null, Undefined, Register, Boolean, Float, Integer, Constant, FunctionParam, functionParam, Flat, Small, GotoFrame, GetUrl, StoreRegister, ConstantPool, WaitForFrame, SetTarget, GotoLabel, WaitForFrame2, Push, GetUrl2, GotoFrame2, Owner, With, DefineFunction, DefineFunction2, Branch, Jump, If, Variable, ActionIndex, firstAction, nextAction, Entry, entry, Action, flat, branch, owner, Try, ActionList, empty, more, Actions, body, Catch, noCatch, catch, Finally, noFinally, finally}
 use Rattle.layout.specs.Payload.{zeroEnded, stringsBytes, constantBytes, doubleBytes, pushBytes, pushesBytes, opcode, gotoFrame2Bytes, getUrl2Bits, payload, paramsBytes, ownerOpCode, ownerFields, ownerPayload, branchOpCode, catchShape, finallyShape, catchName, tryPayload, framed}
-use Rattle.layout.specs.Write.{size, bodySize, catchSize, finallySize, Position, Event, labelAt, branchAt, payloadTooLong, bodyTooLong, moved, eventIf, payloadTest, bodyTest, labelsAt, trace, traces, traceBody, traceCatch, traceFinally, events, later, recordIf, lookup, distanceBits, branchBits, bytes, actionsBytes, bodyBytes, catchBytes, finallyBytes, blockBytes}
+use Rattle.layout.specs.Write.{size, bodySize, catchSize, finallySize, Position, position, Event, labelAt, branchAt, payloadTooLong, bodyTooLong, moved, eventIf, payloadTest, bodyTest, labelsAt, trace, traces, traceBody, traceCatch, traceFinally, events, later, recordIf, lookup, distanceBits, branchBits, bytes, actionsBytes, bodyBytes, catchBytes, finallyBytes, blockBytes}
 use Rattle.layout.specs.Judge.{distance, isNear, farUnless, judged, orElse, tooFar}
 use Rattle.layout.specs.Pack.{pack, ReadsAs}
 use Rattle.layout.specs.Lengths.{length-le16, length-tryPayload, framed-long, framed-short, length-framed, owner-long, length-bytes, length-body, length-catch, length-finally}
 use Rattle.laws.specs.Fits.{Bytes, Clean, ValueFits, ParamFits, Listed, FlatFits, OwnerFits, NameFits, Fits, ActionsFit, BodyFits, CatchFits, FinallyFits}
 use Rattle.laws.specs.Packed.{Written, is-written, tree-fits}
-use Rattle.laws.specs.Demands.{near-both}
+use Rattle.laws.specs.Nears.{near-both, near-of, bits-small, NoneFar, near-left, near-right, branch-near}
 use Rattle.agreement.specs.Published.{Order, asPublished, asWritten, ui8, UI16, ui16, UI32, ui32, SI16, positive, negative, DOUBLE, littleEndian, highWordFirst, NonZero, STRING, string, bitOf, BITS, eightBits, Each, nil, cons, codeAlone, codeAndLength, Fields, header-and-fields, Simple, simple, simples, Member, here, there, PushData, PushString, PushNull, PushUndefined, PushRegister, PushBoolean, PushDouble, PushInteger, PushConstant8, PushConstant16, GetURL2Flags, fromMost, fromLeast, FlatRecord, ActionSimple, ActionGotoFrame, ActionGetURL, ActionStoreRegister, ActionConstantPool, ActionWaitForFrame, ActionSetTarget, ActionGoToLabel, ActionWaitForFrame2, ActionPush, ActionGetURL2, ActionGotoFrame2, ActionGotoFrame2Bias, Lands, reaches, unlabelled, REGISTERPARAM, registerParam, FunctionFlags, functionFlags, OwnerFields, ActionWith, ActionDefineFunction, ActionDefineFunction2, CatchFields, NoCatch, CatchName, CatchRegister, FinallyFlag, NoFinally, FinallyBlock, Places, placed, labelsHere, ActionRecord, ActionFlat, ActionJump, ActionIf, ActionBlock, ActionTry, ActionRecords, end, next, BodyRecords, code, CatchRecords, noCatchBody, CatchBody, FinallyRecords, noFinallyBody, FinallyBody, placeIf, lastPlace, Block, actionStarts, actionsStarts, bodyStarts, catchStarts, finallyStarts, ValueUndisputed, FlatUndisputed, Undisputed, ActionsUndisputed, BodyUndisputed, CatchUndisputed, FinallyUndisputed}
 
 -- ---- the definitions' numbers, strings and bits are of the published types
@@ -404,48 +404,12 @@ last-is (branchAt k s ∷ es) l = last-is es l
 last-is (payloadTooLong n s ∷ es) l = last-is es l
 last-is (bodyTooLong n s ∷ es) l = last-is es l
 
-near-of : (s : Position) (p : ℕ) → judged (some s) p ≡ none → isNear (s .at) p ≡ true
-unfolding judged distance
-near-of s p h = go (isNear (s .at) p) h
-  where
-    go : (t : Bool) → farUnless t (subℕ (s .at) p) ≡ none → t ≡ true
-    go true k = refl
-    go false k = absurd (Option·none-ne-some (JumpOffsetOverflow (subℕ (s .at) p)) (sym (unfold farUnless in k)))
-
 branch-offset : (o : Option Position) (q : ℕ) → judged o q ≡ none → (bs : List ℕ) → UI16 (distanceBits o q) bs → (z : ℤ) × SI16 z bs × Lands (atOf o) q z
 unfolding distanceBits atOf
 branch-offset none q h bs u = (pos 0, positive u (omega arith), unlabelled)
 branch-offset (some s) q h bs u =
     let n : (s .at ≤ q + 32767) × (q ≤ s .at + 32768) = near-both (s .at) q (near-of s q h) in
     near-lands (s .at) q (n .0) (n .1) (ltb (s .at) q) refl bs u
-
-distance-under : (o : Option Position) (p : ℕ) → distanceBits o p < 65536
-unfolding distanceBits
-distance-under none p = omega arith
-distance-under (some s) p = omega arith
-
-orElse-none : (a b : Option Refusal) → orElse a b ≡ none → (a ≡ none) × (b ≡ none)
-unfolding orElse
-orElse-none none b h = (refl, h)
-orElse-none (some r) b h = absurd (Option·none-ne-some r (sym h))
-
-orElse-assoc : (a b c : Option Refusal) → orElse (orElse a b) c ≡ orElse a (orElse b c)
-unfolding orElse
-orElse-assoc none b c = refl
-orElse-assoc (some r) b c = refl
-
-far-append : (all xs ys : List Event) → tooFar all (xs ++ ys) ≡ orElse (tooFar all xs) (tooFar all ys)
-unfolding tooFar
-far-append all [] ys = unfold orElse in refl
-far-append all (labelAt l s ∷ xs) ys = far-append all xs ys
-far-append all (branchAt l s ∷ xs) ys =
-    ap (orElse (judged (lookup l all) (s .at + 2))) (far-append all xs ys)
-    ∙ sym (orElse-assoc (judged (lookup l all) (s .at + 2)) (tooFar all xs) (tooFar all ys))
-far-append all (payloadTooLong n s ∷ xs) ys = far-append all xs ys
-far-append all (bodyTooLong n s ∷ xs) ys = far-append all xs ys
-
-abbrev position : ℕ → Position
-position p = record { at = p }
 
 is-shape : (c : Catch) (f : Finally) → NameFits c
     → (x : Bool) × (y : Bool) × (z : Bool) × BITS false false false false false x y z ((catchShape c + finallyShape f) ∷ []) × CatchFields c x z (catchName c) × FinallyFlag f y
@@ -466,28 +430,19 @@ module _ (all : List Event) where
   abbrev final : ℕ → Option ℕ
   final = lastPlace (placesOf all)
 
-  Near : List Event → Type 0
-  Near es = tooFar all es ≡ none
-
-  near-left : (xs ys : List Event) → Near (xs ++ ys) → Near xs
-  unfolding Near
-  near-left xs ys h = (orElse-none (tooFar all xs) (tooFar all ys) (sym (far-append all xs ys) ∙ h)) .0
-
-  near-right : (xs ys : List Event) → Near (xs ++ ys) → Near ys
-  unfolding Near
-  near-right xs ys h = (orElse-none (tooFar all xs) (tooFar all ys) (sym (far-append all xs ys) ∙ h)) .1
+  abbrev record-of : ℕ → Option Position
+  record-of l = lookup l all
 
   -- a near branch's bits are its offset
-  offset-is : (l p : ℕ) → Near (branchAt l (position (p + 3)) ∷ []) → (z : ℤ) × SI16 z (le16 (offsetBits l (p + 5))) × Lands (final l) (p + 5) z
-  unfolding Near tooFar
+  offset-is : (l p : ℕ) → NoneFar record-of (branchAt l (position (p + 3)) ∷ []) → (z : ℤ) × SI16 z (le16 (offsetBits l (p + 5))) × Lands (final l) (p + 5) z
+  unfolding moved
   offset-is l p h =
-      let e : p + 3 + 2 ≡ p + 5 = omega arith in
-      let j : judged (lookup l all) (p + 5) ≡ none = rw e at ((orElse-none (judged (lookup l all) (p + 3 + 2)) none h) .0) in
+      let j : judged (lookup l all) (p + 5) ≡ none = branch-near record-of l (position p) h in
       let (z, s, d) = branch-offset (lookup l all) (p + 5) j (le16 (offsetBits l (p + 5)))
-      (is-ui16 (offsetBits l (p + 5)) (distance-under (lookup l all) (p + 5))) in
+      (is-ui16 (offsetBits l (p + 5)) (bits-small (lookup l all) (p + 5))) in
       (z, s, subst (λ (o : Option ℕ). Lands o (p + 5) z) (sym (last-is all l)) d)
 
-  is-branch : (k : Branch) (l p : ℕ) → Near (branchAt l (position (p + 3)) ∷ [])
+  is-branch : (k : Branch) (l p : ℕ) → NoneFar record-of (branchAt l (position (p + 3)) ∷ [])
       → ActionRecord asWritten final p (branch k l) (framed (branchOpCode k) (le16 (offsetBits l (p + 5)))) []
   unfolding branchOpCode byte
   is-branch Jump l p h =
@@ -568,7 +523,7 @@ module _ (all : List Event) where
     unfolding trace bytes moved tryPayload placesOf
 
     -- what is written follows the layouts, and meets the labels that the definitions record
-    is-action : (a : Action) (p : ℕ) → Fits a → Near (trace a (position p))
+    is-action : (a : Action) (p : ℕ) → Fits a → NoneFar record-of (trace a (position p))
         → ActionRecord asWritten final p a (bytes offsetBits a p) (placesOf (trace a (position p)))
     is-action (flat f) p h r =
         subst (λ (ls : Places). ActionRecord asWritten final p (flat f) (framed (opcode f) (payload f)) ls)
@@ -579,7 +534,7 @@ module _ (all : List Event) where
         let x : List Event = payloadTest (length (ownerFields d) + 2) (position p) in
         let y : List Event = traceBody b (position n) in
         let z : List Event = bodyTest (bodySize b) (position p) in
-        let g : Near y = near-left y z (near-right x (y ++ z) r) in
+        let g : NoneFar record-of y = near-left record-of y z (near-right record-of x (y ++ z) r) in
         subst (λ (ls : Places). ActionRecord asWritten final p (owner d b) (framed (ownerOpCode d) (ownerPayload d (bodySize b)) ++ bodyBytes offsetBits b n) ls)
         (owned-places (length (ownerFields d) + 2) (bodySize b) (position p) y)
         (is-owned d b p (bodySize b) (h .0) (h .1) (h .2) (length-body offsetBits b n) (is-body b n (h .3) g))
@@ -592,12 +547,12 @@ module _ (all : List Event) where
         let x₂ : List Event = traceCatch c (position n₁) in
         let x₃ : List Event = traceFinally f (position n₂) in
         let x₄ : List Event = bodyTest (bodySize b) (position p) ++ (bodyTest (catchSize c) (position p) ++ bodyTest (finallySize f) (position p)) in
-        let r₁ : Near (x₁ ++ (x₂ ++ (x₃ ++ x₄))) = near-right x₀ (x₁ ++ (x₂ ++ (x₃ ++ x₄))) r in
-        let r₂ : Near (x₂ ++ (x₃ ++ x₄)) = near-right x₁ (x₂ ++ (x₃ ++ x₄)) r₁ in
-        let r₃ : Near (x₃ ++ x₄) = near-right x₂ (x₃ ++ x₄) r₂ in
-        let t₁ : BodyRecords asWritten final n b (bodyBytes offsetBits b n) (placesOf x₁) = is-body b n (h .5) (near-left x₁ (x₂ ++ (x₃ ++ x₄)) r₁) in
-        let t₂ : CatchRecords asWritten final n₁ c (catchBytes offsetBits c n₁) (placesOf x₂) = is-catch c n₁ (h .6) (near-left x₂ (x₃ ++ x₄) r₂) in
-        let t₃ : FinallyRecords asWritten final n₂ f (finallyBytes offsetBits f n₂) (placesOf x₃) = is-finally f n₂ (h .7) (near-left x₃ x₄ r₃) in
+        let r₁ : NoneFar record-of (x₁ ++ (x₂ ++ (x₃ ++ x₄))) = near-right record-of x₀ (x₁ ++ (x₂ ++ (x₃ ++ x₄))) r in
+        let r₂ : NoneFar record-of (x₂ ++ (x₃ ++ x₄)) = near-right record-of x₁ (x₂ ++ (x₃ ++ x₄)) r₁ in
+        let r₃ : NoneFar record-of (x₃ ++ x₄) = near-right record-of x₂ (x₃ ++ x₄) r₂ in
+        let t₁ : BodyRecords asWritten final n b (bodyBytes offsetBits b n) (placesOf x₁) = is-body b n (h .5) (near-left record-of x₁ (x₂ ++ (x₃ ++ x₄)) r₁) in
+        let t₂ : CatchRecords asWritten final n₁ c (catchBytes offsetBits c n₁) (placesOf x₂) = is-catch c n₁ (h .6) (near-left record-of x₂ (x₃ ++ x₄) r₂) in
+        let t₃ : FinallyRecords asWritten final n₂ f (finallyBytes offsetBits f n₂) (placesOf x₃) = is-finally f n₂ (h .7) (near-left record-of x₃ x₄ r₃) in
         subst (λ (ls : Places). ActionRecord asWritten final p (Try b c f)
         (framed OpCode.Try (tryPayload (catchShape c + finallyShape f) (bodySize b) (catchSize c) (finallySize f) (catchName c))
         ++ (bodyBytes offsetBits b n ++ (catchBytes offsetBits c n₁ ++ finallyBytes offsetBits f n₂))) ls)
@@ -605,7 +560,7 @@ module _ (all : List Event) where
         (is-try b c f p (bodySize b) (catchSize c) (finallySize f) (h .0) (h .1) (h .2) (h .3) (h .4)
         (length-body offsetBits b n) (length-catch offsetBits c n₁) (length-finally offsetBits f n₂) t₁ t₂ t₃)
 
-    is-actions : (xs : ActionList) (es : List Entry) (i : ActionIndex) (p : ℕ) → ActionsFit xs → Near (traces xs es i (position p))
+    is-actions : (xs : ActionList) (es : List Entry) (i : ActionIndex) (p : ℕ) → ActionsFit xs → NoneFar record-of (traces xs es i (position p))
         → ActionRecords asWritten final p xs es i (actionsBytes offsetBits xs p) (placesOf (traces xs es i (position p)))
     is-actions empty es i p h r = end (places-labels es i (position p))
     is-actions (more a xs) es i p h r =
@@ -613,30 +568,30 @@ module _ (all : List Event) where
         let x : List Event = labelsAt es i (position p) in
         let y : List Event = trace a (position p) in
         let z : List Event = traces xs es (nextAction i) (position n) in
-        let g : Near (y ++ z) = near-right x (y ++ z) r in
+        let g : NoneFar record-of (y ++ z) = near-right record-of x (y ++ z) r in
         let e : n ≡ p + length (bytes offsetBits a p) = ap (λ (m : ℕ). p + m) (sym (length-bytes offsetBits a p)) in
-        next (is-action a p (h .0) (near-left y z g))
+        next (is-action a p (h .0) (near-left record-of y z g))
         (subst (λ (m : ℕ). ActionRecords asWritten final m xs es (nextAction i) (actionsBytes offsetBits xs n) (placesOf z)) e
-        (is-actions xs es (nextAction i) n (h .1) (near-right y z g))) refl
+        (is-actions xs es (nextAction i) n (h .1) (near-right record-of y z g))) refl
         (places-append x (y ++ z) ∙ ap₂ (λ (u v : Places). u ++ v) (places-labels es i (position p)) (places-append y z))
 
-    is-body : (b : Actions) (p : ℕ) → BodyFits b → Near (traceBody b (position p))
+    is-body : (b : Actions) (p : ℕ) → BodyFits b → NoneFar record-of (traceBody b (position p))
         → BodyRecords asWritten final p b (bodyBytes offsetBits b p) (placesOf (traceBody b (position p)))
     is-body (body es xs) p h r = code (is-actions xs es firstAction p h r)
 
-    is-catch : (c : Catch) (p : ℕ) → CatchFits c → Near (traceCatch c (position p))
+    is-catch : (c : Catch) (p : ℕ) → CatchFits c → NoneFar record-of (traceCatch c (position p))
         → CatchRecords asWritten final p c (catchBytes offsetBits c p) (placesOf (traceCatch c (position p)))
     is-catch noCatch p h r = noCatchBody
     is-catch (catch t b) p h r = CatchBody (is-body b p h r)
 
-    is-finally : (f : Finally) (p : ℕ) → FinallyFits f → Near (traceFinally f (position p))
+    is-finally : (f : Finally) (p : ℕ) → FinallyFits f → NoneFar record-of (traceFinally f (position p))
         → FinallyRecords asWritten final p f (finallyBytes offsetBits f p) (placesOf (traceFinally f (position p)))
     is-finally noFinally p h r = noFinallyBody
     is-finally (finally b) p h r = FinallyBody (is-body b p h r)
 
 -- a tree whose lengths fit, and in which nothing is too far
 tree-follows : (t : Actions) → BodyFits t → tooFar (events t) (events t) ≡ none → Block asWritten t (blockBytes t)
-unfolding blockBytes branchBits events Near
+unfolding blockBytes branchBits events
 tree-follows t h n =
     record {
       actions = bodyBytes (branchBits t) t 0;

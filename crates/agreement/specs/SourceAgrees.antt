@@ -14,8 +14,8 @@ use Rattle.layout.specs.OpCode.{OpCode, SmallOpCode, smallByte, byte}
 use Rattle.layout.specs.Answers.{Fault, CutShort, UnknownCode, BadField, TooDeep, LeftOver, Refusal, SheetTooLong, BadTrailer, ReadingFault, ActionLenOverflow, BlockLenOverflow, JumpOffsetOverflow, NoRoom, InputFull, Unclean, Answer, Done, Refused, faultNumber, refusalNumber, refusalValue}
 use Rattle.layout.specs.Tree.{Actions}
 use Rattle.layout.specs.Payload.{headed, framed}
-use Rattle.layout.specs.Write.{Position, Event, labelAt, branchAt, payloadTooLong, bodyTooLong, traceBody, events, lookup, branchBits, bodyBytes, blockBytes, blockSize}
-use Rattle.layout.specs.Judge.{tooLong, distance, isNear, farUnless, judged, orElse, tooFar, judge}
+use Rattle.layout.specs.Write.{Position, position, Event, labelAt, branchAt, payloadTooLong, bodyTooLong, traceBody, events, lookup, branchBits, bodyBytes, blockBytes, blockSize}
+use Rattle.layout.specs.Judge.{tooLong, distance, isNear, farUnless, judged, orElse, farBy, tooFar, judge}
 use Rattle.layout.specs.Pack.{unless, ifRoom, packTree, pack, ReadsAs}
 use Rattle.layout.specs.Order.{tree-next}
 use Rattle.layout.specs.Lengths.{length-block}
@@ -23,7 +23,7 @@ use Rattle.laws.specs.Fits.{Bytes, WellBody}
 use Rattle.laws.specs.Packed.{tree-good}
 use Rattle.agreement.specs.Source.{PendingLabelWrite, ActionEncoder, EncoderError, JumpOffsetOverflow, ActionLenOverflow, BlockLenOverflow, Result, ok, err, panicked, after, for-each, new, patch-label, patch-labels, write-small-action, write-actions, encoding, encode}
 use Rattle.agreement.specs.SourceSteps.{firstOverflow, pendingOf, recorded, firstOf, resultOf, encoder}
-use Rattle.agreement.specs.SourceWrites.{after-by, perform-is, does-small, blank, position, does-body}
+use Rattle.agreement.specs.SourceWrites.{after-by, perform-is, does-small, blank, does-body}
 use Rattle.agreement.specs.SourcePatches.{farIf, farBranch, orErr, bits, firstFar, Turns, turns-as, turns-body}
 
 -- ---- what agreement is
@@ -97,7 +97,7 @@ judged-is (some s) p = go (isNear (s .at) p)
 
 -- and so for what is too far
 far-is : (all es : List Event) → tooFar all es ≡ refusalsOf (firstFar all es)
-unfolding tooFar firstFar
+unfolding farBy firstFar
 far-is all [] = unfold refusalsOf in refl
 far-is all (labelAt l s ∷ es) = far-is all es
 far-is all (branchAt l s ∷ es) =

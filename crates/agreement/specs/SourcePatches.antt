@@ -14,13 +14,14 @@ use Rattle.layout.specs.Numbers.{le16}
 use Rattle.layout.specs.OpCode.{OpCode, byte}
 use Rattle.layout.specs.Tree.{Owner, Branch, ActionIndex, firstAction, nextAction, Entry, entry, Action, flat, branch, owner, Try, ActionList, empty, more, Actions, body, Catch, noCatch, catch, Finally, noFinally, finally}
 use Rattle.layout.specs.Payload.{opcode, payload, ownerOpCode, ownerFields, ownerPayload, branchOpCode, catchShape, finallyShape, catchName, tryPayload, framed}
-use Rattle.layout.specs.Write.{size, bodySize, catchSize, finallySize, Position, Event, labelAt, branchAt, payloadTooLong, bodyTooLong, moved, eventIf, payloadTest, bodyTest, labelsAt, trace, traces, traceBody, traceCatch, traceFinally, later, recordIf, lookup, distanceBits, bytes, actionsBytes, bodyBytes, catchBytes, finallyBytes}
+use Rattle.layout.specs.Write.{size, bodySize, catchSize, finallySize, Position, position, Event, labelAt, branchAt, payloadTooLong, bodyTooLong, moved, eventIf, payloadTest, bodyTest, labelsAt, trace, traces, traceBody, traceCatch, traceFinally, later, recordIf, lookup, distanceBits, bytes, actionsBytes, bodyBytes, catchBytes, finallyBytes}
 use Rattle.layout.specs.Judge.{isNear}
 use Rattle.layout.specs.Lengths.{length-ownerFields, length-ownerPayload, length-tryPayload, framed-long, length-framed, branch-long, owner-long, try-long, length-bytes, length-body, length-catch}
-use Rattle.laws.specs.Demands.{sub-up, sub-down, near-both}
+use Rattle.laws.specs.Demands.{sub-up, sub-down}
+use Rattle.laws.specs.Nears.{near-both}
 use Rattle.agreement.specs.Source.{PendingLabelWrite, Map, ActionEncoder, EncoderError, JumpOffsetOverflow, Result, ok, err, Writing, after, for-each, gotten, get, insert, two-le-bytes, fits-i16, bits-i16, offset-to, patch-offset, patch-position, patch-label}
 use Rattle.agreement.specs.SourceSteps.{pendingOf, recorded, firstOf, encoder, pending-append}
-use Rattle.agreement.specs.SourceWrites.{copy-at, blank, position}
+use Rattle.agreement.specs.SourceWrites.{copy-at, blank}
 
 -- ---- the table of labels
 

@@ -14,7 +14,7 @@ use Rattle.layout.specs.Numbers.{le16, le32, bit}
 use Rattle.layout.specs.OpCode.{OpCode, SmallOpCode, byte}
 use Rattle.layout.specs.Tree.{PushValue, String, Null, Undefined, Register, Boolean, Float, Integer, Constant, FunctionParam, functionParam, Flat, Small, GotoFrame, GetUrl, StoreRegister, ConstantPool, WaitForFrame, SetTarget, GotoLabel, WaitForFrame2, Push, GetUrl2, GotoFrame2, Owner, With, DefineFunction, DefineFunction2, Branch, Jump, If, Variable, ActionIndex, firstAction, nextAction, Entry, Action, flat, branch, owner, Try, ActionList, empty, more, Actions, body, Catch, noCatch, catch, Finally, noFinally, finally}
 use Rattle.layout.specs.Payload.{zeroEnded, stringsBytes, constantBytes, doubleBytes, pushBytes, pushesBytes, opcode, gotoFrame2Bytes, getUrl2Bits, payload, paramsBytes, ownerOpCode, ownerFields, ownerPayload, branchOpCode, catchShape, finallyShape, catchName, tryPayload, headed, framed}
-use Rattle.layout.specs.Write.{size, bodySize, catchSize, finallySize, Position, Event, branchAt, bodyTooLong, moved, eventIf, payloadTest, bodyTest, labelsAt, trace, traces, traceBody, traceCatch, traceFinally, bytes, actionsBytes, bodyBytes, catchBytes, finallyBytes}
+use Rattle.layout.specs.Write.{size, bodySize, catchSize, finallySize, Position, position, Event, branchAt, bodyTooLong, moved, eventIf, payloadTest, bodyTest, labelsAt, trace, traces, traceBody, traceCatch, traceFinally, bytes, actionsBytes, bodyBytes, catchBytes, finallyBytes}
 use Rattle.layout.specs.Lengths.{length-le16, length-zeroEnded, length-tryPayload, framed-long, try-long, framed-short, length-bytes, length-body, length-catch, length-finally}
 use Rattle.laws.specs.Fits.{OwnerFits, Well, WellActions, WellBody, WellCatch, WellFinally}
 use Rattle.agreement.specs.Source.{PendingLabelWrite, Map, ActionEncoder, EncoderError, Result, ok, err, panicked, Writing, after, _>>_, _>>=_, output-len, for-each, fold, if-else, assert, get, put, write-u8, two-le-bytes, write-u16, write-i16, write-i32, write-u64, write-string, copied, copy-from-slice, rotate-left-32, write-f64-me, insert-labels, labels-per-pos, write-action-header, write-small-action, write-goto-frame, write-goto-frame-2, write-goto-label, write-constant-pool, write-block-length, write-block-length-at, flag-bit, function-flags, write-param, param-name, is-some-catch, is-register, is-some-finally, try-flags, target-len, write-target, push-label-write, write-if, write-jump, value-len, write-constant, write-push-value, write-push, write-set-target, write-store-register, write-get-url, write-get-url-2, write-wait-for-frame, write-wait-for-frame-2, write-flat, write-define-function, write-define-function-2, write-with, patch-sizes, write-try, count, write-labelled, write-actions, write-each, write-action, write-catch, write-finally}
@@ -616,16 +616,16 @@ abbrev pub blank : ℕ → ℕ → ℕ
 blank l p = 0
 
 -- a branch waits where its operand stands
-does-operand : (l p : ℕ) → Does (push-label-write l) p (branchAt l (record { at = p }) ∷ []) []
+does-operand : (l p : ℕ) → Does (push-label-write l) p (branchAt l (position p) ∷ []) []
 unfolding push-label-write perform resultOf firstOverflow pendingOf recorded
 does-operand l p = record { does = λ e h. rw (h, append-nil (e .output)) }
 
 -- write_jump and write_if
 does-branch : (k : Branch) (l p : ℕ)
-    → Does (write-action (branch k l)) p (branchAt l (record { at = p + 3 }) ∷ []) (framed (branchOpCode k) (le16 0))
+    → Does (write-action (branch k l)) p (branchAt l (position (p + 3)) ∷ []) (framed (branchOpCode k) (le16 0))
 unfolding write-action write-jump write-if branchOpCode byte framed headed le16 payloadTest eventIf
-does-branch Jump l p = does-then (does-header OpCode.Jump 2 p (record { at = 0 }) refl) (does-then (does-operand l (p + 3)) (does-i16 0 (p + 3 + 0)))
-does-branch If l p = does-then (does-header OpCode.If 2 p (record { at = 0 }) refl) (does-then (does-operand l (p + 3)) (does-i16 0 (p + 3 + 0)))
+does-branch Jump l p = does-then (does-header OpCode.Jump 2 p (position 0) refl) (does-then (does-operand l (p + 3)) (does-i16 0 (p + 3 + 0)))
+does-branch If l p = does-then (does-header OpCode.If 2 p (position 0) refl) (does-then (does-operand l (p + 3)) (does-i16 0 (p + 3 + 0)))
 
 -- ---- Try
 
@@ -699,9 +699,6 @@ unfolding after
 after-assoc (ok e) k l = refl
 after-assoc (err x) k l = refl
 after-assoc panicked k l = refl
-
-abbrev pub position : ℕ → Position
-position p = record { at = p }
 
 -- the labels of an action's index are recorded before it
 does-labelled : {w : Writing} {xs : List Event} {q : List ℕ} (es : List Entry) (i : ActionIndex) (p : ℕ) → Does w p xs q

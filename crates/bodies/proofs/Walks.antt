@@ -16,7 +16,7 @@ use Rattle.layout.specs.Answers.{CutShort, UnknownCode, TooDeep}
 use Rattle.layout.specs.Answers as answers
 use Rattle.layout.specs.OpCode.{OpCode, SmallOpCode, byte, smallByte, opcodeOf, opcodes}
 use Rattle.layout.specs.Tree.{Entry, entry, ActionIndex, ActionOf, ActionListOf, ActionsOf, flat, Small, empty, more, body}
-use Rattle.layout.specs.Read.{Text, edition1, Place, Read, got, bad, Reader, chain, repeat, readU16, readEntries, readFields, readFieldsIf, readAction, readActions, readBodyWith, readBody}
+use Rattle.layout.specs.Read.{Text, edition1, Place, placed, Read, got, bad, Reader, chain, repeat, readU16, readEntries, readFields, readFieldsIf, readAction, readActions, readBodyWith, readBody}
 use Rattle.layout.specs.Strings.{mapAction, mapActions, mapBody, mapFlat}
 use Rattle.layout.specs.Payload.{opcode, payload, headed, framed}
 use Rattle.layout.specs.Write.{size, sizes, bodySize, Position, moved, Event, eventIf, labelAt, payloadTest, bodyTest, labelsAt, trace, traces, traceBody}
@@ -24,20 +24,21 @@ use Rattle.layout.specs.Lengths.{total}
 use Rattle.layout.specs.Pack.{spelling}
 use Rattle.laws.specs.ReadFits.{good-got, action-good, body-good}
 use Rattle.laws.specs.Packed.{spells}
-use Rattle.labels.specs.Table.{entriesAt, due, Rising, recordAll, index, place}
-use Rattle.labels.specs.declared.BytePosition.{BytePosition}
+use Rattle.labels.specs.Table.{entriesAt, due, Rising, recordAll, indexOf, positionOf}
+use Rattle.positions.specs.declared.BytePosition.{BytePosition}
 use Rattle.opcode.specs.Listed.{listed, isSome}
-use Rattle.operands.specs.declared.Scan.{Scan}
-use Rattle.operands.specs.declared.Scan.the-variants as scan
-use Rattle.operands.specs.declared.Fault.{Fault}
-use Rattle.operands.specs.Scanned.{placed, faultOf, scanned, Roomy}
+use Rattle.positions.specs.declared.Scan.{Scan}
+use Rattle.positions.specs.declared.Scan.the-variants as scan
+use Rattle.positions.specs.declared.Fault.{Fault}
+use Rattle.positions.specs.Scanned.{faultOf, scanned, Roomy}
 use Rattle.operands.proofs.Scans.{stops-is}
 use Rattle.operands.proofs.Reading.{u8-in, u8-out}
-use Rattle.walk.specs.declared.Laid.{Laid}
-use Rattle.walk.specs.declared.Laid.the-variants as laid
-use Rattle.walk.specs.Walk.{State, state, notedIf, firstLong, noteAll, run, Outcome, done, fault, outcome, Ran, ran, stopped, actionSize, actionTrace, bodyLength, bodyEvents, inBodies, bodyTests, bodiesEvents, Laying, flat, to-label, bodies, stops}
-use Rattle.walk.proofs.Longs.{Apt, first-apt, noted-twice}
-use Rattle.walk.proofs.Runs.{outcome-got, run-append, run-none, run-body, noted-short}
+use Rattle.measure.specs.declared.Laid.{Laid}
+use Rattle.measure.specs.declared.Laid.the-variants as laid
+use Rattle.laws.specs.Resolved.{actionSize, actionTrace, bodyLength, bodyEvents}
+use Rattle.measure.specs.Walk.{State, state, notedIf, firstLong, noteAll, run, Outcome, done, fault, outcome, Ran, ran, stopped, inBodies, bodyTests, bodiesEvents, Laying, flat, to-label, bodies, stops}
+use Rattle.measure.proofs.Longs.{Apt, first-apt, noted-twice}
+use Rattle.measure.proofs.Runs.{outcome-got, run-append, run-none, run-body, noted-short}
 use Rattle.front.specs.Front.{Front, readFront, Fronted}
 use Rattle.front.proofs.Fronts.{FrontRead, front-read}
 use Rattle.bodies.specs.Ready.{Ready}

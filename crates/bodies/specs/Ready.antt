@@ -3,8 +3,8 @@ use mathlib.Core.Path.{_≡_}
 use Prim.Native.Nat.{ℕ}
 use mathlib.Core.List.{List}
 use lib.ListN.{length}
-use Rattle.labels.specs.declared.BytePosition.{BytePosition}
-use Rattle.operands.specs.Scanned.{Roomy}
+use Rattle.positions.specs.declared.BytePosition.{BytePosition}
+use Rattle.positions.specs.Scanned.{Roomy}
 
 -- room for every position, a slot for each label, and two numbers for the first overflow
 pub record Ready (b : List ℕ) (at : ℕ) (pos : BytePosition) (tab over : List ℕ) : Type 0 where

@@ -1,25 +1,25 @@
 // The walk of bodies and actions, front to back: it reads and checks (3 to 6), measures, records labels, and notes the first of 8
 // and 9.
 ghost use Prim.Native.Nat.{_+_};
-ghost use Rattle.layout.specs.Read.{edition1, readBody, readAction, repeat};
+ghost use Rattle.layout.specs.Read.{edition1, placed, readBody, readAction, repeat};
 ghost use Rattle.layout.specs.Lengths.{total};
-ghost use Rattle.operands.specs.Scanned.{placed};
-ghost use Rattle.walk.specs.Walk.{state, outcome, Ran, actionSize, actionTrace, bodyLength, bodyEvents, bodiesEvents};
+ghost use Rattle.laws.specs.Resolved.{actionSize, actionTrace, bodyLength, bodyEvents};
+ghost use Rattle.measure.specs.Walk.{state, outcome, Ran, bodiesEvents};
 ghost use Rattle.front.specs.Front.{Fronted};
 ghost use Rattle.bodies.specs.Ready.{Ready};
 use fields::u16_at;
 use front::scan_front;
-use labels::ActionIndex;
-use labels::BytePosition;
 use labels::due_entry;
 use labels::record_labels;
+use measure::Laid;
+use measure::first_long;
+use measure::note_long;
 use opcode::OpCode;
-use operands::Fault;
-use operands::Scan;
 use payload::scan_payload;
-use walk::Laid;
-use walk::first_long;
-use walk::note_long;
+use positions::ActionIndex;
+use positions::BytePosition;
+use positions::Fault;
+use positions::Scan;
 
 // A body; as many as `depth` may stand one in another, itself included.
 pub fn scan_body(

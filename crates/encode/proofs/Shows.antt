@@ -13,19 +13,19 @@ use Rattle.layout.specs.Lists.{each}
 use Rattle.layout.specs.Numbers.{le16, bit}
 use Rattle.layout.specs.OpCode.{byte}
 use Rattle.layout.specs.Tree.{PushValueOf, FunctionParamOf, functionParam, Small, GotoFrame, GetUrl, StoreRegister, ConstantPool, WaitForFrame, SetTarget, GotoLabel, WaitForFrame2, Push, GetUrl2, GotoFrame2, With, DefineFunction, DefineFunction2, Jump, If, CatchTargetOf, Variable, Register, ActionOf, Try, ActionsOf, CatchOf, noCatch, catch, FinallyOf, noFinally, finally}
-use Rattle.layout.specs.Read.{Text, edition1, Place, Read, got, bad, Reader, chain, repeat, hasCatch, hasFinally, hasRegister, isShape, readString, readParam, readCatch, readFinally}
+use Rattle.layout.specs.Read.{Text, edition1, Place, placed, Read, got, bad, Reader, chain, repeat, hasCatch, hasFinally, hasRegister, isShape, readString, readParam, readCatch, readFinally}
 use Rattle.layout.specs.Payload.{zeroEnded, stringsBytes, pushesBytes, opcode, payload, ownerOpCode, paramsBytes, ownerFields, ownerPayload, branchOpCode, catchShape, finallyShape, catchName, tryPayload, headed, framed}
 use Rattle.layout.specs.Strings.{mapValue, mapParam, mapFlat, mapOwner, mapTarget, mapAction, mapCatch, mapFinally}
 use Rattle.layout.specs.Pack.{spelling}
 use Rattle.layout.specs.Judge.{judged}
 use Rattle.laws.specs.ReadFits.{length-each}
-use Rattle.labels.specs.Table.{recordOf}
+use Rattle.labels.specs.Table.{recordAt}
 use Rattle.pcode.specs.declared.CatchTarget.{CatchTarget}
 use Rattle.pcode.specs.declared.CatchTarget.the-variants as target
 use Rattle.pcode.specs.declared.Action.{Action}
 use Rattle.pcode.specs.declared.Action.the-variants as code
-use Rattle.pcode.specs.Shown.{place, after, isText, ShownTarget, nothing, variable, register, Shown, small, gotoFrame, getUrl, storeRegister, constantPool, waitForFrame, setTarget, gotoLabel, waitForFrame2, defineFunction2, try, with, push, jump, getUrl2, defineFunction, if, gotoFrame2}
-use Rattle.encode_values.specs.declared.Ends.{Ends}
+use Rattle.pcode.specs.Shown.{after, isText, ShownTarget, nothing, variable, register, Shown, small, gotoFrame, getUrl, storeRegister, constantPool, waitForFrame, setTarget, gotoLabel, waitForFrame2, defineFunction2, try, with, push, jump, getUrl2, defineFunction, if, gotoFrame2}
+use Rattle.positions.specs.declared.Ends.{Ends}
 use Rattle.encode.specs.Heads.{headBytes, headOf, CatchFrom, FinallyFrom, BodiesFrom, NotFar, Writable, WroteHead}
 use Rattle.encode_values.specs.Pieces.{Piece, piece, action, written, nextOf, spanOf, stringBytes, paramBytes, valueBytes, joined, stringsAt, valuesAt, Room, Put}
 use Rattle.encode_values.specs.Pieces.{flatPiece}
@@ -183,7 +183,7 @@ module _ (b tab : List ℕ) (at pos : ℕ) where
 
   -- a branch to label l has a slot, and does not go too far
   abbrev Reaches : ℕ → Type 0
-  Reaches l = (l < length tab) × (judged (recordOf (getD tab l 0)) (pos + 5) ≡ none)
+  Reaches l = (l < length tab) × (judged (recordAt tab l) (pos + 5) ≡ none)
 
   -- what is asked of a case besides the room
   abbrev Within : Action → Type 0
@@ -232,7 +232,7 @@ module _ (b tab : List ℕ) (at pos : ℕ) where
 
   -- a case is written as the action that it shows, and reads on where that action's bodies stand
   abbrev Heads : Reader (ActionsOf Text ℕ) → Action → ActionOf Text ℕ → Place → Type 0
-  Heads inner a x q = (n : ℕ) × (coded a ≡ got (headOf tab x pos) (place n)) × BodiesFrom inner n x q
+  Heads inner a x q = (n : ℕ) × (coded a ≡ got (headOf tab x pos) (placed n)) × BodiesFrom inner n x q
 
   -- it holds of a case that shows an action
   is-head : {inner : Reader (ActionsOf Text ℕ)} {a : Action} {x : ActionOf Text ℕ} {q : Place} → Shown edition1 b inner (at + 1) a x q → Heads inner a x q
@@ -242,13 +242,13 @@ module _ (b tab : List ℕ) (at pos : ℕ) where
   is-head (getUrl {t = t} (isText h) (isText i)) = (after t, refl, refl)
   is-head storeRegister = (at + 1 + 1, refl, refl)
   is-head (constantPool {n} {i} {xs} {q} e) =
-      (q .at, rw (e, strings-joined xs, length-each spelling xs, count-is (readString edition1 b) n (place i) q xs e), refl)
+      (q .at, rw (e, strings-joined xs, length-each spelling xs, count-is (readString edition1 b) n (placed i) q xs e), refl)
   is-head waitForFrame = (at + 1 + 3, refl, refl)
   is-head (setTarget {s} (isText h)) = (after s, refl, refl)
   is-head (gotoLabel {s} (isText h)) = (after s, refl, refl)
   is-head waitForFrame2 = (at + 1 + 1, refl, refl)
   is-head (defineFunction2 {f} {ps = ps} {r = r} (isText h) e i j g) =
-      (r .at + 3, rw (e, params-joined ps, length-each (mapParam spelling) ps, count-is (readParam edition1 b) (f .count) (place (f .at)) r ps e), g)
+      (r .at + 3, rw (e, params-joined ps, length-each (mapParam spelling) ps, count-is (readParam edition1 b) (f .count) (placed (f .at)) r ps e), g)
   is-head {inner} (try {shape} {i} {t} {c = c} {f = f} {r = r} {s = s} {q = q} h target e g k) =
       let l = catch-shown b inner r s c h target g in
       let m = finally-shown b inner shape s q f k in
@@ -259,7 +259,7 @@ module _ (b tab : List ℕ) (at pos : ℕ) where
   is-head (jump h) = (at + 1 + 2, refl, refl)
   is-head (getUrl2 h i) = (at + 1 + 3, refl, refl)
   is-head (defineFunction {f} {ps = ps} {r = r} (isText h) e g) =
-      (r .at, rw (e, strings-joined ps, length-each spelling ps, count-is (readString edition1 b) (f .count) (place (f .at)) r ps e), g)
+      (r .at, rw (e, strings-joined ps, length-each spelling ps, count-is (readString edition1 b) (f .count) (placed (f .at)) r ps e), g)
   is-head (if h) = (at + 1 + 2, refl, refl)
   is-head (gotoFrame2 h) = (at + 1 + 3, refl, refl)
 

@@ -8,14 +8,14 @@ use lib.Seq.{sets}
 use Rattle.layout.specs.Numbers.{le16}
 use Rattle.layout.specs.OpCode.{OpCode}
 use Rattle.layout.specs.Tree.{Action, ActionOf, ActionsOf, CatchOf, FinallyOf, flat, branch, owner, Try, noCatch, catch, noFinally, finally}
-use Rattle.layout.specs.Read.{Text, edition1, Place, Reader, got}
+use Rattle.layout.specs.Read.{Text, edition1, Place, placed, Reader, got}
 use Rattle.layout.specs.Strings.{mapAction}
 use Rattle.layout.specs.Payload.{opcode, payload, ownerOpCode, ownerPayload, branchOpCode, catchShape, finallyShape, catchName, tryPayload, framed}
 use Rattle.layout.specs.Judge.{judged}
 use Rattle.layout.specs.Pack.{spelling}
 use Rattle.laws.specs.Fits.{Bytes}
-use Rattle.labels.specs.Table.{recordOf}
-use Rattle.pcode.specs.Shown.{Shown, place}
+use Rattle.labels.specs.Table.{recordAt}
+use Rattle.pcode.specs.Shown.{Shown}
 use Rattle.pcode.specs.declared.Action as code
 use Rattle.encode_flat.specs.Branches.{tableBits}
 
@@ -41,15 +41,15 @@ FinallyFrom inner r (finally a) s = inner r ≡ got a s
 
 -- the bodies of an action stand from `next` on, read by `inner` one after the other, and end at q
 abbrev pub BodiesFrom : Reader (ActionsOf Text ℕ) → ℕ → ActionOf Text ℕ → Place → Type 0
-BodiesFrom inner next (flat f) q = q ≡ place next
-BodiesFrom inner next (branch k l) q = q ≡ place next
-BodiesFrom inner next (owner o a) q = inner (place next) ≡ got a q
-BodiesFrom inner next (Try a c f) q = (r : Place) × (s : Place) × (inner (place next) ≡ got a r) × CatchFrom inner r c s × FinallyFrom inner s f q
+BodiesFrom inner next (flat f) q = q ≡ placed next
+BodiesFrom inner next (branch k l) q = q ≡ placed next
+BodiesFrom inner next (owner o a) q = inner (placed next) ≡ got a q
+BodiesFrom inner next (Try a c f) q = (r : Place) × (s : Place) × (inner (placed next) ≡ got a r) × CatchFrom inner r c s × FinallyFrom inner s f q
 
 -- a branch goes to a label without a record, or not too far
 abbrev pub NotFar : List ℕ → ActionOf Text ℕ → ℕ → Type 0
 NotFar tab (flat f) p = Unit {0}
-NotFar tab (branch k l) p = judged (recordOf (getD tab l 0)) (p + 5) ≡ none
+NotFar tab (branch k l) p = judged (recordAt tab l) (p + 5) ≡ none
 NotFar tab (owner o a) p = Unit {0}
 NotFar tab (Try a c f) p = Unit {0}
 

@@ -15,9 +15,9 @@ use encode_strings::write_constant_pool;
 use encode_strings::write_get_url;
 use encode_strings::write_push;
 use encode_strings::write_string_action;
-use encode_values::Ends;
 use opcode::OpCode;
 use pcode::Action;
+use positions::Ends;
 
 // An action's header and payload, without its bodies.
 pub fn write_head(b: &[u8], at: usize, a: Action, pos: usize, tab: &[usize], out: &mut [u8]) -> Ends

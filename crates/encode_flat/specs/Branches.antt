@@ -3,8 +3,8 @@ use Prim.Native.Nat.{ℕ}
 use mathlib.Core.List.{List}
 use lib.ListN.{getD}
 use Rattle.layout.specs.Write.{distanceBits}
-use Rattle.labels.specs.Table.{recordOf}
+use Rattle.labels.specs.Table.{recordAt}
 
 -- the sixteen bits of a branch, by the label table
 unfoldable pub tableBits : List ℕ → ℕ → ℕ → ℕ
-tableBits tab l after = distanceBits (recordOf (getD tab l 0)) after
+tableBits tab l after = distanceBits (recordAt tab l) after

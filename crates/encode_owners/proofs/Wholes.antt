@@ -12,7 +12,7 @@ use Rattle.layout.specs.Payload.{zeroEnded, tryPayload, headed}
 use Rattle.layout.specs.Lengths.{length-le16, length-tryPayload}
 use Rattle.pcode.specs.declared.Function.{Function}
 use Rattle.pcode.specs.Shown.{after}
-use Rattle.encode_values.specs.declared.Ends.{Ends}
+use Rattle.positions.specs.declared.Ends.{Ends}
 use Rattle.encode_values.specs.Pieces.{Piece, piece, action, bytesOf, nextOf, Reads, spanOf, stringsAt, paramsAt, Room, Put}
 use Rattle.encode_values.proofs.Headers.{run-then, before-then, length-action, action-last, list-known, list-space, list-put, list-room}
 use Rattle.encode_values.proofs.Puts.{length-span}

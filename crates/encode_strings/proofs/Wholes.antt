@@ -9,7 +9,7 @@ use lib.Seq.{sets}
 use Rattle.layout.specs.Numbers.{le16}
 use Rattle.layout.specs.Payload.{headed}
 use Rattle.layout.specs.Lengths.{length-le16}
-use Rattle.encode_values.specs.declared.Ends.{Ends}
+use Rattle.positions.specs.declared.Ends.{Ends}
 use Rattle.encode_values.specs.Pieces.{Piece, written, bytesOf, Room, Put}
 use Rattle.encode_values.proofs.Headers.{run-then, list-known, list-space, list-put, list-room}
 

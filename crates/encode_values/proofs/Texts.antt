@@ -7,15 +7,15 @@ use lib.ListN.{length, getD}
 use lib.Seq.{sets}
 use Rattle.layout.specs.Numbers.{u16At}
 use Rattle.layout.specs.Tree.{functionParam}
-use Rattle.layout.specs.Read.{Text, edition1, Read, got, bad, plain, chain, readU8, readString, readParam}
+use Rattle.layout.specs.Read.{Text, edition1, placed, Read, got, bad, plain, chain, readU8, readString, readParam}
 use Rattle.layout.specs.Payload.{zeroEnded}
 use Rattle.layout.specs.Pack.{spelling}
 use Rattle.fields.specs.Runs.{part}
 use Rattle.stores.proofs.Stores.{sets-then}
-use Rattle.pcode.specs.Shown.{place, spanAt, after}
+use Rattle.pcode.specs.Shown.{spanAt, after}
 use Rattle.pcode.proofs.Readings as reading
 use Rattle.pcode.proofs.Readings.{Gives, gives, Exactly, exactly}
-use Rattle.encode_values.specs.declared.Ends.{Ends}
+use Rattle.positions.specs.declared.Ends.{Ends}
 use Rattle.encode_values.specs.Pieces.{Piece, piece, written, bytesOf, nextOf, Reads, stringBytes, paramBytes, stringAt, paramAt, spanOf, Room, Put}
 use Rattle.encode_values.proofs.Puts.{length-span}
 
@@ -23,9 +23,9 @@ module _ (b : List ℕ) (p : ℕ) where
   -- a string that reads is the span at p
   is-span : Reads (stringAt b p) → (after (spanAt b p) ≤ length b) × (stringAt b p ≡ piece (zeroEnded (spanOf b (spanAt b p))) (after (spanAt b p)))
   unfolding stringBytes spelling
-  is-span k = go (readString edition1 b (place p)) (reading.string edition1 b p) k
+  is-span k = go (readString edition1 b (placed p)) (reading.string edition1 b p) k
     where
-      go : (x : Read Text) → Gives (Exactly (after (spanAt b p) ≤ length b) (plain (spanOf b (spanAt b p))) (place (after (spanAt b p)))) x → Reads (written stringBytes x)
+      go : (x : Read Text) → Gives (Exactly (after (spanAt b p) ≤ length b) (plain (spanOf b (spanAt b p))) (placed (after (spanAt b p)))) x → Reads (written stringBytes x)
           → (after (spanAt b p) ≤ length b) × (written stringBytes x ≡ piece (zeroEnded (spanOf b (spanAt b p))) (after (spanAt b p)))
       go (got a q) (gives (exactly h)) k = (h, refl)
       go (bad f q) h k = absurd k
@@ -46,17 +46,17 @@ module _ (b : List ℕ) (p : ℕ) where
   -- a parameter that reads is a byte and the string behind it
   is-param : Reads (paramAt b p) → (p + 1 ≤ length b) × Reads (stringAt b (p + 1)) × (paramAt b p ≡ written (λ t. getD b p 0 ∷ t) (stringAt b (p + 1)))
   unfolding readParam paramBytes stringBytes
-  is-param k = go (readU8 b (place p)) (reading.u8 b p) k
+  is-param k = go (readU8 b (placed p)) (reading.u8 b p) k
     where
       rest : (x : Read Text) → Reads (written paramBytes (chain x (λ s q. got (functionParam (getD b p 0) s) q)))
           → Reads (written stringBytes x) × (written paramBytes (chain x (λ s q. got (functionParam (getD b p 0) s) q)) ≡ written (λ t. getD b p 0 ∷ t) (written stringBytes x))
       rest (got s q) k = (tt, refl)
       rest (bad f q) k = absurd k
 
-      go : (x : Read ℕ) → Gives (Exactly (p + 1 ≤ length b) (getD b p 0) (place (p + 1))) x
+      go : (x : Read ℕ) → Gives (Exactly (p + 1 ≤ length b) (getD b p 0) (placed (p + 1))) x
           → Reads (written paramBytes (chain x (λ r q. chain (readString edition1 b q) (λ s q. got (functionParam r s) q))))
           → (p + 1 ≤ length b) × Reads (stringAt b (p + 1)) × (written paramBytes (chain x (λ r q. chain (readString edition1 b q) (λ s q. got (functionParam r s) q))) ≡ written (λ t. getD b p 0 ∷ t) (stringAt b (p + 1)))
-      go (got r q) (gives (exactly h)) k = let r = rest (readString edition1 b (place (p + 1))) k in (h, r .0, r .1)
+      go (got r q) (gives (exactly h)) k = let r = rest (readString edition1 b (placed (p + 1))) k in (h, r .0, r .1)
       go (bad f q) h k = absurd k
 
   -- bytes before a piece that reads

@@ -6,15 +6,15 @@ use lib.ListN.{length}
 use lib.Dec.{ltb}
 use Rattle.layout.specs.Numbers.{le32}
 use Rattle.layout.specs.Tree.{PushValueOf}
-use Rattle.layout.specs.Read.{Text, edition1, Read, got, bad, readValue}
+use Rattle.layout.specs.Read.{Text, edition1, placed, Read, got, bad, readValue}
 use Rattle.layout.specs.Payload.{zeroEnded, constantBytes, doubleBytes, pushBytes}
 use Rattle.layout.specs.Strings.{mapValue}
 use Rattle.layout.specs.Pack.{spelling}
 use Rattle.pcode.specs.declared.PushAt.{PushAt}
 use Rattle.pcode.specs.declared.PushValue.{PushValue}
 use Rattle.pcode.specs.declared.PushValue.the-variants as value
-use Rattle.pcode.specs.Shown.{place, after, isText, ShownValue, string, null, undefined, register, boolean, float, integer, constant, ValueReads, ShowsValue}
-use Rattle.encode_values.specs.declared.Ends.{Ends}
+use Rattle.pcode.specs.Shown.{after, isText, ShownValue, string, null, undefined, register, boolean, float, integer, constant, ValueReads, ShowsValue}
+use Rattle.positions.specs.declared.Ends.{Ends}
 use Rattle.encode_values.specs.Pieces.{piece, written, Reads, valueBytes, valueAt, spanOf, Room, Put}
 use Rattle.encode_values.proofs.Puts.{bit-is}
 
@@ -55,9 +55,9 @@ module _ (b : List ℕ) where
 
   -- the piece at a place where a value reads
   is-piece : (p : ℕ) (r : PushAt) → ShowsValue b p r → Reads (valueAt b p) → Within (r .value) × (valueAt b p ≡ piece (coded (r .value)) (r .next))
-  is-piece p r s k = go (readValue edition1 b (place p)) refl k
+  is-piece p r s k = go (readValue edition1 b (placed p)) refl k
     where
-      go : (x : Read (PushValueOf Text)) → readValue edition1 b (place p) ≡ x → Reads (written valueBytes x)
+      go : (x : Read (PushValueOf Text)) → readValue edition1 b (placed p) ≡ x → Reads (written valueBytes x)
           → Within (r .value) × (written valueBytes x ≡ piece (coded (r .value)) (r .next))
       go (got v q) e k =
           let h = s .shows edition1 v q e in
@@ -80,8 +80,8 @@ module _ (b : List ℕ) where
 
   -- a value reads there
   pub value-reads : {p : ℕ} → Reads (valueAt b p) → ValueReads b p
-  value-reads {p} k = go (readValue edition1 b (place p)) refl k
+  value-reads {p} k = go (readValue edition1 b (placed p)) refl k
     where
-      go : (x : Read (PushValueOf Text)) → readValue edition1 b (place p) ≡ x → Reads (written valueBytes x) → ValueReads b p
+      go : (x : Read (PushValueOf Text)) → readValue edition1 b (placed p) ≡ x → Reads (written valueBytes x) → ValueReads b p
       go (got v q) e k = record { terms = edition1; value = v; next = q; reads = e }
       go (bad f q) e k = absurd k

@@ -6,14 +6,13 @@ use mathlib.Core.List.{List, [], _∷_, _++_}
 use lib.ListN.{length}
 use lib.Seq.{sets}
 use Rattle.layout.specs.Tree.{Flat, PushValueOf, FunctionParamOf, functionParam}
-use Rattle.layout.specs.Read.{Text, edition1, Read, got, bad, repeat, readString, readParam, readValue}
+use Rattle.layout.specs.Read.{Text, edition1, placed, Read, got, bad, repeat, readString, readParam, readValue}
 use Rattle.layout.specs.Payload.{opcode, payload, zeroEnded, pushBytes, headed, framed}
 use Rattle.layout.specs.Strings.{mapValue}
 use Rattle.layout.specs.Pack.{spelling}
 use Rattle.fields.specs.Runs.{part}
 use Rattle.pcode.specs.declared.Span.{Span}
-use Rattle.pcode.specs.Shown.{place}
-use Rattle.encode_values.specs.declared.Ends.{Ends}
+use Rattle.positions.specs.declared.Ends.{Ends}
 
 -- ---- what is to be written
 
@@ -23,7 +22,7 @@ Piece = Read (List ℕ)
 
 -- these bytes, and this place
 abbrev pub piece : List ℕ → ℕ → Piece
-piece s next = got s (place next)
+piece s next = got s (placed next)
 
 -- a header and a payload
 abbrev pub action : ℕ → List ℕ → ℕ → Piece
@@ -86,23 +85,23 @@ joined f (a ∷ xs) = f a ++ joined f xs
 module _ (b : List ℕ) where
   -- the string, the parameter and the push value at p
   abbrev pub stringAt : ℕ → Piece
-  stringAt p = written stringBytes (readString edition1 b (place p))
+  stringAt p = written stringBytes (readString edition1 b (placed p))
 
   abbrev pub paramAt : ℕ → Piece
-  paramAt p = written paramBytes (readParam edition1 b (place p))
+  paramAt p = written paramBytes (readParam edition1 b (placed p))
 
   abbrev pub valueAt : ℕ → Piece
-  valueAt p = written valueBytes (readValue edition1 b (place p))
+  valueAt p = written valueBytes (readValue edition1 b (placed p))
 
   -- n of them from p on
   abbrev pub stringsAt : ℕ → ℕ → Piece
-  stringsAt n p = written (joined stringBytes) (repeat (readString edition1 b) n (place p))
+  stringsAt n p = written (joined stringBytes) (repeat (readString edition1 b) n (placed p))
 
   abbrev pub paramsAt : ℕ → ℕ → Piece
-  paramsAt n p = written (joined paramBytes) (repeat (readParam edition1 b) n (place p))
+  paramsAt n p = written (joined paramBytes) (repeat (readParam edition1 b) n (placed p))
 
   abbrev pub valuesAt : ℕ → ℕ → Piece
-  valuesAt n p = written (joined valueBytes) (repeat (readValue edition1 b) n (place p))
+  valuesAt n p = written (joined valueBytes) (repeat (readValue edition1 b) n (placed p))
 
   -- a span's bytes
   abbrev pub spanOf : Span → List ℕ

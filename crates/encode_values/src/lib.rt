@@ -12,17 +12,12 @@ use fields::u16_at;
 use pcode::PushValue;
 use pcode::Span;
 use pcode::push_value_at;
+use positions::Ends;
 use stores::write_f64_me;
 use stores::write_string;
 use stores::write_u8;
 use stores::write_u16;
 use stores::write_u32;
-
-// The place where reading goes on, and the position where writing does.
-pub struct Ends {
-    pub next: usize,
-    pub pos: usize,
-}
 
 // ---- strings and lists
 

@@ -12,14 +12,14 @@ use Rattle.layout.specs.Numbers.{u16At}
 use Rattle.layout.specs.Answers.{CutShort, BadField}
 use Rattle.layout.specs.Answers as answers
 use Rattle.layout.specs.Tree.{Entry, entry}
-use Rattle.layout.specs.Read.{edition1, Place, Read, got, bad, chain, readU16, readBytes, readLabel, readEntries}
+use Rattle.layout.specs.Read.{edition1, Place, placed, Read, got, bad, chain, readU16, readBytes, readLabel, readEntries}
 use Rattle.labels.specs.Table.{entriesAt, Rising}
 use Rattle.labels.proofs.Labels.{EntriesRead, entries-read}
-use Rattle.labels.specs.declared.BytePosition.{BytePosition}
-use Rattle.operands.specs.declared.Scan.{Scan}
-use Rattle.operands.specs.declared.Scan.the-variants as scan
-use Rattle.operands.specs.declared.Fault.{Fault}
-use Rattle.operands.specs.Scanned.{placed, faultOf, scanned}
+use Rattle.positions.specs.declared.BytePosition.{BytePosition}
+use Rattle.positions.specs.declared.Scan.{Scan}
+use Rattle.positions.specs.declared.Scan.the-variants as scan
+use Rattle.positions.specs.declared.Fault.{Fault}
+use Rattle.positions.specs.Scanned.{faultOf, scanned}
 use Rattle.operands.proofs.Scans.{ends, stops, scanned-as, ends-is, stops-then, number-as}
 use Rattle.operands.proofs.Reading.{u16-in, u16-out, label-out, label-big, label-low, label-in}
 use Rattle.front.specs.Front.{Front, readFront}

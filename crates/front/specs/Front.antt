@@ -3,8 +3,7 @@ use mathlib.Core.Path.{_≡_}
 use Prim.Native.Nat.{ℕ}
 use mathlib.Core.List.{List}
 use Rattle.layout.specs.Tree.{Entry}
-use Rattle.layout.specs.Read.{edition1, Reader, got, give, _>>=_, readU16, readEntries}
-use Rattle.operands.specs.Scanned.{placed}
+use Rattle.layout.specs.Read.{edition1, placed, Reader, got, give, _>>=_, readU16, readEntries}
 
 -- "u16 label entry count; each entry ..; u16 action count"
 pub record Front : Type 0 where

@@ -2,14 +2,14 @@
 ghost use mathlib.Core.Path.{_≡_};
 ghost use Prim.Native.Nat.{_≤_};
 ghost use lib.ListN.{length};
-ghost use Rattle.layout.specs.Read.{edition1, readEntries};
-ghost use Rattle.operands.specs.Scanned.{placed, scanned};
+ghost use Rattle.layout.specs.Read.{edition1, placed, readEntries};
+ghost use Rattle.positions.specs.Scanned.{scanned};
 ghost use Rattle.front.specs.Front.{readFront};
 use fields::u16_at;
-use labels::BytePosition;
-use operands::Fault;
-use operands::Scan;
 use operands::scan_bytes;
+use positions::BytePosition;
+use positions::Fault;
+use positions::Scan;
 
 // n label entries: label numbers in range and strictly rising.
 fn scan_entries(b: &[u8], at: usize, n: usize, pos: BytePosition) -> Scan

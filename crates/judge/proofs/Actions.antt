@@ -13,30 +13,31 @@ use Rattle.layout.specs.Answers as answers
 use Rattle.layout.specs.Numbers.{u16At}
 use Rattle.layout.specs.OpCode.{opcodeOf}
 use Rattle.layout.specs.Tree.{ActionIndex, nextAction, firstAction, Entry, entry, ActionOf, flat, branch, owner, Try, ActionListOf, empty, more, ActionsOf, body}
-use Rattle.layout.specs.Read.{Text, edition1, Place, Read, got, bad, Reader, chain, repeat, readAction, readActions, readBody, readFieldsIf}
+use Rattle.layout.specs.Read.{Text, edition1, Place, placed, Read, got, bad, Reader, chain, repeat, readAction, readActions, readBody, readFieldsIf}
 use Rattle.layout.specs.Strings.{mapAction, mapActions, mapBody}
-use Rattle.layout.specs.Write.{size, sizes, bodySize, Position, moved, Event, eventIf, labelAt, branchAt, labelsAt, trace, traces, traceBody}
+use Rattle.layout.specs.Write.{size, sizes, bodySize, Position, moved, Event, eventIf, labelAt, branchAt, labelsAt, trace, traces, traceBody, position}
 use Rattle.layout.specs.Order.{signed64}
-use Rattle.layout.specs.Judge.{orElse, judged}
+use Rattle.layout.specs.Judge.{orElse, judged, farBy}
 use Rattle.layout.specs.Lengths.{total}
 use Rattle.layout.specs.Pack.{spelling}
 use Rattle.laws.specs.ReadFits.{good-got, action-good, body-good}
 use Rattle.laws.specs.Packed.{spells}
-use Rattle.labels.specs.Table.{recordOf}
-use Rattle.labels.specs.declared.BytePosition.{BytePosition}
-use Rattle.operands.specs.Scanned.{placed, Roomy}
-use Rattle.operands.specs.declared.Fault.{Fault}
-use Rattle.walk.specs.Walk.{state, fault, outcome, actionSize, actionTrace, bodyLength, bodyEvents, inBodies, Measure, measure, branches, measured, Laying, flat, to-label, bodies, stops}
-use Rattle.walk.specs.declared.Laid.{Laid}
-use Rattle.walk.specs.declared.Laid.the-variants as laid
-use Rattle.walk.proofs.Runs.{branches-append, branches-payload}
+use Rattle.labels.specs.Table.{recordOf, recordAt}
+use Rattle.positions.specs.declared.BytePosition.{BytePosition}
+use Rattle.positions.specs.Scanned.{Roomy}
+use Rattle.positions.specs.declared.Fault.{Fault}
+use Rattle.laws.specs.Resolved.{actionSize, actionTrace, bodyLength, bodyEvents}
+use Rattle.measure.specs.Walk.{state, fault, outcome, inBodies, Measure, measure, branches, measured, Laying, flat, to-label, bodies, stops}
+use Rattle.measure.specs.declared.Laid.{Laid}
+use Rattle.measure.specs.declared.Laid.the-variants as laid
+use Rattle.measure.proofs.Runs.{branches-append, branches-payload}
 use Rattle.opcode.specs.Listed.{listed}
 use Rattle.front.specs.Front.{Front, readFront}
 use Rattle.front.proofs.Fronts.{FrontRead, front-read}
 use Rattle.bodies.proofs.Walks.{body-deep, body-less, body-step, action-out, action-in, did-small, did-unknown, ran-is, ran-bad, outcome-is}
 use Rattle.judge.specs.declared.Judged.{Judged}
 use Rattle.judge.specs.declared.Judged.the-variants as code
-use Rattle.judge.specs.Judging.{farBy, BranchJudged, Judgeable, Judging, near, far}
+use Rattle.judge.specs.Judging.{BranchJudged, Judgeable, Judging, near, far}
 use Rattle.judge.proofs.Loops.{inEach, Looping}
 
 -- what was refused was not read
@@ -218,7 +219,7 @@ module _ (b : List ℕ) (d : ℕ) where
 -- ---- an action
 
 -- one branch among the events
-far-one : (tab : List ℕ) (n after p : ℕ) (o : Option Refusal) → p + 2 ≡ after → judged (recordOf (getD tab n 0)) after ≡ o → farBy tab (branchAt n (record { at = p }) ∷ []) ≡ o
+far-one : (tab : List ℕ) (n after p : ℕ) (o : Option Refusal) → p + 2 ≡ after → judged (recordAt tab n) after ≡ o → farBy (recordAt tab) (branchAt n (position p) ∷ []) ≡ o
 unfolding farBy
 far-one tab n after p o e h = rw (e, h) (last o)
   where

@@ -12,9 +12,9 @@ use Rattle.layout.specs.Numbers.{bits64}
 use Rattle.layout.specs.Order.{zeroUp, below, signed64, bits-back}
 use Rattle.layout.specs.Judge.{distance, farUnless, judged}
 use Rattle.laws.specs.Demands.{sub-up, sub-down}
-use Rattle.labels.specs.Table.{recordOf, IsFar}
+use Rattle.labels.specs.Table.{recordOf, recordAt, IsFar}
 use Rattle.labels.proofs.Labels.{judged-by}
-use Rattle.labels.specs.declared.BytePosition.{BytePosition}
+use Rattle.positions.specs.declared.BytePosition.{BytePosition}
 use Rattle.judge.specs.declared.Judged.the-variants as code
 use Rattle.judge.specs.Judging.{Table, BranchJudged}
 
@@ -34,14 +34,14 @@ signed-distance zero after h k = bits-back (pos 0) (zeroUp (omega arith))
 signed-distance (suc n) after h k = signed-sub n after (omega (arith, h)) k
 
 module _ (tab : List ℕ) (label : ℕ) (w : BytePosition) (next bits : ℕ) (far : Bool) (t : Table tab) (h : w .0 ≤ 1099511627776)
-    (e : bits ≡ bits64 (distance (recordOf (getD tab label 0)) (w .0))) (f : IsFar bits far) where
-  is-judged : judged (recordOf (getD tab label 0)) (w .0) ≡ farUnless (not far) (distance (recordOf (getD tab label 0)) (w .0))
+    (e : bits ≡ bits64 (distance (recordAt tab label) (w .0))) (f : IsFar bits far) where
+  is-judged : judged (recordAt tab label) (w .0) ≡ farUnless (not far) (distance (recordAt tab label) (w .0))
   is-judged = judged-by (getD tab label 0) (w .0) (omega (arith, t .small label)) (omega (arith, h)) f e
 
   pub branch-far : far ≡ true → BranchJudged tab label next (w .0) (code.Far bits)
   unfolding farUnless
   branch-far k =
-      let s : signed64 bits ≡ distance (recordOf (getD tab label 0)) (w .0) = ap signed64 e ∙ signed-distance (getD tab label 0) (w .0) (omega (arith, t .small label)) (omega (arith, h)) in
+      let s : signed64 bits ≡ distance (recordAt tab label) (w .0) = ap signed64 e ∙ signed-distance (getD tab label 0) (w .0) (omega (arith, t .small label)) (omega (arith, h)) in
       BranchJudged.far {bits = bits} (is-judged ∙ rw (k, s))
 
   pub branch-near : far ≡ false → BranchJudged tab label next (w .0) (code.Ends next w)

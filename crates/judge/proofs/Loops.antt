@@ -5,44 +5,33 @@ use native.Mathlib.Omega.{arith}
 use mathlib.Core.Option.{Option, none, some}
 use mathlib.Core.List.{List, [], _∷_, _++_}
 use Rattle.layout.specs.Answers.{Refusal, JumpOffsetOverflow}
-use Rattle.layout.specs.Read.{Place, Read, got, bad, Reader, repeat}
+use Rattle.layout.specs.Read.{Place, placed, Read, got, bad, Reader, repeat}
 use Rattle.layout.specs.Write.{Event, labelAt, branchAt, payloadTooLong, bodyTooLong}
 use Rattle.layout.specs.Order.{signed64}
-use Rattle.layout.specs.Judge.{orElse, judged}
+use Rattle.layout.specs.Judge.{orElse, farBy}
 use Rattle.layout.specs.Lengths.{total}
-use Rattle.labels.specs.declared.BytePosition.{BytePosition}
-use Rattle.operands.specs.Scanned.{placed, Roomy}
-use Rattle.walk.specs.Walk.{Measure, measure, branches, measured}
-use Rattle.walk.proofs.Runs.{branches-append}
+use Rattle.laws.specs.Nears.{far-append}
+use Rattle.labels.specs.Table.{recordAt}
+use Rattle.positions.specs.declared.BytePosition.{BytePosition}
+use Rattle.positions.specs.Scanned.{Roomy}
+use Rattle.measure.specs.Walk.{Measure, measure, branches, measured}
+use Rattle.measure.proofs.Runs.{branches-append}
 use Rattle.bodies.proofs.Walks.{repeat-none, repeat-more}
 use Rattle.judge.specs.declared.Judged.{Judged}
 use Rattle.judge.specs.declared.Judged.the-variants as code
-use Rattle.judge.specs.Judging.{farBy, Judgeable, Judging, near, far}
+use Rattle.judge.specs.Judging.{Judgeable, Judging, near, far}
 
 -- ---- by the table
 
--- the first in two lists, one after the other
-pub far-append : (tab : List ℕ) (xs ys : List Event) → farBy tab (xs ++ ys) ≡ orElse (farBy tab xs) (farBy tab ys)
-unfolding farBy orElse
-far-append tab [] ys = refl
-far-append tab (labelAt l s ∷ xs) ys = far-append tab xs ys
-far-append tab (branchAt l s ∷ xs) ys = rw (far-append tab xs ys) (go (judged _ _))
-  where
-    go : (o : Option Refusal) → orElse o (orElse (farBy tab xs) (farBy tab ys)) ≡ orElse (orElse o (farBy tab xs)) (farBy tab ys)
-    go none = refl
-    go (some r) = refl
-far-append tab (payloadTooLong n s ∷ xs) ys = far-append tab xs ys
-far-append tab (bodyTooLong n s ∷ xs) ys = far-append tab xs ys
-
 -- what is found depends on the end and on the first that is far
-pub judging-as : {tab : List ℕ} {m m′ : Measure} {q : Place} {r : Judged} → m .end ≡ m′ .end → farBy tab (m .branching) ≡ farBy tab (m′ .branching) → Judging tab (got m q) r → Judging tab (got m′ q) r
+pub judging-as : {tab : List ℕ} {m m′ : Measure} {q : Place} {r : Judged} → m .end ≡ m′ .end → farBy (recordAt tab) (m .branching) ≡ farBy (recordAt tab) (m′ .branching) → Judging tab (got m q) r → Judging tab (got m′ q) r
 judging-as e f (near h k) = near (sym f ∙ h) (k ∙ e)
 judging-as e f (far h) = far (sym f ∙ h)
 
 -- ---- what was found, taken apart
 
 pub record Found (tab : List ℕ) (m : Measure) (q : Place) (at : ℕ) (w : BytePosition) : Type 0 where
-  pub is-near : farBy tab (m .branching) ≡ none
+  pub is-near : farBy (recordAt tab) (m .branching) ≡ none
   pub is-end : w .0 ≡ m .end
   pub is-next : at ≡ q .at
 
@@ -54,7 +43,7 @@ found (far h) e =
     let z : _≡_ {A = ℕ} 0 1 = cc in
     absurd (omega arith)
 
-pub found-far : {tab : List ℕ} {m : Measure} {q : Place} {r : Judged} {bits : ℕ} → Judging tab (got m q) r → r ≡ code.Far bits → farBy tab (m .branching) ≡ some (JumpOffsetOverflow (signed64 bits))
+pub found-far : {tab : List ℕ} {m : Measure} {q : Place} {r : Judged} {bits : ℕ} → Judging tab (got m q) r → r ≡ code.Far bits → farBy (recordAt tab) (m .branching) ≡ some (JumpOffsetOverflow (signed64 bits))
 found-far (near h k) e =
     let z : _≡_ {A = ℕ} 0 1 = cc in
     absurd (omega arith)
@@ -129,11 +118,11 @@ module _ {A : Type 0} (one : Reader A) (size : A → ℕ) (trace : A → ℕ →
         unfolding measured total inEach
         all-of = rw (next .are-all)
 
-        far-of : farBy tab (branches (trace (next .first) (w .0) ++ inEach size trace (next .others) (w .0 + size (next .first))))
-            ≡ orElse (farBy tab (branches (trace (next .first) (w .0)))) (farBy tab (branches (inEach size trace (next .others) (w .0 + size (next .first)))))
+        far-of : farBy (recordAt tab) (branches (trace (next .first) (w .0) ++ inEach size trace (next .others) (w .0 + size (next .first))))
+            ≡ orElse (farBy (recordAt tab) (branches (trace (next .first) (w .0)))) (farBy (recordAt tab) (branches (inEach size trace (next .others) (w .0 + size (next .first)))))
         far-of =
-            ap (farBy tab) (branches-append (trace (next .first) (w .0)) (inEach size trace (next .others) (w .0 + size (next .first))))
-            ∙ far-append tab (branches (trace (next .first) (w .0))) (branches (inEach size trace (next .others) (w .0 + size (next .first))))
+            ap (farBy (recordAt tab)) (branches-append (trace (next .first) (w .0)) (inEach size trace (next .others) (w .0 + size (next .first))))
+            ∙ far-append (recordAt tab) (branches (trace (next .first) (w .0))) (branches (inEach size trace (next .others) (w .0 + size (next .first))))
 
         pub loop-far : (bits : ℕ) → r ≡ code.Far bits → goal (code.Far bits)
         unfolding orElse
@@ -141,11 +130,11 @@ module _ {A : Type 0} (one : Reader A) (size : A → ℕ) (trace : A → ℕ →
             let f = found-far here e in
             g .rest (code.Far bits) (rw all-of (far {bits = bits} (far-of ∙ rw f)))
 
-        again : (r : Judged) (q : ℕ) (x : BytePosition) → farBy tab (branches (trace (next .first) (w .0))) ≡ none → x .0 ≡ w .0 + size (next .first)
+        again : (r : Judged) (q : ℕ) (x : BytePosition) → farBy (recordAt tab) (branches (trace (next .first) (w .0))) ≡ none → x .0 ≡ w .0 + size (next .first)
             → repeat one (left - 1) (placed q) ≡ got (next .others) (next .last) → Judging tab (Each (left - 1) q (x .0)) r → Judging tab (Each left p (w .0)) r
         unfolding orElse measured
         again r q x n m i k =
-            let f : farBy tab (branches (inEach size trace (next .others) (x .0))) ≡ farBy tab (branches (trace (next .first) (w .0) ++ inEach size trace (next .others) (w .0 + size (next .first)))) = rw m (sym (far-of ∙ rw n)) in
+            let f : farBy (recordAt tab) (branches (inEach size trace (next .others) (x .0))) ≡ farBy (recordAt tab) (branches (trace (next .first) (w .0) ++ inEach size trace (next .others) (w .0 + size (next .first)))) = rw m (sym (far-of ∙ rw n)) in
             rw all-of (judging-as (omega (arith, m)) f (rw i at k))
 
         pub loop-more : (q : ℕ) (x : BytePosition) → r ≡ code.Ends q x → Looping goal (left - 1) q x

@@ -10,107 +10,32 @@ use lib.ListN.{length, getD, List·getD-eq-default}
 use lib.Dec.{ltb, eqb}
 use borrow.Author.Tests.{ltb-true, ltb-false, le-leb}
 use Rattle.layout.specs.Tree.{ActionIndex, firstAction, nextAction, Entry, entry, Action, flat, branch, owner, Try, ActionList, empty, more, Actions, body, Catch, noCatch, catch, Finally, noFinally, finally}
-use Rattle.layout.specs.Read.{edition1, got, readBody}
+use Rattle.layout.specs.Read.{edition1, placed, got, readBody}
 use Rattle.layout.specs.Payload.{ownerFields, catchName}
-use Rattle.layout.specs.Write.{size, sizes, bodySize, catchSize, finallySize, Position, moved, Event, labelAt, branchAt, payloadTooLong, bodyTooLong, eventIf, payloadTest, bodyTest, labelsAt, trace, traces, traceBody, traceCatch, traceFinally, events, later, recordIf, lookup}
-use Rattle.layout.specs.Judge.{isNear, farUnless, judged, orElse, tooFar}
+use Rattle.layout.specs.Write.{size, sizes, bodySize, catchSize, finallySize, Position, position, moved, Event, labelAt, branchAt, payloadTooLong, bodyTooLong, eventIf, payloadTest, bodyTest, labelsAt, trace, traces, traceBody, traceCatch, traceFinally, events, later, recordIf, lookup}
+use Rattle.layout.specs.Judge.{isNear, farUnless, judged, orElse, farBy, tooFar}
 use Rattle.layout.specs.Pack.{spelling}
 use Rattle.laws.specs.ReadFits.{good-got, body-good}
 use Rattle.laws.specs.Packed.{spells, same-tree}
-use Rattle.labels.specs.Table.{slot, recordOf, TableHolds}
-use Rattle.labels.specs.declared.BytePosition.{BytePosition}
+use Rattle.labels.specs.Table.{slot, recordAt, TableHolds}
+use Rattle.positions.specs.declared.BytePosition.{BytePosition}
 use Rattle.labels.proofs.Labels.{table-record}
-use Rattle.operands.specs.Scanned.{placed}
-use Rattle.walk.specs.Walk.{bodyLength, bodyEvents, measure, branches, measured}
+use Rattle.laws.specs.Resolved.{bodyLength, bodyEvents}
+use Rattle.measure.specs.Walk.{measure, branches, measured}
 use Rattle.pcode.proofs.Readings.{given}
-use Rattle.pcode.proofs.Trees.{Under, UnderActions, UnderBody, UnderCatch, UnderFinally, main-body, body-under}
+use Rattle.pcode.proofs.Trees.{UnderBody, main-body, body-under}
+use Rattle.pcode.proofs.Within.{Within, body-within, far-same}
 use Rattle.judge.specs.declared.Judged.{Judged}
 use Rattle.judge.specs.declared.Judged.the-variants as code
 use Rattle.judge.specs.declared.Verdict.{Verdict}
 use Rattle.judge.specs.declared.Verdict.the-variants as verdict
 use Rattle.labels.specs.Mains.{MainMeasured}
-use Rattle.judge.specs.Judging.{farBy, Judgeable, Judging, Says, MainJudged}
+use Rattle.judge.specs.Judging.{Judgeable, Judging, Says, MainJudged}
 use Rattle.judge.proofs.Loops.{found, found-far}
 
--- ---- where events lie
-
--- every label and every branch lies at or before a position, and every branch is to a label under a bound
-abbrev Within : ℕ → ℕ → List Event → Type 0
-Within n end [] = Unit {0}
-Within n end (labelAt l s ∷ es) = (s .at ≤ end) × Within n end es
-Within n end (branchAt l s ∷ es) = ((l < n) × (s .at + 2 ≤ end)) × Within n end es
-Within n end (payloadTooLong m s ∷ es) = Within n end es
-Within n end (bodyTooLong m s ∷ es) = Within n end es
+-- ---- records
 
 module _ (n end : ℕ) where
-  both : (xs ys : List Event) → Within n end xs → Within n end ys → Within n end (xs ++ ys)
-  both [] ys h k = k
-  both (labelAt l s ∷ xs) ys h k = (h .0, both xs ys (h .1) k)
-  both (branchAt l s ∷ xs) ys h k = (h .0, both xs ys (h .1) k)
-  both (payloadTooLong m s ∷ xs) ys h k = both xs ys h k
-  both (bodyTooLong m s ∷ xs) ys h k = both xs ys h k
-
-  payload-in : (m : ℕ) (s : Position) → Within n end (payloadTest m s)
-  unfolding payloadTest
-  payload-in m s = go (ltb 65535 m)
-    where
-      go : (t : Bool) → Within n end (eventIf t (payloadTooLong m s))
-      go true = unfold eventIf in tt
-      go false = unfold eventIf in tt
-
-  body-in : (m : ℕ) (s : Position) → Within n end (bodyTest m s)
-  unfolding bodyTest
-  body-in m s = go (ltb 65535 m)
-    where
-      go : (t : Bool) → Within n end (eventIf t (bodyTooLong m s))
-      go true = unfold eventIf in tt
-      go false = unfold eventIf in tt
-
-  labels-in : (es : List Entry) (i : ActionIndex) (s : Position) → s .at ≤ end → Within n end (labelsAt es i s)
-  unfolding labelsAt eventIf
-  labels-in [] i s h = tt
-  labels-in (entry l j ∷ es) i s h = go (eqb (i .index) (j .index)) (labels-in es i s h)
-    where
-      go : (t : Bool) → Within n end (labelsAt es i s) → Within n end (eventIf t (labelAt l s) ++ labelsAt es i s)
-      go true k = (h, k)
-      go false k = k
-
-  -- of a tree that ends at or before a position
-  mutual
-    unfolding trace size moved
-
-    action-within : (a : Action) (s : Position) → Under n a → s .at + size a ≤ end → Within n end (trace a s)
-    action-within (flat f) s u h = payload-in _ s
-    action-within (branch k l) s u h = ((u, omega (arith, h)), tt)
-    action-within (owner o b) s u h =
-        both (payloadTest _ s) _ (payload-in _ s) (both (traceBody b _) _ (body-within b (moved (5 + length (ownerFields o)) s) u (omega (arith, h))) (body-in _ s))
-    action-within (Try b c f) s u h =
-        let t : Position = moved (10 + length (catchName c)) s in
-        both (payloadTest _ s) _ (payload-in _ s)
-        (both (traceBody b t) _ (body-within b t (u .0) (omega (arith, h)))
-        (both (traceCatch c (moved (bodySize b) t)) _ (catch-within c (moved (bodySize b) t) (u .1) (omega (arith, h)))
-        (both (traceFinally f (moved (bodySize b + catchSize c) t)) _ (finally-within f (moved (bodySize b + catchSize c) t) (u .2) (omega (arith, h)))
-        (both (bodyTest _ s) _ (body-in _ s) (both (bodyTest _ s) _ (body-in _ s) (body-in _ s))))))
-
-    actions-within : (xs : ActionList) (es : List Entry) (i : ActionIndex) (s : Position) → UnderActions n xs → s .at + sizes xs ≤ end → Within n end (traces xs es i s)
-    actions-within empty es i s u h = labels-in es i s (omega (arith, h))
-    actions-within (more a xs) es i s u h =
-        both (labelsAt es i s) _ (labels-in es i s (omega (arith, h)))
-        (both (trace a s) _ (action-within a s (u .0) (omega (arith, h))) (actions-within xs es (nextAction i) (moved (size a) s) (u .1) (omega (arith, h))))
-
-    pub body-within : (b : Actions) (s : Position) → UnderBody n b → s .at + bodySize b ≤ end → Within n end (traceBody b s)
-    body-within (body es xs) s u h = actions-within xs es firstAction s u h
-
-    catch-within : (c : Catch) (s : Position) → UnderCatch n c → s .at + catchSize c ≤ end → Within n end (traceCatch c s)
-    catch-within noCatch s u h = tt
-    catch-within (catch t b) s u h = body-within b s u h
-
-    finally-within : (f : Finally) (s : Position) → UnderFinally n f → s .at + finallySize f ≤ end → Within n end (traceFinally f s)
-    finally-within noFinally s u h = tt
-    finally-within (finally b) s u h = body-within b s u h
-
-  -- ---- records
-
   -- a record lies there too
   Lies : Option Position → Type 0
   Lies none = Unit {0}
@@ -149,7 +74,7 @@ module _ (n end : ℕ) where
       rw (le-leb (s .at) (p + 2 + 32767) i, le-leb (p + 2) (s .at + 32768) j)
 
   none-far : (all es : List Event) → Within n end all → Within n end es → end ≤ 32768 → tooFar all es ≡ none
-  unfolding tooFar orElse
+  unfolding farBy orElse
   none-far all [] h k l = refl
   none-far all (labelAt m s ∷ es) h k l = none-far all es h (k .1) l
   none-far all (branchAt m s ∷ es) h k l = rw (near-short (lookup m all) (s .at) (lookup-lies m all h) (k .0 .1) l) (none-far all es h (k .1) l)
@@ -158,21 +83,13 @@ module _ (n end : ℕ) where
 
 -- ---- by the table as by the events
 
-far-branches : (tab : List ℕ) (es : List Event) → farBy tab (branches es) ≡ farBy tab es
+far-branches : (final : ℕ → Option Position) (es : List Event) → farBy final (branches es) ≡ farBy final es
 unfolding farBy branches
-far-branches tab [] = refl
-far-branches tab (labelAt l s ∷ es) = far-branches tab es
-far-branches tab (branchAt l s ∷ es) = ap (orElse (judged (recordOf (getD tab l 0)) (s .at + 2))) (far-branches tab es)
-far-branches tab (payloadTooLong n s ∷ es) = far-branches tab es
-far-branches tab (bodyTooLong n s ∷ es) = far-branches tab es
-
-far-as : (bound end : ℕ) (tab : List ℕ) (all es : List Event) → TableHolds bound tab all → Within bound end es → farBy tab es ≡ tooFar all es
-unfolding farBy tooFar
-far-as bound end tab all [] h k = refl
-far-as bound end tab all (labelAt l s ∷ es) h k = far-as bound end tab all es h (k .1)
-far-as bound end tab all (branchAt l s ∷ es) h k = rw (table-record bound tab all h l (k .0 .0), far-as bound end tab all es h (k .1))
-far-as bound end tab all (payloadTooLong n s ∷ es) h k = far-as bound end tab all es h k
-far-as bound end tab all (bodyTooLong n s ∷ es) h k = far-as bound end tab all es h k
+far-branches final [] = refl
+far-branches final (labelAt l s ∷ es) = far-branches final es
+far-branches final (branchAt l s ∷ es) = ap (orElse (judged (final l) (s .at + 2))) (far-branches final es)
+far-branches final (payloadTooLong n s ∷ es) = far-branches final es
+far-branches final (bodyTooLong n s ∷ es) = far-branches final es
 
 -- every slot of a table that holds such events is small
 slots-small : (end : ℕ) (tab : List ℕ) (es : List Event) → end ≤ 1099511627776 → TableHolds 1024 tab es → Within 1024 end es → (l : ℕ) → getD tab l 0 ≤ 1099511627777
@@ -193,7 +110,7 @@ module _ (b : List ℕ) (end : BytePosition) (tab : List ℕ) (m : MainMeasured 
   within : Within 1024 (end .0) (events (m .tree))
   unfolding events
   within =
-      body-within 1024 (end .0) (m .tree) (record { at = 0 })
+      body-within 1024 (end .0) (m .tree) (position 0)
       (subst (UnderBody 1024) (m .reads .is-tree) (given (body-under b 16 (placed 0)) is-body)) (omega (arith, m .is-end))
 
   -- it is written in at most three bytes for each byte read
@@ -217,11 +134,11 @@ module _ (b : List ℕ) (end : BytePosition) (tab : List ℕ) (m : MainMeasured 
   pub main-short : end .0 ≤ 32768 → MainJudged b verdict.Near
   main-short h = judged-main verdict.Near (rw (none-far 1024 (end .0) (events (m .tree)) (events (m .tree)) within within h) Says.near)
 
-  far-main : farBy tab (branches (bodyEvents (m .reads .read) 0)) ≡ tooFar (events (m .tree)) (events (m .tree))
+  far-main : farBy (recordAt tab) (branches (bodyEvents (m .reads .read) 0)) ≡ tooFar (events (m .tree)) (events (m .tree))
   far-main =
-      far-branches tab (bodyEvents (m .reads .read) 0)
-      ∙ ap (λ (t : Actions). farBy tab (traceBody t (record { at = 0 }))) (m .reads .is-tree)
-      ∙ (unfold events in far-as 1024 (end .0) tab (events (m .tree)) (events (m .tree)) (m .holds) within)
+      far-branches (recordAt tab) (bodyEvents (m .reads .read) 0)
+      ∙ ap (λ (t : Actions). farBy (recordAt tab) (traceBody t (position 0))) (m .reads .is-tree)
+      ∙ (unfold events in far-same 1024 (end .0) (recordAt tab) (λ l. lookup l (events (m .tree))) (table-record 1024 tab (events (m .tree)) (m .holds)) (events (m .tree)) within)
 
   module _ (r : Judged) (j : Judging tab (measured bodyLength bodyEvents 0 (readBody edition1 b 16 (placed 0))) r) where
     here : Judging tab (got (measure (0 + bodyLength (m .reads .read)) (branches (bodyEvents (m .reads .read) 0))) (m .reads .next)) r

@@ -1,34 +1,26 @@
 -- What judging asks and what it finds: the first branch in writing order that goes too far, by the label table. Assumes nothing.
 use mathlib.Core.Path.{_≡_}
-use Prim.Native.Nat.{ℕ, _+_, _≤_}
+use Prim.Native.Nat.{ℕ, _≤_}
 use mathlib.Core.Option.{Option, none, some}
-use mathlib.Core.List.{List, [], _∷_}
+use mathlib.Core.List.{List}
 use lib.ListN.{length, getD}
 use Rattle.layout.specs.Answers.{Refusal, JumpOffsetOverflow}
 use Rattle.layout.specs.Order.{signed64}
 use Rattle.layout.specs.Tree.{Actions}
 use Rattle.layout.specs.Read.{Place, Read, got}
-use Rattle.layout.specs.Write.{Event, labelAt, branchAt, payloadTooLong, bodyTooLong, events}
-use Rattle.layout.specs.Judge.{orElse, judged, tooFar}
+use Rattle.layout.specs.Write.{Event, events}
+use Rattle.layout.specs.Judge.{judged, farBy, tooFar}
 use Rattle.laws.specs.Packed.{ReadsMain}
-use Rattle.labels.specs.Table.{recordOf}
-use Rattle.labels.specs.declared.BytePosition.{BytePosition}
-use Rattle.operands.specs.Scanned.{Roomy}
-use Rattle.walk.specs.Walk.{Measure}
+use Rattle.labels.specs.Table.{recordAt}
+use Rattle.positions.specs.declared.BytePosition.{BytePosition}
+use Rattle.positions.specs.Scanned.{Roomy}
+use Rattle.measure.specs.Walk.{Measure}
 use Rattle.judge.specs.declared.Judged.{Judged}
 use Rattle.judge.specs.declared.Judged.the-variants as code
 use Rattle.judge.specs.declared.Verdict.{Verdict}
 use Rattle.judge.specs.declared.Verdict.the-variants as verdict
 
 -- ---- by the table
-
--- the first branch among these that goes too far
-unfoldable pub farBy : List ℕ → List Event → Option Refusal
-farBy tab [] = none
-farBy tab (labelAt l s ∷ es) = farBy tab es
-farBy tab (branchAt l s ∷ es) = orElse (judged (recordOf (getD tab l 0)) (s .at + 2)) (farBy tab es)
-farBy tab (payloadTooLong n s ∷ es) = farBy tab es
-farBy tab (bodyTooLong n s ∷ es) = farBy tab es
 
 -- a slot for each label, and every position far from overflow
 pub record Table (tab : List ℕ) : Type 0 where
@@ -37,8 +29,8 @@ pub record Table (tab : List ℕ) : Type 0 where
 
 -- one branch to a label, whose operand ends at a place and at a position
 pub data BranchJudged (tab : List ℕ) (label next after : ℕ) : Judged → Type 0 where
-  near : {w : BytePosition} → judged (recordOf (getD tab label 0)) after ≡ none → w .0 ≡ after → BranchJudged tab label next after (code.Ends next w)
-  far : {bits : ℕ} → judged (recordOf (getD tab label 0)) after ≡ some (JumpOffsetOverflow (signed64 bits)) → BranchJudged tab label next after (code.Far bits)
+  near : {w : BytePosition} → judged (recordAt tab label) after ≡ none → w .0 ≡ after → BranchJudged tab label next after (code.Ends next w)
+  far : {bits : ℕ} → judged (recordAt tab label) after ≡ some (JumpOffsetOverflow (signed64 bits)) → BranchJudged tab label next after (code.Far bits)
 
 -- what is asked of a place and a position: that something reads there
 pub record Judgeable {A : Type 0} (read : Read A) (b : List ℕ) (at : ℕ) (pos : BytePosition) (tab : List ℕ) : Type 0 where
@@ -50,8 +42,8 @@ pub record Judgeable {A : Type 0} (read : Read A) (b : List ℕ) (at : ℕ) (pos
 
 -- what is found there: where it ends, or the distance of the first branch that goes too far
 pub data Judging (tab : List ℕ) : Read Measure → Judged → Type 0 where
-  near : {m : Measure} {q : Place} {w : BytePosition} → farBy tab (m .branching) ≡ none → w .0 ≡ m .end → Judging tab (got m q) (code.Ends (q .at) w)
-  far : {m : Measure} {q : Place} {bits : ℕ} → farBy tab (m .branching) ≡ some (JumpOffsetOverflow (signed64 bits)) → Judging tab (got m q) (code.Far bits)
+  near : {m : Measure} {q : Place} {w : BytePosition} → farBy (recordAt tab) (m .branching) ≡ none → w .0 ≡ m .end → Judging tab (got m q) (code.Ends (q .at) w)
+  far : {m : Measure} {q : Place} {bits : ℕ} → farBy (recordAt tab) (m .branching) ≡ some (JumpOffsetOverflow (signed64 bits)) → Judging tab (got m q) (code.Far bits)
 
 -- ---- a whole main body
 

@@ -1,17 +1,17 @@
 // Judging the branches of a main body that reads whole, against the final label table: 10.
 ghost use Prim.Native.Nat.{_+_, _≤_, _<_};
-ghost use Rattle.layout.specs.Read.{edition1, readAction, readBody, repeat};
+ghost use Rattle.layout.specs.Read.{edition1, placed, readAction, readBody, repeat};
 ghost use Rattle.layout.specs.Lengths.{total};
-ghost use Rattle.operands.specs.Scanned.{placed};
-ghost use Rattle.walk.specs.Walk.{measured, actionSize, actionTrace, bodyLength, bodyEvents, inBodies};
+ghost use Rattle.laws.specs.Resolved.{actionSize, actionTrace, bodyLength, bodyEvents};
+ghost use Rattle.measure.specs.Walk.{measured, inBodies};
 ghost use Rattle.judge.specs.Judging.{Table, Judgeable, Judging, BranchJudged, MainJudged};
 ghost use Rattle.labels.specs.Mains.{MainMeasured};
 use fields::u16_at;
-use labels::BytePosition;
 use labels::distance;
 use labels::is_far;
+use measure::Laid;
 use payload::scan_payload;
-use walk::Laid;
+use positions::BytePosition;
 
 // Where reading and writing would end, or the 64 bits of the first distance in writing order that does not fit.
 pub enum Judged {

@@ -8,7 +8,7 @@ use Rattle.layout.specs.Write.{events, bodySize}
 use Rattle.laws.specs.Fits.{Bytes}
 use Rattle.laws.specs.Packed.{ReadsMain}
 use Rattle.labels.specs.Table.{TableHolds}
-use Rattle.labels.specs.declared.BytePosition.{BytePosition}
+use Rattle.positions.specs.declared.BytePosition.{BytePosition}
 
 -- it reads whole, its writing ends at position `end`, and the table holds its labels
 pub record MainMeasured (b : List ℕ) (end : BytePosition) (tab : List ℕ) : Type 0 where

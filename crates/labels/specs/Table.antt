@@ -25,6 +25,10 @@ unfoldable pub recordOf : ℕ → Option Position
 recordOf zero = none
 recordOf (suc n) = some (record { at = n })
 
+-- the record that a table holds for a label
+abbrev pub recordAt : List ℕ → ℕ → Option Position
+recordAt tab l = recordOf (getD tab l 0)
+
 -- what the label records among these events make of a table
 unfoldable pub recordAll : List Event → List ℕ → List ℕ
 recordAll [] tab = tab
@@ -69,11 +73,11 @@ pub data Rising (bound : ℕ) : ℕ → List Entry → Type 0 where
 
 -- ---- what the code's two kinds of number stand for
 
-abbrev pub index : Rattle.labels.specs.declared.ActionIndex.ActionIndex → ActionIndex
-index i = record { index = i .0 }
+abbrev pub indexOf : Rattle.positions.specs.declared.ActionIndex.ActionIndex → ActionIndex
+indexOf i = record { index = i .0 }
 
-abbrev pub place : Rattle.labels.specs.declared.BytePosition.BytePosition → Position
-place p = record { at = p .0 }
+abbrev pub positionOf : Rattle.positions.specs.declared.BytePosition.BytePosition → Position
+positionOf p = record { at = p .0 }
 
 -- ---- the recording of the entries es with index i, at position s
 

@@ -7,14 +7,10 @@ ghost use Prim.Native.Nat.{_+_, _*_, _<_, _≤_};
 ghost use lib.ListN.{length, getD};
 ghost use Rattle.layout.specs.Numbers.{bits64};
 ghost use Rattle.layout.specs.Judge.{distance};
-ghost use Rattle.labels.specs.Table.{recordOf, entriesAt, due, index, place, Recordable, Recorded, IsFar};
+ghost use Rattle.labels.specs.Table.{recordOf, entriesAt, due, indexOf, positionOf, Recordable, Recorded, IsFar};
 use fields::u32_at;
-
-// The index of an action in its body's list: what label_positions of source 001's Actions holds.
-pub struct ActionIndex(pub u32);
-
-// A position in the written block: what label_positions of source 000's ActionEncoder holds.
-pub struct BytePosition(pub usize);
+use positions::ActionIndex;
+use positions::BytePosition;
 
 // The least of n entries at or above `from`. (The loop has no way out and chooses values, so that it runs on several at a time.)
 pub fn due_entry(b: &[u8], at: usize, n: usize, from: u32) -> u32
@@ -44,8 +40,8 @@ fn record_each(
     pos: BytePosition,
     tab: &mut [usize],
 ) -> u32
-    requires { ⌜ (at + 4 * n ≤ length (now b)) × Recordable (entriesAt (now b) n at) first (index i) (place pos) (now tab) ⌝ }
-    ensures { λ r. ⌜ Recorded (entriesAt (now (b .entry)) n at) (index i) (place pos) (now (tab .entry)) (now (tab .exit)) r ⌝ }
+    requires { ⌜ (at + 4 * n ≤ length (now b)) × Recordable (entriesAt (now b) n at) first (indexOf i) (positionOf pos) (now tab) ⌝ }
+    ensures { λ r. ⌜ Recorded (entriesAt (now (b .entry)) n at) (indexOf i) (positionOf pos) (now (tab .entry)) (now (tab .exit)) r ⌝ }
 {
     let mut next = first;
     while next / 65536 == i.0 {
@@ -69,8 +65,8 @@ pub fn record_labels(
     pos: BytePosition,
     tab: &mut [usize],
 ) -> u32
-    requires { ⌜ (at + 4 * n ≤ length (now b)) × Recordable (entriesAt (now b) n at) first (index i) (place pos) (now tab) ⌝ }
-    ensures { λ r. ⌜ Recorded (entriesAt (now (b .entry)) n at) (index i) (place pos) (now (tab .entry)) (now (tab .exit)) r ⌝ }
+    requires { ⌜ (at + 4 * n ≤ length (now b)) × Recordable (entriesAt (now b) n at) first (indexOf i) (positionOf pos) (now tab) ⌝ }
+    ensures { λ r. ⌜ Recorded (entriesAt (now (b .entry)) n at) (indexOf i) (positionOf pos) (now (tab .entry)) (now (tab .exit)) r ⌝ }
 {
     if first / 65536 != i.0 {
         return first;

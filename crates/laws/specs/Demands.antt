@@ -14,13 +14,14 @@ use Rattle.layout.specs.Lists.{pick}
 use Rattle.layout.specs.Answers.{Refusal, JumpOffsetOverflow, SheetTooLong, Answer, Done}
 use Rattle.layout.specs.Tree.{ActionOf, ActionListOf, ActionsOf, CatchOf, FinallyOf, ActionIndex, firstAction, nextAction, Entry, Action, flat, branch, owner, Try, ActionList, empty, more, Actions, body, Catch, noCatch, catch, Finally, noFinally, finally}
 use Rattle.layout.specs.Payload.{ownerFields, catchName}
-use Rattle.layout.specs.Write.{size, bodySize, catchSize, finallySize, Position, Event, labelAt, branchAt, payloadTooLong, bodyTooLong, moved, payloadTest, bodyTest, labelsAt, trace, traces, traceBody, traceCatch, traceFinally, events, lookup, distanceBits, branchBits, bodyBytes, blockBytes, blockSize}
+use Rattle.layout.specs.Write.{size, bodySize, catchSize, finallySize, Position, position, Event, labelAt, branchAt, payloadTooLong, bodyTooLong, moved, payloadTest, bodyTest, labelsAt, trace, traces, traceBody, traceCatch, traceFinally, events, lookup, distanceBits, branchBits, bodyBytes, blockBytes, blockSize}
 use Rattle.layout.specs.Judge.{distance, isNear, farUnless, judged, orElse, tooFar}
 use Rattle.layout.specs.Cut.{Cut, main, uncut, sheetLimit, trailerDistance, isMarked, cutIf, cutAt, cutIfTrailer, cutIfShort, cut}
 use Rattle.layout.specs.Pack.{packCut, pack, output, ReadsAs}
 use Rattle.layout.specs.Lengths.{length-block}
 use Rattle.laws.specs.Meaning.{told, toldActions, toldBody, toldCatch, toldFinally, branchDistance, meaning}
 use Rattle.laws.specs.Fits.{Bytes}
+use Rattle.laws.specs.Nears.{near-both, near-of, bits-small, NoneFar, near-left, near-right, branch-near}
 use Rattle.laws.specs.RoundTrip.{same-told}
 use Rattle.laws.specs.Packed.{Written, Packed, is-packed, is-written, sheetDistance, is-main, tree-good, tree-fits}
 
@@ -37,15 +38,6 @@ module _ (a b : ℕ) where
   pub sub-down : a < b → subℕ a b ≡ negsuc (b - suc a)
   sub-down h = rw (lt-ltb a b h)
 
-  pub near-both : isNear a b ≡ true → (a ≤ b + 32767) × (b ≤ a + 32768)
-  unfolding isNear
-  near-both h = go (leb a (b + 32767)) refl (leb b (a + 32768)) refl h
-    where
-      go : (x : Bool) → leb a (b + 32767) ≡ x → (y : Bool) → leb b (a + 32768) ≡ y → (x && y) ≡ true → (a ≤ b + 32767) × (b ≤ a + 32768)
-      go true hx true hy k = (leb-true a (b + 32767) hx, leb-true b (a + 32768) hy)
-      go true hx false hy k = absurd (false≢true k)
-      go false hx y hy k = absurd (false≢true k)
-
   near-signed : isNear a b ≡ true → signed16 ((a + 65536 - b) % 65536) ≡ subℕ a b
   unfolding signed16 pick
   near-signed n = go (ltb a b) refl
@@ -53,24 +45,20 @@ module _ (a b : ℕ) where
       go : (t : Bool) → ltb a b ≡ t → signed16 ((a + 65536 - b) % 65536) ≡ subℕ a b
       go true h =
           let l : a < b = ltb-true a b h in
-          let w : (a + 65536 - b) % 65536 ≡ 65536 - (b - a) = omega (arith, near-both n .0, near-both n .1) in
-          let big : 32768 ≤ 65536 - (b - a) = omega (arith, near-both n .0, near-both n .1) in
-          let e : 65535 - (65536 - (b - a)) ≡ b - suc a = omega (arith, near-both n .1) in
+          let w : (a + 65536 - b) % 65536 ≡ 65536 - (b - a) = omega (arith, near-both a b n .0, near-both a b n .1) in
+          let big : 32768 ≤ 65536 - (b - a) = omega (arith, near-both a b n .0, near-both a b n .1) in
+          let e : 65535 - (65536 - (b - a)) ≡ b - suc a = omega (arith, near-both a b n .1) in
           rw (w, le-ltb (65536 - (b - a)) 32768 big, e) (sym (sub-down l))
       go false h =
           let l : b ≤ a = ltb-false a b h in
-          let w : (a + 65536 - b) % 65536 ≡ a - b = omega (arith, near-both n .0) in
-          let small : a - b < 32768 = omega (arith, near-both n .0) in
+          let w : (a + 65536 - b) % 65536 ≡ a - b = omega (arith, near-both a b n .0) in
+          let small : a - b < 32768 = omega (arith, near-both a b n .0) in
           rw (w, lt-ltb (a - b) 32768 small) (sym (sub-up l))
 
 judged-signed : (o : Option Position) (after : ℕ) → judged o after ≡ none → signed16 (distanceBits o after) ≡ distance o after
-unfolding judged distanceBits distance
+unfolding distanceBits distance
 judged-signed none after e = unfold signed16 pick in refl
-judged-signed (some s) after e = go (isNear (s .at) after) refl e
-  where
-    go : (t : Bool) → isNear (s .at) after ≡ t → farUnless t (subℕ (s .at) after) ≡ none → signed16 ((s .at + 65536 - after) % 65536) ≡ subℕ (s .at) after
-    go true h k = near-signed (s .at) after h
-    go false h k = absurd (Option·none-ne-some (JumpOffsetOverflow (subℕ (s .at) after)) (sym (unfold farUnless in k)))
+judged-signed (some s) after e = near-signed (s .at) after (near-of s after e)
 
 -- ---- each branch of a tree given something else
 
@@ -103,38 +91,8 @@ try-same x y z = rw (x, y, z)
 -- ---- where no branch goes too far, the distances are told by the bits
 
 module _ (all : List Event) where
-  abbrev Near : List Event → Type 0
-  Near es = tooFar all es ≡ none
-
-  or-left : (x y : Option Refusal) → orElse x y ≡ none → x ≡ none
-  unfolding orElse
-  or-left none y e = refl
-  or-left (some r) y e = e
-
-  or-right : (x y : Option Refusal) → orElse x y ≡ none → y ≡ none
-  unfolding orElse
-  or-right none y e = e
-  or-right (some r) y e = absurd (Option·none-ne-some r (sym e))
-
-  or-both : (x y : Option Refusal) → x ≡ none → y ≡ none → orElse x y ≡ none
-  unfolding orElse
-  or-both x y e f = rw (e, f)
-
-  near-left : (xs ys : List Event) → Near (xs ++ ys) → Near xs
-  unfolding tooFar
-  near-left [] ys e = refl
-  near-left (labelAt l s ∷ xs) ys e = near-left xs ys e
-  near-left (branchAt l s ∷ xs) ys e = or-both _ _ (or-left _ _ e) (near-left xs ys (or-right _ _ e))
-  near-left (payloadTooLong n s ∷ xs) ys e = near-left xs ys e
-  near-left (bodyTooLong n s ∷ xs) ys e = near-left xs ys e
-
-  near-right : (xs ys : List Event) → Near (xs ++ ys) → Near ys
-  unfolding tooFar
-  near-right [] ys e = e
-  near-right (labelAt l s ∷ xs) ys e = near-right xs ys e
-  near-right (branchAt l s ∷ xs) ys e = near-right xs ys (or-right _ _ e)
-  near-right (payloadTooLong n s ∷ xs) ys e = near-right xs ys e
-  near-right (bodyTooLong n s ∷ xs) ys e = near-right xs ys e
+  abbrev final : ℕ → Option Position
+  final l = lookup l all
 
   abbrev bitsOf : ℕ → ℕ → ℕ
   bitsOf l after = distanceBits (lookup l all) after
@@ -142,23 +100,17 @@ module _ (all : List Event) where
   abbrev distanceOf : ℕ → ℕ → ℤ
   distanceOf l after = distance (lookup l all) after
 
-  branch-near : (l : ℕ) (s : Position) → Near (branchAt l (moved 3 s) ∷ []) → judged (lookup l all) (s .at + 5) ≡ none
-  unfolding tooFar moved
-  branch-near l s e =
-      let same : s .at + 5 ≡ s .at + 3 + 2 = omega arith in
-      rw same (or-left (judged (lookup l all) (s .at + 3 + 2)) none e)
-
   mutual
     unfolding trace told mapBranch moved
 
-    signed : (a : Action) (s : Position) → Near (trace a s) → mapBranch signed16 (told bitsOf a (s .at)) ≡ told distanceOf a (s .at)
+    signed : (a : Action) (s : Position) → NoneFar final (trace a s) → mapBranch signed16 (told bitsOf a (s .at)) ≡ told distanceOf a (s .at)
     signed (flat f) s e = refl
-    signed (branch k l) s e = ap (branch k) (judged-signed (lookup l all) (s .at + 5) (branch-near l s e))
+    signed (branch k l) s e = ap (branch k) (judged-signed (lookup l all) (s .at + 5) (branch-near final l s e))
     signed (owner o b) s e =
         let u : Position = moved (5 + length (ownerFields o)) s in
         let y : List Event = traceBody b u in
         let z : List Event = bodyTest (bodySize b) s in
-        ap (owner o) (signed-body b u (near-left y z (near-right (payloadTest (length (ownerFields o) + 2) s) (y ++ z) e)))
+        ap (owner o) (signed-body b u (near-left final y z (near-right final (payloadTest (length (ownerFields o) + 2) s) (y ++ z) e)))
     signed (Try b c f) s e =
         let t : Position = moved (10 + length (catchName c)) s in
         let t₁ : Position = moved (bodySize b) t in
@@ -167,36 +119,31 @@ module _ (all : List Event) where
         let x₂ : List Event = traceCatch c t₁ in
         let x₃ : List Event = traceFinally f t₂ in
         let z : List Event = bodyTest (bodySize b) s ++ (bodyTest (catchSize c) s ++ bodyTest (finallySize f) s) in
-        let e₁ : Near (x₁ ++ (x₂ ++ (x₃ ++ z))) = near-right (payloadTest (7 + length (catchName c)) s) (x₁ ++ (x₂ ++ (x₃ ++ z))) e in
-        let e₂ : Near (x₂ ++ (x₃ ++ z)) = near-right x₁ (x₂ ++ (x₃ ++ z)) e₁ in
-        let e₃ : Near (x₃ ++ z) = near-right x₂ (x₃ ++ z) e₂ in
-        try-same (signed-body b t (near-left x₁ (x₂ ++ (x₃ ++ z)) e₁)) (signed-catch c t₁ (near-left x₂ (x₃ ++ z) e₂)) (signed-finally f t₂ (near-left x₃ z e₃))
+        let e₁ : NoneFar final (x₁ ++ (x₂ ++ (x₃ ++ z))) = near-right final (payloadTest (7 + length (catchName c)) s) (x₁ ++ (x₂ ++ (x₃ ++ z))) e in
+        let e₂ : NoneFar final (x₂ ++ (x₃ ++ z)) = near-right final x₁ (x₂ ++ (x₃ ++ z)) e₁ in
+        let e₃ : NoneFar final (x₃ ++ z) = near-right final x₂ (x₃ ++ z) e₂ in
+        try-same (signed-body b t (near-left final x₁ (x₂ ++ (x₃ ++ z)) e₁)) (signed-catch c t₁ (near-left final x₂ (x₃ ++ z) e₂)) (signed-finally f t₂ (near-left final x₃ z e₃))
 
-    signed-actions : (xs : ActionList) (es : List Entry) (i : ActionIndex) (s : Position) → Near (traces xs es i s)
+    signed-actions : (xs : ActionList) (es : List Entry) (i : ActionIndex) (s : Position) → NoneFar final (traces xs es i s)
         → mapBranchList signed16 (toldActions bitsOf xs (s .at)) ≡ toldActions distanceOf xs (s .at)
     signed-actions empty es i s e = refl
     signed-actions (more a xs) es i s e =
         let y : List Event = traces xs es (nextAction i) (moved (size a) s) in
-        let r : Near (trace a s ++ y) = near-right (labelsAt es i s) (trace a s ++ y) e in
-        ap₂ more (signed a s (near-left (trace a s) y r)) (signed-actions xs es (nextAction i) (moved (size a) s) (near-right (trace a s) y r))
+        let r : NoneFar final (trace a s ++ y) = near-right final (labelsAt es i s) (trace a s ++ y) e in
+        ap₂ more (signed a s (near-left final (trace a s) y r)) (signed-actions xs es (nextAction i) (moved (size a) s) (near-right final (trace a s) y r))
 
-    signed-body : (b : Actions) (s : Position) → Near (traceBody b s) → mapBranches signed16 (toldBody bitsOf b (s .at)) ≡ toldBody distanceOf b (s .at)
+    signed-body : (b : Actions) (s : Position) → NoneFar final (traceBody b s) → mapBranches signed16 (toldBody bitsOf b (s .at)) ≡ toldBody distanceOf b (s .at)
     signed-body (body es xs) s e = ap (body []) (signed-actions xs es firstAction s e)
 
-    signed-catch : (c : Catch) (s : Position) → Near (traceCatch c s) → mapBranchesCatch signed16 (toldCatch bitsOf c (s .at)) ≡ toldCatch distanceOf c (s .at)
+    signed-catch : (c : Catch) (s : Position) → NoneFar final (traceCatch c s) → mapBranchesCatch signed16 (toldCatch bitsOf c (s .at)) ≡ toldCatch distanceOf c (s .at)
     signed-catch noCatch s e = refl
     signed-catch (catch t b) s e = ap (catch t) (signed-body b s e)
 
-    signed-finally : (f : Finally) (s : Position) → Near (traceFinally f s) → mapBranchesFinally signed16 (toldFinally bitsOf f (s .at)) ≡ toldFinally distanceOf f (s .at)
+    signed-finally : (f : Finally) (s : Position) → NoneFar final (traceFinally f s) → mapBranchesFinally signed16 (toldFinally bitsOf f (s .at)) ≡ toldFinally distanceOf f (s .at)
     signed-finally noFinally s e = refl
     signed-finally (finally b) s e = ap finally (signed-body b s e)
 
 -- ---- demand 3
-
-bits-small : (o : Option Position) (p : ℕ) → distanceBits o p < 65536
-unfolding distanceBits
-bits-small none p = omega arith
-bits-small (some s) p = omega arith
 
 branch-small : (t : Actions) (l p : ℕ) → branchBits t l p < 65536
 unfolding branchBits
@@ -205,7 +152,7 @@ branch-small t l p = bits-small (lookup l (events t)) p
 -- the meaning is what the block's bits tell
 meaning-told : (t : Actions) → tooFar (events t) (events t) ≡ none → meaning t ≡ mapBranches signed16 (toldBody (branchBits t) t 0)
 unfolding meaning branchDistance branchBits
-meaning-told t e = sym (signed-body (events t) t (record { at = 0 }) (unfold events in e))
+meaning-told t e = sym (signed-body (events t) t (position 0) (unfold events in e))
 
 snoc-same : (x y : List ℕ) (a : ℕ) → x ++ a ∷ [] ≡ y ++ a ∷ [] → x ≡ y
 snoc-same x y a e =

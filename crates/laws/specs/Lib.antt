@@ -1,7 +1,9 @@
 pub mod Meaning
 pub mod Unpack
 pub mod Fits
+pub mod Nears
 pub mod RoundTrip
 pub mod ReadFits
 pub mod Packed
+pub mod Resolved
 pub mod Demands

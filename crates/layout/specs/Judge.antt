@@ -41,13 +41,17 @@ unfoldable pub orElse : Option Refusal → Option Refusal → Option Refusal
 orElse none o = o
 orElse (some r) o = some r
 
--- the first branch among the events that goes too far; `all` holds every label record
-unfoldable pub tooFar : List Event → List Event → Option Refusal
-tooFar all [] = none
-tooFar all (labelAt l s ∷ es) = tooFar all es
-tooFar all (branchAt l s ∷ es) = orElse (judged (lookup l all) (s .at + 2)) (tooFar all es)
-tooFar all (payloadTooLong n s ∷ es) = tooFar all es
-tooFar all (bodyTooLong n s ∷ es) = tooFar all es
+-- the first branch among the events that goes too far; `final` gives a label's final record
+unfoldable pub farBy : (ℕ → Option Position) → List Event → Option Refusal
+farBy final [] = none
+farBy final (labelAt l s ∷ es) = farBy final es
+farBy final (branchAt l s ∷ es) = orElse (judged (final l) (s .at + 2)) (farBy final es)
+farBy final (payloadTooLong n s ∷ es) = farBy final es
+farBy final (bodyTooLong n s ∷ es) = farBy final es
+
+-- the same, where `all` holds every label record
+abbrev pub tooFar : List Event → List Event → Option Refusal
+tooFar all es = farBy (λ l. lookup l all) es
 
 -- 8 and 9 before 10
 unfoldable pub judge : Actions → Option Refusal

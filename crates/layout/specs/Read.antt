@@ -34,6 +34,10 @@ deepest = 16
 pub record Place : Type 0 where
   pub at : ℕ
 
+-- the place at a number
+abbrev pub placed : ℕ → Place
+placed n = record { at = n }
+
 -- n bytes on
 abbrev pub ahead : ℕ → Place → Place
 ahead n p = record { at = p .at + n }
@@ -363,4 +367,4 @@ module _ (terms : Terms) (b : List ℕ) where
 
   -- the main body takes all of b
   unfoldable pub readMain : ℕ → Read (ActionsOf Text ℕ)
-  readMain depth = chain (readBody depth (record { at = 0 })) λ t p. ifNothingLeft (eqb (p .at) (length b)) t p
+  readMain depth = chain (readBody depth (placed 0)) λ t p. ifNothingLeft (eqb (p .at) (length b)) t p

@@ -12,7 +12,7 @@ use Rattle.layout.specs.Read.{edition1, ifWhole, ifWithin, tested, repea
 use Rattle.layout.specs.Strings.{mapValue, mapParam, mapFlat, mapOwner, mapTarget, mapAction}
 use Rattle.layout.specs.Payload.{zeroEnded, stringsBytes, constantBytes, doubleBytes, pushBytes, pushesBytes, opcode, gotoFrame2Bytes, getUrl2Bits, payload, ownerOpCode, paramsBytes, ownerFields, ownerPayload, branchOpCode, catchShape, finallyShape, catchName, tryPayload, headed, framed}
 use Rattle.layout.specs.Write.{moved, eventIf, payloadTest, bodyTest, labelsAt, events, later, recordIf, lookup, distanceBits, branchBits, blockBytes, blockSize, size, trace, bytes}
-use Rattle.layout.specs.Judge.{tooLong, distance, isNear, farUnless, judged, orElse, tooFar, judge}
+use Rattle.layout.specs.Judge.{tooLong, distance, isNear, farUnless, judged, orElse, farBy, judge}
 use Rattle.layout.specs.Cut.{trailerDistance, isMarked, cutIf, cutAt, cutIfTrailer, cutIfShort, cut}
 use Rattle.layout.specs.Pack.{unless, ifRoom, packTree, spelling, packRead, packCut, pack, output}
 
@@ -73,5 +73,5 @@ AllHold [] = Unit {0}
 AllHold (x ∷ xs) = Holds x × AllHold xs
 
 pub sums-hold : AllHold byHand
-unfolding byHand sheetOf each pick firstWith le16 le32 bit smallByte byte smallOpCodes opcodes opcodeOf kindByte pushKinds kindOf edition1 ifWhole ifWithin tested repeat firstZero ifNoZero ifNothingLeft readU8 readU16 readU32 readU64 readBytes readFlag readSpelling readCounted hasCatch hasFinally hasRegister isShape readString readValueOf readValueIf readValue readParam readLabel readEntries readCatchTarget readCatch readFinally readTry readFields readFieldsIf readAction readActions readBodyWith readBody readMain mapValue mapParam mapFlat mapOwner mapTarget mapAction zeroEnded stringsBytes constantBytes doubleBytes pushBytes pushesBytes opcode gotoFrame2Bytes getUrl2Bits payload ownerOpCode paramsBytes ownerFields ownerPayload branchOpCode catchShape finallyShape catchName tryPayload headed framed moved eventIf payloadTest bodyTest labelsAt events later recordIf lookup distanceBits branchBits blockBytes blockSize size trace bytes tooLong distance isNear farUnless judged orElse tooFar judge trailerDistance isMarked cutIf cutAt cutIfTrailer cutIfShort cut unless ifRoom packTree spelling packRead packCut pack output
+unfolding byHand sheetOf each pick firstWith le16 le32 bit smallByte byte smallOpCodes opcodes opcodeOf kindByte pushKinds kindOf edition1 ifWhole ifWithin tested repeat firstZero ifNoZero ifNothingLeft readU8 readU16 readU32 readU64 readBytes readFlag readSpelling readCounted hasCatch hasFinally hasRegister isShape readString readValueOf readValueIf readValue readParam readLabel readEntries readCatchTarget readCatch readFinally readTry readFields readFieldsIf readAction readActions readBodyWith readBody readMain mapValue mapParam mapFlat mapOwner mapTarget mapAction zeroEnded stringsBytes constantBytes doubleBytes pushBytes pushesBytes opcode gotoFrame2Bytes getUrl2Bits payload ownerOpCode paramsBytes ownerFields ownerPayload branchOpCode catchShape finallyShape catchName tryPayload headed framed moved eventIf payloadTest bodyTest labelsAt events later recordIf lookup distanceBits branchBits blockBytes blockSize size trace bytes tooLong distance isNear farUnless judged orElse farBy judge trailerDistance isMarked cutIf cutAt cutIfTrailer cutIfShort cut unless ifRoom packTree spelling packRead packCut pack output
 sums-hold = (refl, (refl, (refl, (refl, (refl, (refl, (refl, (refl, (refl, (refl, (refl, (refl, tt))))))))))))

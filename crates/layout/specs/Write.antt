@@ -41,6 +41,10 @@ unfoldable mutual
 pub record Position : Type 0 where
   pub at : ℕ
 
+-- the position at a number
+abbrev pub position : ℕ → Position
+position n = record { at = n }
+
 -- n bytes on
 unfoldable pub moved : ℕ → Position → Position
 moved n s = record { at = s .at + n }
@@ -106,7 +110,7 @@ unfoldable mutual
 
 -- what happens when a main body is written, from position 0
 unfoldable pub events : Actions → List Event
-events t = traceBody t (record { at = 0 })
+events t = traceBody t (position 0)
 
 -- ---- labels: "One table serves the block; the last record wins"
 

@@ -10,17 +10,17 @@ use borrow.Author.Tests.{leb-true}
 use mathlib.Core.Bool.{Bool, true, false}
 use Rattle.layout.specs.Numbers.{u16At}
 use Rattle.layout.specs.Answers as answers
-use Rattle.layout.specs.Read.{edition1, Place, ahead, Read, got, bad, Reader, chain, ifWhole, repeat, readU16, readString, readCounted, readValue}
+use Rattle.layout.specs.Read.{edition1, Place, placed, ahead, Read, got, bad, Reader, chain, ifWhole, repeat, readU16, readString, readCounted, readValue}
 use Rattle.layout.specs.Lengths.{total, stringLength}
 use Rattle.layout.specs.Pack.{spelling}
 use Rattle.laws.specs.Fits.{Bytes}
 use Rattle.laws.specs.ReadFits.{good-got, good-then, good-as, text-good, value-good, bytes-good}
 use Rattle.laws.specs.Packed.{spells}
-use Rattle.labels.specs.declared.BytePosition.{BytePosition}
-use Rattle.operands.specs.declared.Fault.{Fault}
-use Rattle.operands.specs.declared.Scan.{Scan}
-use Rattle.operands.specs.declared.Scan.the-variants as scan
-use Rattle.operands.specs.Scanned.{placed, faultOf, scanned, Roomy}
+use Rattle.positions.specs.declared.BytePosition.{BytePosition}
+use Rattle.positions.specs.declared.Fault.{Fault}
+use Rattle.positions.specs.declared.Scan.{Scan}
+use Rattle.positions.specs.declared.Scan.the-variants as scan
+use Rattle.positions.specs.Scanned.{faultOf, scanned, Roomy}
 use Rattle.operands.specs.Operands.{stringSize}
 use Rattle.lists.specs.Elements.{readNamed, namedSize, valueSize}
 use Rattle.operands.proofs.Scans.{ends-is, stops-is}

@@ -13,13 +13,13 @@ use Rattle.layout.specs.Numbers.{u16At}
 use Rattle.layout.specs.Answers.{CutShort, UnknownCode}
 use Rattle.layout.specs.PushKind.{PushKind, kindByte, pushKinds, kindOf}
 use Rattle.layout.specs.Tree.{PushValueOf, String, Null, Undefined, Register, Boolean, Float, Integer, Constant}
-use Rattle.layout.specs.Read.{Text, edition1, Read, got, chain, readU8, readU16, readU32, readU64, readBytes, readFlag, readString, readValueOf, readValueIf, readValue}
+use Rattle.layout.specs.Read.{Text, edition1, placed, Read, got, chain, readU8, readU16, readU32, readU64, readBytes, readFlag, readString, readValueOf, readValueIf, readValue}
 use Rattle.layout.specs.Strings.{mapValue}
 use Rattle.layout.specs.Lengths.{pushLength, stringLength}
-use Rattle.operands.specs.declared.Scan.{Scan}
-use Rattle.operands.specs.declared.Scan.the-variants as scan
-use Rattle.operands.specs.declared.Fault.the-variants as fault
-use Rattle.operands.specs.Scanned.{placed, faultOf, scanned}
+use Rattle.positions.specs.declared.Scan.{Scan}
+use Rattle.positions.specs.declared.Scan.the-variants as scan
+use Rattle.positions.specs.declared.Fault.the-variants as fault
+use Rattle.positions.specs.Scanned.{faultOf, scanned}
 use Rattle.operands.specs.Operands.{stringSize}
 use Rattle.lists.specs.Elements.{readNamed, namedSize, constantSize, valueSize}
 use Rattle.operands.proofs.Scans.{ends, stops, scanned-as, scanned-from, number-as}

@@ -1,17 +1,17 @@
 // Lists of strings, of parameters and of push values: read, checked (3 to 5) and measured.
 ghost use mathlib.Core.Path.{_≡_};
 ghost use Prim.Native.Nat.{_≤_};
-ghost use Rattle.layout.specs.Read.{edition1, readU16, readCounted, readValue};
+ghost use Rattle.layout.specs.Read.{edition1, placed, readU16, readCounted, readValue};
 ghost use Rattle.layout.specs.Lengths.{total};
-ghost use Rattle.operands.specs.Scanned.{placed, scanned, Roomy};
+ghost use Rattle.positions.specs.Scanned.{scanned, Roomy};
 ghost use Rattle.lists.specs.Elements.{namedSize, readNamed, constantSize, valueSize};
 use fields::u16_at;
-use labels::BytePosition;
-use operands::Fault;
-use operands::Scan;
 use operands::scan_bytes;
 use operands::scan_flag;
 use operands::scan_string;
+use positions::BytePosition;
+use positions::Fault;
+use positions::Scan;
 
 // A string after `skip` bytes: 0, or 1 for a parameter's register.
 pub fn scan_named(b: &[u8], at: usize, skip: usize, pos: BytePosition) -> Scan

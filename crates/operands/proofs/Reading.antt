@@ -10,13 +10,13 @@ use lib.Dec.{leb, eqb}
 use borrow.Author.Tests.{le-leb, lt-leb, lt-ltb, le-ltb}
 use Rattle.layout.specs.Numbers.{u16At}
 use Rattle.layout.specs.Answers.{CutShort, BadField}
-use Rattle.layout.specs.Read.{plain, edition1, ahead, got, bad, ifWhole, ifWithin, tested, firstZero, ifNoZero, readU8, readU16, readBytes, readFlag, readSpelling, readString, readLabel}
+use Rattle.layout.specs.Read.{plain, edition1, ahead, placed, got, bad, ifWhole, ifWithin, tested, firstZero, ifNoZero, readU8, readU16, readBytes, readFlag, readSpelling, readString, readLabel}
 use Rattle.layout.specs.Lengths.{stringLength}
 use Rattle.layout.specs.Pack.{spelling}
 use Rattle.fields.specs.Runs.{part, nulOr, firstNul}
-use Rattle.operands.specs.declared.Scan.the-variants as scan
-use Rattle.operands.specs.declared.Fault.the-variants as fault
-use Rattle.operands.specs.Scanned.{placed, faultOf, scanned}
+use Rattle.positions.specs.declared.Scan.the-variants as scan
+use Rattle.positions.specs.declared.Fault.the-variants as fault
+use Rattle.positions.specs.Scanned.{faultOf, scanned}
 use Rattle.operands.specs.Operands.{stringSize}
 use Rattle.operands.proofs.Scans.{ends, stops}
 

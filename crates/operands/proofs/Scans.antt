@@ -4,12 +4,12 @@ use Prim.Native.Nat.{ℕ, _+_}
 use native.Mathlib.Omega.{arith}
 use mathlib.Core.Bool.{Bool, true, false}
 use Rattle.layout.specs.Answers as answers
-use Rattle.layout.specs.Read.{Place, Read, got, bad, Reader, chain, ifWhole}
-use Rattle.labels.specs.declared.BytePosition.{BytePosition}
-use Rattle.operands.specs.declared.Fault.{Fault}
-use Rattle.operands.specs.declared.Scan.{Scan}
-use Rattle.operands.specs.declared.Scan.the-variants as scan
-use Rattle.operands.specs.Scanned.{placed, faultOf, meant, scanned}
+use Rattle.layout.specs.Read.{Place, placed, Read, got, bad, Reader, chain, ifWhole}
+use Rattle.positions.specs.declared.BytePosition.{BytePosition}
+use Rattle.positions.specs.declared.Fault.{Fault}
+use Rattle.positions.specs.declared.Scan.{Scan}
+use Rattle.positions.specs.declared.Scan.the-variants as scan
+use Rattle.positions.specs.Scanned.{faultOf, meant, scanned}
 
 module _ {A : Type 0} (size : A → ℕ) (pos : ℕ) where
   -- an answer that ends says what was read

@@ -1,2 +1,1 @@
-pub mod Scanned
 pub mod Operands

@@ -3,27 +3,14 @@
 ghost use mathlib.Core.Path.{_≡_};
 ghost use Prim.Native.Nat.{_≤_};
 ghost use lib.ListN.{length};
-ghost use Rattle.layout.specs.Read.{edition1, readBytes, readFlag, readLabel, readString};
-ghost use Rattle.operands.specs.Scanned.{placed, scanned, Roomy};
+ghost use Rattle.layout.specs.Read.{edition1, placed, readBytes, readFlag, readLabel, readString};
+ghost use Rattle.positions.specs.Scanned.{scanned, Roomy};
 ghost use Rattle.operands.specs.Operands.{stringSize};
 use fields::first_nul;
 use fields::u16_at;
-use labels::BytePosition;
-
-// What reading can meet: 3 to 7 of document 01.
-pub enum Fault {
-    CutShort,
-    UnknownCode,
-    BadField,
-    TooDeep,
-    LeftOver,
-}
-
-// The place where reading ended and the position that writing would have reached, or a fault and its place.
-pub enum Scan {
-    Ends(usize, BytePosition),
-    Stops(Fault, usize),
-}
+use positions::BytePosition;
+use positions::Fault;
+use positions::Scan;
 
 // n bytes.
 pub fn scan_bytes(b: &[u8], at: usize, n: usize, pos: BytePosition) -> Scan

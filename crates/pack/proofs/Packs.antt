@@ -19,11 +19,11 @@ use Rattle.layout.specs.Order.{signed64, long-first, far-next}
 use Rattle.layout.specs.Cut.{Cut, main, uncut, cut}
 use Rattle.laws.specs.Fits.{Bytes}
 use Rattle.laws.specs.Packed.{ReadsMain}
-use Rattle.labels.specs.declared.BytePosition.{BytePosition}
-use Rattle.operands.specs.declared.Fault.{Fault}
-use Rattle.operands.specs.declared.Scan.{Scan}
-use Rattle.operands.specs.declared.Scan.the-variants as scan
-use Rattle.operands.specs.Scanned.{faultOf, meant}
+use Rattle.positions.specs.declared.BytePosition.{BytePosition}
+use Rattle.positions.specs.declared.Fault.{Fault}
+use Rattle.positions.specs.declared.Scan.{Scan}
+use Rattle.positions.specs.declared.Scan.the-variants as scan
+use Rattle.positions.specs.Scanned.{faultOf, meant}
 use Rattle.operands.proofs.Scans.{meant-back}
 use Rattle.scan.specs.Mains.{Holds, MainScanned, whole, stopped}
 use Rattle.cut.specs.Cuts as cuts
@@ -34,8 +34,8 @@ use Rattle.judge.specs.Judging.{Says, near, far, MainJudged}
 use Rattle.judge.specs.declared.Verdict.{Verdict}
 use Rattle.judge.specs.declared.Verdict.the-variants as verdict
 use Rattle.answer.specs.Answered.{number, value, Answered}
-use Rattle.room.specs.Near.{MainNear, MainPacked}
-use Rattle.room.proofs.Nears.{refused, packed-by}
+use Rattle.if_room.specs.Near.{MainNear, MainPacked}
+use Rattle.if_room.proofs.Nears.{refused, packed-by}
 use Rattle.pack.specs.Steps.{TellsFault, MainWhole, MainShort}
 use Rattle.answer.specs.declared.Answer.{Answer}
 use Rattle.answer.specs.declared.Answer.the-variants as answer

@@ -7,9 +7,9 @@ use lib.ListN.{length}
 use Rattle.layout.specs.Answers.{Told, lengthOf, Refused, ReadingFault}
 use Rattle.layout.specs.Write.{events}
 use Rattle.layout.specs.Judge.{tooLong}
-use Rattle.labels.specs.declared.BytePosition.{BytePosition}
-use Rattle.operands.specs.declared.Fault.{Fault}
-use Rattle.operands.specs.Scanned.{meant}
+use Rattle.positions.specs.declared.BytePosition.{BytePosition}
+use Rattle.positions.specs.declared.Fault.{Fault}
+use Rattle.positions.specs.Scanned.{meant}
 use Rattle.scan.specs.Mains.{Holds}
 use Rattle.labels.specs.Mains.{MainMeasured}
 use Rattle.answer.specs.declared.Answer.{Answer}

@@ -4,17 +4,17 @@ ghost use lib.ListN.{length};
 ghost use Rattle.layout.specs.Read.{edition1, deepest, readMain};
 ghost use Rattle.layout.specs.Pack.{packRead, Outcome};
 ghost use Rattle.answer.specs.Answered.{number, value, Answered};
-ghost use Rattle.room.specs.Near.{MainPacked};
+ghost use Rattle.if_room.specs.Near.{MainPacked};
 ghost use Rattle.pack.specs.Steps.{TellsFault, MainWhole, MainShort};
 use answer::Answer;
 use cut::CutMain;
 use cut::cut_main;
+use if_room::pack_near;
 use judge::Verdict;
 use judge::judge_main;
-use labels::BytePosition;
-use operands::Fault;
-use operands::Scan;
-use room::pack_near;
+use positions::BytePosition;
+use positions::Fault;
+use positions::Scan;
 use scan::scan_main;
 
 // 3 to 7, at a place of the sheet.

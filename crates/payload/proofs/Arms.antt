@@ -11,7 +11,7 @@ use borrow.Author.Tests.{eqb-true, eqb-false, ne-eqb, le-ltb}
 use Rattle.layout.specs.Lists.{each, pick, firstWith}
 use Rattle.layout.specs.OpCode.{OpCode, SmallOpCode, smallByte, byte, smallOpCodes, opcodes, opcodeOf}
 use Rattle.layout.specs.Tree.{FlatOf, Small, GotoFrame, GetUrl, StoreRegister, ConstantPool, WaitForFrame, SetTarget, GotoLabel, WaitForFrame2, Push, GetUrl2, GotoFrame2, OwnerOf, With, DefineFunction, DefineFunction2, Jump, If, PushValueOf, FunctionParamOf, ActionOf, flat, owner, ActionsOf}
-use Rattle.layout.specs.Read.{Text, edition1, Place, Read, got, bad, Reader, chain, tested, repeat, readU8, readU16, readBytes, readFlag, readString, readCounted, readValue, readParam, readLabel, readFields, readFieldsIf}
+use Rattle.layout.specs.Read.{Text, edition1, Place, placed, Read, got, bad, Reader, chain, tested, repeat, readU8, readU16, readBytes, readFlag, readString, readCounted, readValue, readParam, readLabel, readFields, readFieldsIf}
 use Rattle.layout.specs.Strings.{mapFlat, mapValue, mapParam, mapOwner, mapAction}
 use Rattle.layout.specs.Payload.{opcode, payload, headed, framed}
 use Rattle.layout.specs.Numbers.{le16}
@@ -21,22 +21,23 @@ use Rattle.layout.specs.Pack.{spelling}
 use Rattle.laws.specs.Fits.{Bytes, Clean, ParamFits}
 use Rattle.laws.specs.ReadFits.{Good, fine, good-then, good-got, u8-good, u16-good, tested-good, text-good, param-good, counted-good}
 use Rattle.laws.specs.Packed.{spells}
-use Rattle.operands.specs.Scanned.{placed, faultOf, scanned}
+use Rattle.positions.specs.Scanned.{faultOf, scanned}
 use Rattle.operands.specs.Operands.{stringSize}
 use Rattle.lists.specs.Elements.{readNamed, namedSize, valueSize}
-use Rattle.operands.specs.declared.Scan.{Scan}
+use Rattle.positions.specs.declared.Scan.{Scan}
 use Rattle.operands.proofs.Scans.{number-as}
-use Rattle.walk.specs.declared.Laid.{Laid}
-use Rattle.walk.specs.declared.Laid.the-variants as laid
+use Rattle.measure.specs.declared.Laid.{Laid}
+use Rattle.measure.specs.declared.Laid.the-variants as laid
 use Rattle.action_fields.specs.Fields.{readWaitForFrame, readGotoFrame2, readGetUrl2, readGetUrl, flatSize, readFunction, readFunction2, ownerSize, readCaught, caughtSize, bodiesAfter}
-use Rattle.walk.specs.Walk.{state, notedIf, noteAll, run, outcome, branches, measured, actionSize, actionTrace, bodyLength, inBodies, bodiesEvents, Onward, Laying, laidAs, branchLaid, notedFrom, Tried}
-use Rattle.walk.proofs.Runs.{noted-short, outcome-got, measured-got}
+use Rattle.laws.specs.Resolved.{actionSize, actionTrace, bodyLength}
+use Rattle.measure.specs.Walk.{state, notedIf, noteAll, run, outcome, branches, measured, inBodies, bodiesEvents, Onward, Laying, laidAs, branchLaid, notedFrom, Tried}
+use Rattle.measure.proofs.Runs.{noted-short, outcome-got, measured-got}
 use Rattle.labels.specs.Table.{recordAll}
-use Rattle.operands.specs.declared.Fault.the-variants as fault
+use Rattle.positions.specs.declared.Fault.the-variants as fault
 use Rattle.action_fields.proofs.Steps.{total-each, strings-total, scanned-list, named-plain}
 use Rattle.payload.proofs.Branches.{label-here}
-use Rattle.walk.proofs.Tries.{lay-try}
-use Rattle.walk.proofs.Layings.{Long, lay-long, lay-flat, lay-branch, owner-outcome, owner-measured, lay-owner}
+use Rattle.measure.proofs.Tries.{lay-try}
+use Rattle.measure.proofs.Layings.{Long, lay-long, lay-flat, lay-branch, owner-outcome, owner-measured, lay-owner}
 
 -- two chains in a row are one
 regroup : {A B C : Type 0} (x : Read A) (k : A → B) (g : B → C) → chain x (λ a q. got (g (k a)) q) ≡ chain (chain x (λ a q. got (k a) q)) (λ y r. got (g y) r)

@@ -6,17 +6,17 @@ use native.Mathlib.Nat.{add-zero}
 use mathlib.Core.List.{List}
 use lib.ListN.{length}
 use Rattle.layout.specs.Numbers.{u16At}
-use Rattle.layout.specs.Read.{edition1, Place, Read, got, bad, readLabel}
+use Rattle.layout.specs.Read.{edition1, Place, placed, Read, got, bad, readLabel}
 use Rattle.laws.specs.ReadFits.{good-got}
-use Rattle.labels.specs.declared.BytePosition.{BytePosition}
+use Rattle.positions.specs.declared.BytePosition.{BytePosition}
 use Rattle.labels.proofs.Labels.{label-is}
-use Rattle.operands.specs.declared.Fault.{Fault}
-use Rattle.operands.specs.declared.Scan.{Scan}
-use Rattle.operands.specs.declared.Scan.the-variants as scan
-use Rattle.operands.specs.Scanned.{placed, scanned}
+use Rattle.positions.specs.declared.Fault.{Fault}
+use Rattle.positions.specs.declared.Scan.{Scan}
+use Rattle.positions.specs.declared.Scan.the-variants as scan
+use Rattle.positions.specs.Scanned.{scanned}
 use Rattle.operands.proofs.Scans.{ends-is}
-use Rattle.walk.specs.declared.Laid.the-variants as laid
-use Rattle.walk.specs.Walk.{branchLaid}
+use Rattle.measure.specs.declared.Laid.the-variants as laid
+use Rattle.measure.specs.Walk.{branchLaid}
 
 -- the label that was read is the number there, and in range
 pub label-here : (b : List ℕ) (at : ℕ) → at ≤ length b → (l : ℕ) (q : Place) → readLabel edition1 b 0 (placed at) ≡ got l q → (l ≡ u16At b at) × (l < 1024) × (at + 2 ≤ length b)

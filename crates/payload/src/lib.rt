@@ -4,9 +4,9 @@ ghost use mathlib.Core.Path.{_≡_};
 ghost use Prim.Native.Nat.{_+_, _≤_, _<_};
 ghost use lib.ListN.{length, getD};
 ghost use Rattle.layout.specs.OpCode.{opcodeOf};
-ghost use Rattle.layout.specs.Read.{edition1, readLabel, readFieldsIf};
-ghost use Rattle.operands.specs.Scanned.{placed, scanned, Roomy};
-ghost use Rattle.walk.specs.Walk.{Laying, branchLaid, Tried};
+ghost use Rattle.layout.specs.Read.{edition1, placed, readLabel, readFieldsIf};
+ghost use Rattle.positions.specs.Scanned.{scanned, Roomy};
+ghost use Rattle.measure.specs.Walk.{Laying, branchLaid, Tried};
 ghost use Rattle.action_fields.specs.Fields.{readCaught, caughtSize, bodiesAfter};
 use action_fields::scan_catch;
 use action_fields::scan_function;
@@ -16,18 +16,18 @@ use action_fields::scan_get_url2;
 use action_fields::scan_goto_frame2;
 use action_fields::scan_wait_for_frame;
 use fields::u16_at;
-use labels::BytePosition;
 use lists::scan_push;
 use lists::scan_strings;
+use measure::Laid;
+use measure::flat_payload;
+use measure::long_payload;
 use opcode::OpCode;
-use operands::Fault;
-use operands::Scan;
 use operands::scan_bytes;
 use operands::scan_label;
 use operands::scan_string;
-use walk::Laid;
-use walk::flat_payload;
-use walk::long_payload;
+use positions::BytePosition;
+use positions::Fault;
+use positions::Scan;
 
 // Jump and If: a label.
 fn scan_branch(b: &[u8], at: usize, pos: BytePosition) -> Laid

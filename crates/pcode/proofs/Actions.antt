@@ -12,10 +12,10 @@ use Rattle.layout.specs.Lists.{firstWith, first-with, pick, each}
 use Rattle.layout.specs.Numbers.{u16At}
 use Rattle.layout.specs.OpCode.{OpCode, smallByte, byte, smallOpCodes, opcodes, opcodeOf}
 use Rattle.layout.specs.Tree.{ActionOf, ActionsOf}
-use Rattle.layout.specs.Read.{Text, Terms, Place, Reader, isShape, hasCatch, hasRegister, hasFinally, readU8, readU16, readString, readParam, readValue, readLabel, readCatchTarget, readCatch, readFinally, readTry, readFields, readFieldsIf, readAction}
+use Rattle.layout.specs.Read.{Text, Terms, Place, placed, Reader, isShape, hasCatch, hasRegister, hasFinally, readU8, readU16, readString, readParam, readValue, readLabel, readCatchTarget, readCatch, readFinally, readTry, readFields, readFieldsIf, readAction}
 use Rattle.pcode.specs.declared.Action.{Action}
 use Rattle.pcode.specs.declared.Action.the-variants as code
-use Rattle.pcode.specs.Shown.{place, spanAt, after, functionAt, catchAt, afterCatch, afterTry, tryAt, isText, ShownTarget, nothing, variable, register, Shown, small, gotoFrame, getUrl, storeRegister, constantPool, waitForFrame, setTarget, gotoLabel, waitForFrame2, defineFunction2, try, with, push, jump, getUrl2, defineFunction, if, gotoFrame2, ActionReads, ShowsAction}
+use Rattle.pcode.specs.Shown.{spanAt, after, functionAt, catchAt, afterCatch, afterTry, tryAt, isText, ShownTarget, nothing, variable, register, Shown, small, gotoFrame, getUrl, storeRegister, constantPool, waitForFrame, setTarget, gotoLabel, waitForFrame2, defineFunction2, try, with, push, jump, getUrl2, defineFunction, if, gotoFrame2, ActionReads, ShowsAction}
 use Rattle.pcode.proofs.Arms.{NoneOf, isOne, barred}
 use Rattle.pcode.proofs.Readings.{Gives, gives, refuses, Exactly, given, next, then, itself, weaker, first, u8, u16, passed, flag, counted, string}
 
@@ -74,7 +74,7 @@ taken b OpCode.GotoFrame2 p = p + 3
 module _ (terms : Terms) (b : List ℕ) (p : ℕ) (l : p ≤ length b) where
   -- the target that the code takes for a shape's bits shows the one that the definitions read
   target-shown : (shape : ℕ) (c r : Bool) → hasCatch shape ≡ c → hasRegister shape ≡ r
-      → Gives (λ t q. ShownTarget b shape (catchAt c r b p) t × (q ≡ place (afterCatch c r b p)) × (afterCatch c r b p ≤ length b)) (readCatchTarget terms b c r (place p))
+      → Gives (λ t q. ShownTarget b shape (catchAt c r b p) t × (q ≡ placed (afterCatch c r b p)) × (afterCatch c r b p ≤ length b)) (readCatchTarget terms b c r (placed p))
   unfolding readCatchTarget
   target-shown shape true true e f = next _ (u8 b p) (λ m. gives (register e f, refl, m))
   target-shown shape true false e f = next _ (string terms b p) (λ m. gives (variable e f (isText m), refl, m))
@@ -91,13 +91,13 @@ module _ (terms : Terms) (b : List ℕ) (inner : Reader (ActionsOf Text ℕ)) (p
   Taken r m a q = Shown terms b inner p r a q × (m ≤ length b)
 
   -- a label number
-  label : Gives (Exactly ((p + 2 ≤ length b) × (u16At b p < terms .labelBound)) (u16At b p) (place (p + 2))) (readLabel terms b 0 (place p))
+  label : Gives (Exactly ((p + 2 ≤ length b) × (u16At b p < terms .labelBound)) (u16At b p) (placed (p + 2))) (readLabel terms b 0 (placed p))
   unfolding readLabel
   label = weaker (passed b p (λ n. ltb n (terms .labelBound) && leb 0 n) (readU16 b) (u16 b p)) (λ h. (h .0, ltb-true _ _ (and-left _ _ (h .1))))
 
   -- a Try, whose shape was read
   try-shown : (shape : ℕ) → getD b p 0 ≡ shape → p + 1 ≤ length b → isShape shape ≡ true
-      → Gives (Taken (tryAt b p) (taken b OpCode.Try p)) (readTry terms b inner shape (place (p + 1)))
+      → Gives (Taken (tryAt b p) (taken b OpCode.Try p)) (readTry terms b inner shape (placed (p + 1)))
   unfolding readTry
   try-shown shape s m e =
       then (target-shown terms b (p + 1) m shape (hasCatch shape) (hasRegister shape) refl refl)
@@ -106,7 +106,7 @@ module _ (terms : Terms) (b : List ℕ) (inner : Reader (ActionsOf Text ℕ)) (p
       (λ f u k. gives (rw s (try e (h .0) (ap inner (sym (h .1)) ∙ i) j k, h .2))))))
 
   -- what the code takes for an opcode shows the action that the definitions read
-  fields-shown : (op : OpCode) → Gives (Taken (actionAt b op p) (taken b op p)) (readFields terms b inner op (place p))
+  fields-shown : (op : OpCode) → Gives (Taken (actionAt b op p) (taken b op p)) (readFields terms b inner op (placed p))
   unfolding readFields
   fields-shown (OpCode.Small op) = gives (small refl, l)
   fields-shown OpCode.GotoFrame = next _ (u16 b p) (λ m. gives (gotoFrame, m))
@@ -119,10 +119,10 @@ module _ (terms : Terms) (b : List ℕ) (inner : Reader (ActionsOf Text ℕ)) (p
   fields-shown OpCode.WaitForFrame2 = next _ (u8 b p) (λ m. gives (waitForFrame2, m))
   fields-shown OpCode.DefineFunction2 =
       next _ (string terms b p) (λ m. then (counted b (after (spanAt b p)) (readParam terms b)) (λ ps r n. next _ (u8 b (r .at))
-      (λ o. next _ (passed b (r .at + 1) (λ f. ltb f 512) (readU16 b) (u16 b (r .at + 1))) (λ h. then (itself (inner (place (r .at + 1 + 2))))
+      (λ o. next _ (passed b (r .at + 1) (λ f. ltb f 512) (readU16 b) (u16 b (r .at + 1))) (λ h. then (itself (inner (placed (r .at + 1 + 2))))
       (λ a q e. gives (defineFunction2 (isText m) (n .1) (omega (arith, h .0)) (ltb-true _ _ (h .1)) (rw (three' (r .at)) at e), n .0))))))
   fields-shown OpCode.Try = next _ (passed b p isShape (readU8 b) (u8 b p)) (λ m. try-shown (getD b p 0) refl (m .0) (m .1))
-  fields-shown OpCode.With = then (itself (inner (place p))) (λ x q e. gives (with e, l))
+  fields-shown OpCode.With = then (itself (inner (placed p))) (λ x q e. gives (with e, l))
   fields-shown OpCode.Push = then (counted b p (readValue terms b)) (λ xs q m. gives (push (m .1), m .0))
   fields-shown OpCode.Jump = next _ label (λ m. gives (jump (m .1), m .0))
   fields-shown OpCode.GetUrl2 =
@@ -178,7 +178,7 @@ arm-listed isGotoFrame2 = refl
 
 -- the same by the byte that stands at p
 action-taken : (b : List ℕ) (p : ℕ) {n : ℕ} {op : OpCode} → Arm n op → getD b p 0 ≡ n → (terms : Terms) (inner : Reader (ActionsOf Text ℕ))
-    → Gives (λ a q. Shown terms b inner (p + 1) (actionAt b op (p + 1)) a q × (taken b op (p + 1) ≤ length b)) (readAction terms b inner (place p))
+    → Gives (λ a q. Shown terms b inner (p + 1) (actionAt b op (p + 1)) a q × (taken b op (p + 1) ≤ length b)) (readAction terms b inner (placed p))
 unfolding readAction readFieldsIf
 action-taken b p {op = op} arm e terms inner = next _ (u8 b p) (λ l. rw (e, arm-listed arm) (fields-shown terms b inner (p + 1) l op))
 
@@ -203,7 +203,7 @@ fieldBytes = 0x9F ∷ 0x9D ∷ 0x9B ∷ 0x9A ∷ 0x99 ∷ 0x96 ∷ 0x94 ∷ 0x8F
 
 module _ (terms : Terms) (b : List ℕ) (inner : Reader (ActionsOf Text ℕ)) (p n : ℕ) (none-of : NoneOf fieldBytes n) where
   -- an opcode that has no fields is all that the code takes
-  small-shown : (op : OpCode) → byte op ≡ n → Gives (Shown terms b inner p (code.Small n)) (readFields terms b inner op (place p))
+  small-shown : (op : OpCode) → byte op ≡ n → Gives (Shown terms b inner p (code.Small n)) (readFields terms b inner op (placed p))
   unfolding readFields byte isOne pick
   small-shown (OpCode.Small op) e = gives (small e)
   small-shown OpCode.GotoFrame e = absurd (barred fieldBytes none-of e refl)
@@ -224,7 +224,7 @@ module _ (terms : Terms) (b : List ℕ) (inner : Reader (ActionsOf Text ℕ)) (p
   small-shown OpCode.If e = absurd (barred fieldBytes none-of e refl)
   small-shown OpCode.GotoFrame2 e = absurd (barred fieldBytes none-of e refl)
 
-  small-if : (o : Option OpCode) (q : Place) → opcodeOf n ≡ o → Gives (Shown terms b inner p (code.Small n)) (readFieldsIf terms b inner o q (place p))
+  small-if : (o : Option OpCode) (q : Place) → opcodeOf n ≡ o → Gives (Shown terms b inner p (code.Small n)) (readFieldsIf terms b inner o q (placed p))
   unfolding readFieldsIf
   small-if (some op) q e = small-shown op (unfold opcodeOf in first-with byte n opcodes op e)
   small-if none q e = refuses

@@ -10,9 +10,9 @@ use lib.Dec.{leb, ltb, eqb}
 use borrow.Author.Tests.{leb-true, ltb-true}
 use Rattle.layout.specs.Numbers.{u16At, u32At, u64At}
 use Rattle.layout.specs.Answers.{Fault}
-use Rattle.layout.specs.Read.{plain, Terms, Place, Read, got, bad, Reader, chain, ifWhole, ifWithin, tested, repeat, firstZero, ifNoZero, readU8, readU16, readU32, readU64, readBytes, readFlag, readSpelling, readCounted, readString}
+use Rattle.layout.specs.Read.{plain, Terms, Place, placed, Read, got, bad, Reader, chain, ifWhole, ifWithin, tested, repeat, firstZero, ifNoZero, readU8, readU16, readU32, readU64, readBytes, readFlag, readSpelling, readCounted, readString}
 use Rattle.fields.specs.Runs.{part}
-use Rattle.pcode.specs.Shown.{place, spanAt, after}
+use Rattle.pcode.specs.Shown.{spanAt, after}
 
 -- a reading refuses, or what it gives has the property
 pub data Gives {A : Type 0} (P : A → Place → Type 0) : Read A → Type 0 where
@@ -85,44 +85,44 @@ noZero o (some z) h = refuses
 
 module _ (b : List ℕ) (p : ℕ) where
   -- numbers
-  pub u8 : Gives (Exactly (p + 1 ≤ length b) (getD b p 0) (place (p + 1))) (readU8 b (place p))
+  pub u8 : Gives (Exactly (p + 1 ≤ length b) (getD b p 0) (placed (p + 1))) (readU8 b (placed p))
   unfolding readU8
   u8 = whole (leb (p + 1) (length b)) _ (leb-true _ _)
 
-  pub u16 : Gives (Exactly (p + 2 ≤ length b) (u16At b p) (place (p + 2))) (readU16 b (place p))
+  pub u16 : Gives (Exactly (p + 2 ≤ length b) (u16At b p) (placed (p + 2))) (readU16 b (placed p))
   unfolding readU16
   u16 = whole (leb (p + 2) (length b)) _ (leb-true _ _)
 
-  pub u32 : Gives (Exactly (p + 4 ≤ length b) (u32At b p) (place (p + 4))) (readU32 b (place p))
+  pub u32 : Gives (Exactly (p + 4 ≤ length b) (u32At b p) (placed (p + 4))) (readU32 b (placed p))
   unfolding readU32
   u32 = whole (leb (p + 4) (length b)) _ (leb-true _ _)
 
-  pub u64 : Gives (Exactly (p + 8 ≤ length b) (u64At b p) (place (p + 8))) (readU64 b (place p))
+  pub u64 : Gives (Exactly (p + 8 ≤ length b) (u64At b p) (placed (p + 8))) (readU64 b (placed p))
   unfolding readU64
   u64 = whole (leb (p + 8) (length b)) _ (leb-true _ _)
 
   -- a field that passes a test
-  pub passed : {A X : Type 0} {x : A} {q : Place} (test : A → Bool) (read : Reader A) → Gives (Exactly X x q) (read (place p)) → Gives (Exactly (X × (test x ≡ true)) x q) (tested test read (place p))
+  pub passed : {A X : Type 0} {x : A} {q : Place} (test : A → Bool) (read : Reader A) → Gives (Exactly X x q) (read (placed p)) → Gives (Exactly (X × (test x ≡ true)) x q) (tested test read (placed p))
   unfolding tested
   passed {x = x} test read h = next _ h (λ l. within (test x) _ (λ e. (l, e)))
 
   -- a byte that is 0 or 1
-  pub flag : Gives (Exactly ((p + 1 ≤ length b) × (getD b p 0 < 2)) (eqb (getD b p 0) 1) (place (p + 1))) (readFlag b (place p))
+  pub flag : Gives (Exactly ((p + 1 ≤ length b) × (getD b p 0 < 2)) (eqb (getD b p 0) 1) (placed (p + 1))) (readFlag b (placed p))
   unfolding readFlag
   flag = next _ (passed (λ n. ltb n 2) (readU8 b) u8) (λ l. gives (exactly (l .0, ltb-true _ _ (l .1))))
 
   -- a count, and as many of the same
-  pub counted : {A : Type 0} (read : Reader A) → Gives (λ xs q. (p + 2 ≤ length b) × (repeat read (u16At b p) (place (p + 2)) ≡ got xs q)) (readCounted b read (place p))
+  pub counted : {A : Type 0} (read : Reader A) → Gives (λ xs q. (p + 2 ≤ length b) × (repeat read (u16At b p) (placed (p + 2)) ≡ got xs q)) (readCounted b read (placed p))
   unfolding readCounted
-  counted read = next _ u16 (λ l. also l (itself (repeat read (u16At b p) (place (p + 2)))))
+  counted read = next _ u16 (λ l. also l (itself (repeat read (u16At b p) (placed (p + 2)))))
 
   -- n bytes, none zero
-  spelling : (n : ℕ) → Gives (Exactly (p + n ≤ length b) (part b p n) (place (p + n))) (readSpelling b n (place p))
+  spelling : (n : ℕ) → Gives (Exactly (p + n ≤ length b) (part b p n) (placed (p + n))) (readSpelling b n (placed p))
   unfolding readSpelling readBytes
   spelling n = next _ (whole (leb (p + n) (length b)) _ (leb-true _ _)) (λ l. noZero _ (firstZero 0 (part b p n)) l)
 
 module _ (terms : Terms) (b : List ℕ) (p : ℕ) where
   -- a string, whose bytes are those of the span at p
-  pub string : Gives (Exactly (after (spanAt b p) ≤ length b) (plain (part b (p + 2) (u16At b p))) (place (after (spanAt b p)))) (readString terms b (place p))
+  pub string : Gives (Exactly (after (spanAt b p) ≤ length b) (plain (part b (p + 2) (u16At b p))) (placed (after (spanAt b p)))) (readString terms b (placed p))
   unfolding readString
   string = next _ (u16 b p) (λ l. next _ (spelling b (p + 2) (u16At b p)) (λ m. gives (exactly m)))

@@ -9,10 +9,9 @@ use lib.Dec.{ltb, leb, eqb}
 use borrow.Author.Tests.{ltb-true}
 use Rattle.layout.specs.OpCode.{OpCode, opcodeOf}
 use Rattle.layout.specs.Tree.{Action, ActionOf, flat, branch, owner, Try, ActionList, empty, more, Actions, ActionsOf, body, Catch, CatchTargetOf, noCatch, catch, Finally, noFinally, finally}
-use Rattle.layout.specs.Read.{Text, edition1, deepest, Place, Read, got, Reader, ifNothingLeft, isShape, hasCatch, hasFinally, hasRegister, tested, readU8, readU16, readFlag, readCounted, readString, readValue, readParam, readLabel, readEntries, readCatchTarget, readCatch, readFinally, readTry, readFields, readFieldsIf, readAction, readActions, readBodyWith, readBody, readMain}
+use Rattle.layout.specs.Read.{Text, edition1, deepest, Place, placed, Read, got, Reader, ifNothingLeft, isShape, hasCatch, hasFinally, hasRegister, tested, readU8, readU16, readFlag, readCounted, readString, readValue, readParam, readLabel, readEntries, readCatchTarget, readCatch, readFinally, readTry, readFields, readFieldsIf, readAction, readActions, readBodyWith, readBody, readMain}
 use Rattle.layout.specs.Strings.{mapAction, mapActions, mapBody, mapCatch, mapFinally}
 use Rattle.layout.specs.Pack.{spelling}
-use Rattle.pcode.specs.Shown.{place}
 use Rattle.pcode.proofs.Readings.{Gives, gives, refuses, given, Exactly, exactly, then, itself, u16, passed}
 
 -- ---- labels under a bound
@@ -146,10 +145,10 @@ module _ (b : List ℕ) where
 -- ---- the main body
 
 -- A main body that reads whole is read as a body, with nothing left.
-pub main-body : (b : List ℕ) (x : ActionsOf Text ℕ) (q : Place) → readMain edition1 b deepest ≡ got x q → readBody edition1 b deepest (place 0) ≡ got x q
+pub main-body : (b : List ℕ) (x : ActionsOf Text ℕ) (q : Place) → readMain edition1 b deepest ≡ got x q → readBody edition1 b deepest (placed 0) ≡ got x q
 unfolding readMain
-main-body b x q e = given {P = λ y r. readBody edition1 b deepest (place 0) ≡ got y r} (then (itself (readBody edition1 b deepest (place 0))) (λ y r f. left (eqb (r .at) (length b)) y r f)) e
+main-body b x q e = given {P = λ y r. readBody edition1 b deepest (placed 0) ≡ got y r} (then (itself (readBody edition1 b deepest (placed 0))) (λ y r f. left (eqb (r .at) (length b)) y r f)) e
   where
-    left : (t : Bool) (y : ActionsOf Text ℕ) (r : Place) → readBody edition1 b deepest (place 0) ≡ got y r → Gives (λ z s. readBody edition1 b deepest (place 0) ≡ got z s) (ifNothingLeft t y r)
+    left : (t : Bool) (y : ActionsOf Text ℕ) (r : Place) → readBody edition1 b deepest (placed 0) ≡ got y r → Gives (λ z s. readBody edition1 b deepest (placed 0) ≡ got z s) (ifNothingLeft t y r)
     left true y r f = unfold ifNothingLeft in gives f
     left false y r f = unfold ifNothingLeft in refuses

@@ -8,10 +8,10 @@ use Rattle.layout.specs.Lists.{firstWith, first-with, pick}
 use Rattle.layout.specs.Numbers.{u16At, u32At, u64At}
 use Rattle.layout.specs.PushKind.{PushKind, kindByte, pushKinds, kindOf}
 use Rattle.layout.specs.Tree.{PushValueOf}
-use Rattle.layout.specs.Read.{Text, Terms, Place, readValueOf, readValueIf, readValue}
+use Rattle.layout.specs.Read.{Text, Terms, Place, placed, readValueOf, readValueIf, readValue}
 use Rattle.pcode.specs.declared.PushAt.{PushAt}
 use Rattle.pcode.specs.declared.PushValue.the-variants as value
-use Rattle.pcode.specs.Shown.{place, pushAt, spanAt, after, isText, ShownValue, string, null, undefined, register, boolean, float, integer, constant, ValueReads, ShowsValue}
+use Rattle.pcode.specs.Shown.{pushAt, spanAt, after, isText, ShownValue, string, null, undefined, register, boolean, float, integer, constant, ValueReads, ShowsValue}
 use Rattle.pcode.proofs.Readings as reading
 use Rattle.pcode.proofs.Arms.{NoneOf, isOne, barred}
 use Rattle.pcode.proofs.Readings.{Gives, gives, refuses, given, next, anyway, first, u8}
@@ -29,11 +29,11 @@ valueAt b PushKind.Constant p = pushAt (value.Constant (u16At b p)) (p + 2)
 
 -- a value and the place after it are those that r shows, and the place lies within b
 abbrev Pushed : List ℕ → PushAt → PushValueOf Text → Place → Type 0
-Pushed b r x q = ShownValue b (r .value) x × (q ≡ place (r .next)) × (r .next ≤ length b)
+Pushed b r x q = ShownValue b (r .value) x × (q ≡ placed (r .next)) × (r .next ≤ length b)
 
 module _ (b : List ℕ) (p : ℕ) (l : p ≤ length b) where
   -- what the code takes for a kind shows the value that the definitions read
-  kind-shown : (terms : Terms) (k : PushKind) → Gives (Pushed b (valueAt b k p)) (readValueOf terms b k (place p))
+  kind-shown : (terms : Terms) (k : PushKind) → Gives (Pushed b (valueAt b k p)) (readValueOf terms b k (placed p))
   unfolding readValueOf
   kind-shown terms PushKind.String = next _ (reading.string terms b p) (λ m. gives (string (isText m), refl, m))
   kind-shown terms PushKind.Null = gives (null, refl, l)
@@ -69,7 +69,7 @@ kind-listed isConstant = refl
 
 -- what the code takes for the kind that stands at p shows the value there, and the place after it
 pushed : (b : List ℕ) (p : ℕ) {n : ℕ} {k : PushKind} → KindArm n k → getD b p 0 ≡ n → (terms : Terms)
-    → Gives (Pushed b (valueAt b k (p + 1))) (readValue terms b (place p))
+    → Gives (Pushed b (valueAt b k (p + 1))) (readValue terms b (placed p))
 unfolding readValue readValueIf
 pushed b p {k = k} arm e terms = next _ (u8 b p) (λ l. rw (e, kind-listed arm) (kind-shown b (p + 1) l terms k))
 

@@ -9,7 +9,7 @@ use lib.Dec.{eqb}
 use Rattle.layout.specs.Numbers.{u16At}
 use Rattle.layout.specs.OpCode.{SmallOpCode, smallByte}
 use Rattle.layout.specs.Tree.{PushValueOf, String, Null, Undefined, Register, Boolean, Float, Integer, Constant, FunctionParamOf, Small, GotoFrame, GetUrl, StoreRegister, ConstantPool, WaitForFrame, SetTarget, GotoLabel, WaitForFrame2, Push, GetUrl2, GotoFrame2, With, DefineFunction, DefineFunction2, Jump, If, CatchTargetOf, Variable, ActionOf, flat, branch, owner, Try, ActionsOf, CatchOf, FinallyOf}
-use Rattle.layout.specs.Read.{Text, plain, Terms, Place, got, Reader, repeat, hasCatch, hasFinally, hasRegister, isShape, readString, readValue, readParam, readCatch, readFinally, readAction}
+use Rattle.layout.specs.Read.{Text, plain, Terms, Place, placed, got, Reader, repeat, hasCatch, hasFinally, hasRegister, isShape, readString, readValue, readParam, readCatch, readFinally, readAction}
 use Rattle.fields.specs.Runs.{part}
 use Rattle.pcode.specs.declared.Span.{Span}
 use Rattle.pcode.specs.declared.CatchTarget.{CatchTarget}
@@ -20,10 +20,6 @@ use Rattle.pcode.specs.declared.PushAt.{PushAt}
 use Rattle.pcode.specs.declared.Function.{Function}
 use Rattle.pcode.specs.declared.Action.{Action}
 use Rattle.pcode.specs.declared.Action.the-variants as code
-
--- the place at a number
-abbrev pub place : ℕ → Place
-place n = record { at = n }
 
 -- ---- strings and functions
 
@@ -73,11 +69,11 @@ pub record ValueReads (b : List ℕ) (p : ℕ) : Type 0 where
   pub terms : Terms
   pub value : PushValueOf Text
   pub next : Place
-  pub reads : readValue terms b (place p) ≡ got value next
+  pub reads : readValue terms b (placed p) ≡ got value next
 
 -- r shows the push value that the definitions read at p, and holds the place after it
 pub record ShowsValue (b : List ℕ) (p : ℕ) (r : PushAt) : Type 0 where
-  pub shows : (terms : Terms) (x : PushValueOf Text) (q : Place) → readValue terms b (place p) ≡ got x q → ShownValue b (r .value) x × (q ≡ place (r .next))
+  pub shows : (terms : Terms) (x : PushValueOf Text) (q : Place) → readValue terms b (placed p) ≡ got x q → ShownValue b (r .value) x × (q ≡ placed (r .next))
 
 -- ---- actions
 
@@ -114,50 +110,50 @@ pub data ShownTarget (b : List ℕ) (shape : ℕ) : CatchTarget → CatchTargetO
 -- opcode. A list is read from its first element's place on, and a body by `inner` from its place on
 pub data Shown (terms : Terms) (b : List ℕ) (inner : Reader (ActionsOf Text ℕ)) (p : ℕ) : Action → ActionOf Text ℕ → Place → Type 0 where
   -- the opcode's byte
-  small : {n : ℕ} {op : SmallOpCode} → smallByte op ≡ n → Shown terms b inner p (code.Small n) (flat (Small op)) (place p)
+  small : {n : ℕ} {op : SmallOpCode} → smallByte op ≡ n → Shown terms b inner p (code.Small n) (flat (Small op)) (placed p)
   -- the u16 at p
-  gotoFrame : {n : ℕ} → Shown terms b inner p (code.GotoFrame n) (flat (GotoFrame n)) (place (p + 2))
+  gotoFrame : {n : ℕ} → Shown terms b inner p (code.GotoFrame n) (flat (GotoFrame n)) (placed (p + 2))
   -- the string at p, and the one behind it
-  getUrl : {u t : Span} {x y : Text} → IsText b u x → IsText b t y → Shown terms b inner p (code.GetUrl u t) (flat (GetUrl x y)) (place (after t))
+  getUrl : {u t : Span} {x y : Text} → IsText b u x → IsText b t y → Shown terms b inner p (code.GetUrl u t) (flat (GetUrl x y)) (placed (after t))
   -- the byte at p
-  storeRegister : {r : ℕ} → Shown terms b inner p (code.StoreRegister r) (flat (StoreRegister r)) (place (p + 1))
+  storeRegister : {r : ℕ} → Shown terms b inner p (code.StoreRegister r) (flat (StoreRegister r)) (placed (p + 1))
   -- n strings from i on
-  constantPool : {n i : ℕ} {xs : List Text} {q : Place} → repeat (readString terms b) n (place i) ≡ got xs q
+  constantPool : {n i : ℕ} {xs : List Text} {q : Place} → repeat (readString terms b) n (placed i) ≡ got xs q
       → Shown terms b inner p (code.ConstantPool n i) (flat (ConstantPool xs)) q
   -- the u16 at p and the byte behind it
-  waitForFrame : {n k : ℕ} → Shown terms b inner p (code.WaitForFrame n k) (flat (WaitForFrame n k)) (place (p + 3))
+  waitForFrame : {n k : ℕ} → Shown terms b inner p (code.WaitForFrame n k) (flat (WaitForFrame n k)) (placed (p + 3))
   -- the string at p
-  setTarget : {s : Span} {x : Text} → IsText b s x → Shown terms b inner p (code.SetTarget s) (flat (SetTarget x)) (place (after s))
+  setTarget : {s : Span} {x : Text} → IsText b s x → Shown terms b inner p (code.SetTarget s) (flat (SetTarget x)) (placed (after s))
   -- the string at p
-  gotoLabel : {s : Span} {x : Text} → IsText b s x → Shown terms b inner p (code.GotoLabel s) (flat (GotoLabel x)) (place (after s))
+  gotoLabel : {s : Span} {x : Text} → IsText b s x → Shown terms b inner p (code.GotoLabel s) (flat (GotoLabel x)) (placed (after s))
   -- the byte at p
-  waitForFrame2 : {k : ℕ} → Shown terms b inner p (code.WaitForFrame2 k) (flat (WaitForFrame2 k)) (place (p + 1))
+  waitForFrame2 : {k : ℕ} → Shown terms b inner p (code.WaitForFrame2 k) (flat (WaitForFrame2 k)) (placed (p + 1))
   -- the name at p and the parameters from their place on; behind them, at r, a byte, a u16 under 512 and the body
   defineFunction2 : {f : Function} {x : Text} {ps : List (FunctionParamOf Text)} {r : Place} {a : ActionsOf Text ℕ} {q : Place} → IsText b (f .name) x
-      → repeat (readParam terms b) (f .count) (place (f .at)) ≡ got ps r → r .at + 3 ≤ length b → u16At b (r .at + 1) < 512
-      → inner (place (r .at + 3)) ≡ got a q
+      → repeat (readParam terms b) (f .count) (placed (f .at)) ≡ got ps r → r .at + 3 ≤ length b → u16At b (r .at + 1) < 512
+      → inner (placed (r .at + 3)) ≡ got a q
       → Shown terms b inner p (code.DefineFunction2 f) (owner (DefineFunction2 x ps (getD b (r .at) 0) (u16At b (r .at + 1))) a) q
   -- the byte at p, the target that it asks for, and from i on the bodies
   try : {shape i : ℕ} {t : CatchTarget} {x : CatchTargetOf Text} {a : ActionsOf Text ℕ} {c : CatchOf Text ℕ} {f : FinallyOf Text ℕ} {r s q : Place}
-      → isShape shape ≡ true → ShownTarget b shape t x → inner (place i) ≡ got a r → readCatch terms b inner (hasCatch shape) x r ≡ got c s
+      → isShape shape ≡ true → ShownTarget b shape t x → inner (placed i) ≡ got a r → readCatch terms b inner (hasCatch shape) x r ≡ got c s
       → readFinally terms b inner (hasFinally shape) s ≡ got f q → Shown terms b inner p (code.Try shape t i) (Try a c f) q
   -- the body at i
-  with : {i : ℕ} {a : ActionsOf Text ℕ} {q : Place} → inner (place i) ≡ got a q → Shown terms b inner p (code.With i) (owner With a) q
+  with : {i : ℕ} {a : ActionsOf Text ℕ} {q : Place} → inner (placed i) ≡ got a q → Shown terms b inner p (code.With i) (owner With a) q
   -- n values from i on
-  push : {n i : ℕ} {xs : List (PushValueOf Text)} {q : Place} → repeat (readValue terms b) n (place i) ≡ got xs q
+  push : {n i : ℕ} {xs : List (PushValueOf Text)} {q : Place} → repeat (readValue terms b) n (placed i) ≡ got xs q
       → Shown terms b inner p (code.Push n i) (flat (Push xs)) q
   -- the u16 at p, a label number
-  jump : {l : ℕ} → l < terms .labelBound → Shown terms b inner p (code.Jump l) (branch Jump l) (place (p + 2))
+  jump : {l : ℕ} → l < terms .labelBound → Shown terms b inner p (code.Jump l) (branch Jump l) (placed (p + 2))
   -- three bytes from p on, of which the first two are 0 or 1
-  getUrl2 : {v t m : ℕ} → v < 2 → t < 2 → Shown terms b inner p (code.GetUrl2 v t m) (flat (GetUrl2 (eqb v 1) (eqb t 1) m)) (place (p + 3))
+  getUrl2 : {v t m : ℕ} → v < 2 → t < 2 → Shown terms b inner p (code.GetUrl2 v t m) (flat (GetUrl2 (eqb v 1) (eqb t 1) m)) (placed (p + 3))
   -- the name at p and the parameters from their place on; behind them the body
   defineFunction : {f : Function} {x : Text} {ps : List Text} {r : Place} {a : ActionsOf Text ℕ} {q : Place} → IsText b (f .name) x
-      → repeat (readString terms b) (f .count) (place (f .at)) ≡ got ps r → inner r ≡ got a q
+      → repeat (readString terms b) (f .count) (placed (f .at)) ≡ got ps r → inner r ≡ got a q
       → Shown terms b inner p (code.DefineFunction f) (owner (DefineFunction x ps) a) q
   -- the u16 at p, a label number
-  if : {l : ℕ} → l < terms .labelBound → Shown terms b inner p (code.If l) (branch If l) (place (p + 2))
+  if : {l : ℕ} → l < terms .labelBound → Shown terms b inner p (code.If l) (branch If l) (placed (p + 2))
   -- the u16 at p, and the byte behind it, which is 0 or 1
-  gotoFrame2 : {n k : ℕ} → k < 2 → Shown terms b inner p (code.GotoFrame2 n k) (flat (GotoFrame2 n (eqb k 1))) (place (p + 3))
+  gotoFrame2 : {n k : ℕ} → k < 2 → Shown terms b inner p (code.GotoFrame2 n k) (flat (GotoFrame2 n (eqb k 1))) (placed (p + 3))
 
 -- the definitions read an action at p, by some terms and some reader of bodies
 pub record ActionReads (b : List ℕ) (p : ℕ) : Type 0 where
@@ -165,8 +161,8 @@ pub record ActionReads (b : List ℕ) (p : ℕ) : Type 0 where
   pub inner : Reader (ActionsOf Text ℕ)
   pub action : ActionOf Text ℕ
   pub next : Place
-  pub reads : readAction terms b inner (place p) ≡ got action next
+  pub reads : readAction terms b inner (placed p) ≡ got action next
 
 -- r shows the action that the definitions read at p, whatever the terms and the reader of bodies
 pub record ShowsAction (b : List ℕ) (p : ℕ) (r : Action) : Type 0 where
-  pub shows : (terms : Terms) (inner : Reader (ActionsOf Text ℕ)) (a : ActionOf Text ℕ) (q : Place) → readAction terms b inner (place p) ≡ got a q → Shown terms b inner (p + 1) r a q
+  pub shows : (terms : Terms) (inner : Reader (ActionsOf Text ℕ)) (a : ActionOf Text ℕ) (q : Place) → readAction terms b inner (placed p) ≡ got a q → Shown terms b inner (p + 1) r a q

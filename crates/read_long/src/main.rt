@@ -4,7 +4,7 @@ ghost use lib.ListN.{length};
 use io::print_decimal;
 use io::write_all;
 use libc::STDOUT_FILENO;
-use sheet::Reading;
+use reading::Reading;
 
 fn zeros() -> [u8; 1048578]
     ensures { λ r. ⌜ 1048578 ≡ length r ⌝ }
@@ -13,7 +13,7 @@ fn zeros() -> [u8; 1048578]
 }
 
 fn answer(bytes: &[u8]) {
-    match sheet::read(bytes) {
+    match reading::read(bytes) {
         Reading::SheetTooLong(n) => {
             print_decimal(STDOUT_FILENO, n as u64);
             write_all(STDOUT_FILENO, b" too long\n");

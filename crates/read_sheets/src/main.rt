@@ -5,8 +5,8 @@ use io::print_decimal;
 use io::write_all;
 use libc::STDIN_FILENO;
 use libc::STDOUT_FILENO;
-use operands::Fault;
-use sheet::Reading;
+use positions::Fault;
+use reading::Reading;
 
 fn fault_number(f: Fault) -> u64 {
     match f {
@@ -26,7 +26,7 @@ fn write_line(number: u64, value: usize) {
 }
 
 fn answer(bytes: &[u8]) {
-    match sheet::read(bytes) {
+    match reading::read(bytes) {
         Reading::Whole => write_line(0, 0),
         Reading::SheetTooLong(n) => write_line(1, n),
         Reading::BadTrailer => write_line(2, 0),

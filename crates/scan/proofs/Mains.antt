@@ -11,7 +11,7 @@ use lib.IntN.{pos}
 use Rattle.layout.specs.Answers.{refusalNumber, refusalValue, LeftOver}
 use Rattle.layout.specs.Answers as answers
 use Rattle.layout.specs.Tree.{ActionsOf}
-use Rattle.layout.specs.Read.{Text, edition1, deepest, Place, Read, got, bad, ifNothingLeft, readBody, readMain}
+use Rattle.layout.specs.Read.{Text, edition1, deepest, Place, placed, Read, got, bad, ifNothingLeft, readBody, readMain}
 use Rattle.layout.specs.Write.{Event, labelAt, branchAt, payloadTooLong, bodyTooLong, events}
 use Rattle.layout.specs.Judge.{tooLong}
 use Rattle.layout.specs.Pack.{spelling}
@@ -20,12 +20,13 @@ use Rattle.laws.specs.ReadFits.{good-got, good-bad, body-good, main-good}
 use Rattle.laws.specs.Packed.{spells}
 use Rattle.labels.specs.Table.{recordAll}
 use Rattle.labels.proofs.Labels.{length-recordAll, table-holds}
-use Rattle.labels.specs.declared.BytePosition.{BytePosition}
-use Rattle.operands.specs.declared.Scan.{Scan}
-use Rattle.operands.specs.declared.Scan.the-variants as scan
-use Rattle.operands.specs.declared.Fault.{Fault}
-use Rattle.operands.specs.Scanned.{placed, faultOf}
-use Rattle.walk.specs.Walk.{State, state, noted, noteAll, run, fault, outcome, Ran, bodyLength, bodyEvents}
+use Rattle.positions.specs.declared.BytePosition.{BytePosition}
+use Rattle.positions.specs.declared.Scan.{Scan}
+use Rattle.positions.specs.declared.Scan.the-variants as scan
+use Rattle.positions.specs.declared.Fault.{Fault}
+use Rattle.positions.specs.Scanned.{faultOf}
+use Rattle.laws.specs.Resolved.{bodyLength, bodyEvents}
+use Rattle.measure.specs.Walk.{State, state, noted, noteAll, run, fault, outcome, Ran}
 use Rattle.bodies.specs.Ready.{Ready}
 use Rattle.scan.specs.Mains.{Empty, Holds, MainScanned, whole, stopped}
 use Rattle.bodies.proofs.Walks.{ran-is, ran-bad, outcome-is}

@@ -14,10 +14,10 @@ use Rattle.layout.specs.Write.{events, bodySize}
 use Rattle.layout.specs.Judge.{tooLong}
 use Rattle.layout.specs.Pack.{spelling}
 use Rattle.labels.specs.Table.{TableHolds}
-use Rattle.labels.specs.declared.BytePosition.{BytePosition}
-use Rattle.operands.specs.Scanned.{faultOf}
-use Rattle.operands.specs.declared.Scan.{Scan}
-use Rattle.operands.specs.declared.Scan.the-variants as scan
+use Rattle.positions.specs.declared.BytePosition.{BytePosition}
+use Rattle.positions.specs.Scanned.{faultOf}
+use Rattle.positions.specs.declared.Scan.{Scan}
+use Rattle.positions.specs.declared.Scan.the-variants as scan
 
 -- what the caller lends: an empty table, and nothing noted
 pub record Empty (tab over : List ℕ) : Type 0 where

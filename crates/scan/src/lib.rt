@@ -4,9 +4,9 @@ ghost use lib.ListN.{length};
 ghost use Rattle.layout.specs.Read.{edition1, deepest, readMain};
 ghost use Rattle.scan.specs.Mains.{Empty, MainScanned};
 use bodies::scan_body;
-use labels::BytePosition;
-use operands::Fault;
-use operands::Scan;
+use positions::BytePosition;
+use positions::Fault;
+use positions::Scan;
 
 // A whole main body: no byte of it is left over.
 pub fn scan_main(b: &[u8], tab: &mut [usize], over: &mut [usize]) -> Scan

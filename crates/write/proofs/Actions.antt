@@ -3,27 +3,30 @@ use mathlib.Core.Path.{_≡_, refl, sym, ap, _∙_, subst}
 use Prim.Native.Nat.{ℕ, _+_, _-_, _≤_}
 use native.Mathlib.Omega.{arith}
 use mathlib.Core.Bool.{Bool, true, false}
-use mathlib.Core.List.{List}
+use mathlib.Core.List.{List, _++_}
 use lib.ListN.{length}
 use lib.Seq.{sets}
 use Rattle.layout.specs.Tree.{FlatOf, Branch, OwnerOf, CatchTargetOf, ActionOf, flat, branch, owner, Try, ActionsOf, CatchOf, noCatch, catch, FinallyOf, noFinally, finally}
-use Rattle.layout.specs.Read.{Text, edition1, Place, Reader, got, hasCatch, hasFinally, readCatch, readFinally, readAction}
+use Rattle.layout.specs.Read.{Text, edition1, Place, placed, Reader, got, hasCatch, hasFinally, readCatch, readFinally, readAction}
 use Rattle.layout.specs.Strings.{mapAction, mapOwner, mapCatch, mapFinally}
 use Rattle.layout.specs.Payload.{ownerFields, catchName}
-use Rattle.layout.specs.Write.{bytes, size, catchSize}
+use Rattle.layout.specs.Write.{bytes, size, catchSize, position, moved, Event, payloadTest, bodyTest, trace, traceCatch, traceFinally, finallySize}
 use Rattle.layout.specs.Lengths.{length-bytes}
 use Rattle.layout.specs.Pack.{spelling}
-use Rattle.pcode.specs.Shown.{place, Shown, small, gotoFrame, getUrl, storeRegister, constantPool, waitForFrame, setTarget, gotoLabel, waitForFrame2, defineFunction2, try, with, push, jump, getUrl2, defineFunction, if, gotoFrame2, ShowsAction, ActionReads}
+use Rattle.pcode.specs.Shown.{Shown, small, gotoFrame, getUrl, storeRegister, constantPool, waitForFrame, setTarget, gotoLabel, waitForFrame2, defineFunction2, try, with, push, jump, getUrl2, defineFunction, if, gotoFrame2, ShowsAction, ActionReads}
 use Rattle.pcode.specs.declared.Action.{Action}
 use Rattle.pcode.proofs.Readings.{Gives, gives, given, then, itself}
 use Rattle.pcode.proofs.Actions.{opcode-room}
 use Rattle.encode_flat.specs.Branches.{tableBits}
 use Rattle.encode.specs.Heads.{headBytes, headOf, CatchFrom, FinallyFrom, BodiesFrom, NotFar, Writable, WroteHead}
-use Rattle.write.specs.Bodies.{bodiesOf, readIf, readTried, lengthOf, lengthIf, lengthTried, lengthAction, nearOf, nearIf, NearCatch, NearFinally, nearTried, nearAction, actionOf, closed, closedTried, Room, Wrote}
+use Rattle.laws.specs.Resolved.{bodyLength, actionSize, bodyEvents}
+use Rattle.write.specs.Bodies.{bodiesOf, readIf, readTried, lengthIf, lengthTried, nearOf, nearIf, nearTried, nearAction, actionOf, closed, closedTried, Room, Wrote}
 use Rattle.write.specs.declared.Bodies.{Bodies}
 use Rattle.write.specs.declared.Bodies.the-variants as bodies
-use Rattle.encode_values.specs.declared.Ends.{Ends}
+use Rattle.positions.specs.declared.Ends.{Ends}
 use Rattle.write.proofs.Blocks.{length-owner, owner-closed, catchBody, finallyBody, triedOf, catch-length, finally-length, length-try, try-closed, head-most}
+use Rattle.laws.specs.Nears.{NoneFar, near-left, near-right, branch-near}
+use Rattle.labels.specs.Table.{recordAt}
 
 -- ---- the bodies that an action has
 
@@ -83,13 +86,13 @@ module _ (b : List ℕ) (inner : Reader (ActionsOf Text ℕ)) where
 -- ---- lengths
 
 -- The length of an action that owns a body: five bytes, the fields and the body.
-owner-length : (o : OwnerOf Text) (x : ActionsOf Text ℕ) → lengthAction (owner o x) ≡ 5 + length (ownerFields (mapOwner spelling o)) + lengthOf x
-unfolding lengthAction mapAction size lengthOf
+owner-length : (o : OwnerOf Text) (x : ActionsOf Text ℕ) → actionSize (owner o x) ≡ 5 + length (ownerFields (mapOwner spelling o)) + bodyLength x
+unfolding mapAction size
 owner-length o x = refl
 
 -- The length of a Try: ten bytes, the name and its bodies.
-try-length : (x : ActionsOf Text ℕ) (c : CatchOf Text ℕ) (f : FinallyOf Text ℕ) → lengthAction (Try x c f) ≡ 10 + length (catchName (mapCatch spelling c)) + lengthTried (triedOf x c f)
-unfolding lengthAction mapAction size lengthOf lengthTried
+try-length : (x : ActionsOf Text ℕ) (c : CatchOf Text ℕ) (f : FinallyOf Text ℕ) → actionSize (Try x c f) ≡ 10 + length (catchName (mapCatch spelling c)) + lengthTried (triedOf x c f)
+unfolding mapAction size lengthTried
 try-length x c f = omega (arith, catch-length c, finally-length f)
 
 -- The head of an action without a body is the whole action.
@@ -98,8 +101,8 @@ unfolding headOf headBytes mapAction actionOf bytes
 flat-same tab l f i = refl
 
 -- And has its length.
-flat-long : (tab : List ℕ) (f : FlatOf Text) (i : ℕ) → i + length (headOf tab (flat f) i) ≡ i + lengthAction (flat f)
-unfolding headOf headBytes mapAction lengthAction size
+flat-long : (tab : List ℕ) (f : FlatOf Text) (i : ℕ) → i + length (headOf tab (flat f) i) ≡ i + actionSize (flat f)
+unfolding headOf headBytes mapAction size
 flat-long tab f i = refl
 
 -- The head of a branch is the whole action.
@@ -108,47 +111,57 @@ unfolding headOf headBytes mapAction actionOf bytes
 branch-same tab l k n i = refl
 
 -- And has its length.
-branch-long : (tab : List ℕ) (k : Branch) (n i : ℕ) → i + length (headOf tab (branch k n) i) ≡ i + lengthAction (branch k n)
-unfolding headOf headBytes mapAction lengthAction size bytes
+branch-long : (tab : List ℕ) (k : Branch) (n i : ℕ) → i + length (headOf tab (branch k n) i) ≡ i + actionSize (branch k n)
+unfolding headOf headBytes mapAction size bytes
 branch-long tab k n i = ap (λ (m : ℕ). i + m) (length-bytes (tableBits tab) (branch k n) i)
 
--- ---- branches, none of which is too far
+-- ---- branches of which none goes too far
 
 -- What is asked of a head is what is known of a branch.
 head-near : (tab : List ℕ) (x : ActionOf Text ℕ) (p : ℕ) → nearAction tab x p → NotFar tab x p
-unfolding mapAction
+unfolding mapAction trace
 head-near tab (flat f) p h = tt
-head-near tab (branch k l) p h = h
+head-near tab (branch k l) p h = branch-near (recordAt tab) l (position p) h
 head-near tab (owner o x) p h = tt
 head-near tab (Try x c f) p h = tt
 
 -- The branches of a catch are those of its body, if it is there.
-catch-near : (tab : List ℕ) (c : CatchOf Text ℕ) (p : ℕ) → NearCatch tab (mapCatch spelling c) p → nearIf tab (catchBody c) p
-unfolding mapCatch
+catch-near : (tab : List ℕ) (c : CatchOf Text ℕ) (p : ℕ) → NoneFar (recordAt tab) (traceCatch (mapCatch spelling c) (position p)) → nearIf tab (catchBody c) p
+unfolding mapCatch traceCatch
 catch-near tab noCatch p h = tt
 catch-near tab (catch t x) p h = h
 
 -- So are those of a finally.
-finally-near : (tab : List ℕ) (f : FinallyOf Text ℕ) (p : ℕ) → NearFinally tab (mapFinally spelling f) p → nearIf tab (finallyBody f) p
-unfolding mapFinally
+finally-near : (tab : List ℕ) (f : FinallyOf Text ℕ) (p : ℕ) → NoneFar (recordAt tab) (traceFinally (mapFinally spelling f) (position p)) → nearIf tab (finallyBody f) p
+unfolding mapFinally traceFinally
 finally-near tab noFinally p h = tt
 finally-near tab (finally x) p h = h
 
 -- The branches of an action that owns a body are those of the body, behind the head.
 owner-near : (tab : List ℕ) (o : OwnerOf Text) (x : ActionsOf Text ℕ) (p end : ℕ) → end ≡ p + (5 + length (ownerFields (mapOwner spelling o))) → nearAction tab (owner o x) p → nearOf tab x end
-unfolding mapAction
-owner-near tab o x p end e h = rw e h
+unfolding mapAction trace moved
+owner-near tab o x p end e h =
+    let y : List Event = bodyEvents x (p + (5 + length (ownerFields (mapOwner spelling o)))) in
+    let z : List Event = bodyTest (bodyLength x) (position p) in
+    rw e (near-left (recordAt tab) y z (near-right (recordAt tab) (payloadTest (length (ownerFields (mapOwner spelling o)) + 2) (position p)) (y ++ z) h))
 
 -- The branches of a Try are those of its bodies, one behind the other.
 try-near : (tab : List ℕ) (x : ActionsOf Text ℕ) (c : CatchOf Text ℕ) (f : FinallyOf Text ℕ) (p end : ℕ) → end ≡ p + (10 + length (catchName (mapCatch spelling c)))
     → nearAction tab (Try x c f) p → nearTried tab (triedOf x c f) end
-unfolding mapAction lengthOf
+unfolding mapAction trace moved
 try-near tab x c f p end e h =
-    let third : end + lengthOf x + lengthIf (catchBody c) ≡ p + (10 + length (catchName (mapCatch spelling c))) + (lengthOf x + catchSize (mapCatch spelling c)) =
-    omega (arith, e, catch-length c) in (
-      subst (λ (n : ℕ). nearOf tab x n) (sym e) (h .0),
-      catch-near tab c (end + lengthOf x) (rw e (h .1)),
-      finally-near tab f (end + lengthOf x + lengthIf (catchBody c)) (rw third (h .2)),
+    let q : ℕ = p + (10 + length (catchName (mapCatch spelling c))) in
+    let third : end + bodyLength x + lengthIf (catchBody c) ≡ q + (bodyLength x + catchSize (mapCatch spelling c)) = omega (arith, e, catch-length c) in
+    let y₁ : List Event = bodyEvents x q in
+    let y₂ : List Event = traceCatch (mapCatch spelling c) (position (q + bodyLength x)) in
+    let y₃ : List Event = traceFinally (mapFinally spelling f) (position (q + (bodyLength x + catchSize (mapCatch spelling c)))) in
+    let z : List Event = bodyTest (bodyLength x) (position p) ++ (bodyTest (catchSize (mapCatch spelling c)) (position p) ++ bodyTest (finallySize (mapFinally spelling f)) (position p)) in
+    let h₁ : NoneFar (recordAt tab) (y₁ ++ (y₂ ++ (y₃ ++ z))) = near-right (recordAt tab) (payloadTest (7 + length (catchName (mapCatch spelling c))) (position p)) (y₁ ++ (y₂ ++ (y₃ ++ z))) h in
+    let h₂ : NoneFar (recordAt tab) (y₂ ++ (y₃ ++ z)) = near-right (recordAt tab) y₁ (y₂ ++ (y₃ ++ z)) h₁ in
+    let h₃ : NoneFar (recordAt tab) (y₃ ++ z) = near-right (recordAt tab) y₂ (y₃ ++ z) h₂ in (
+      subst (λ (n : ℕ). nearOf tab x n) (sym e) (near-left (recordAt tab) y₁ (y₂ ++ (y₃ ++ z)) h₁),
+      catch-near tab c (end + bodyLength x) (rw e (near-left (recordAt tab) y₂ (y₃ ++ z) h₂)),
+      finally-near tab f (end + bodyLength x + lengthIf (catchBody c)) (rw third (near-left (recordAt tab) y₃ z h₃)),
     )
 
 -- ---- reading goes on with the bodies
@@ -168,7 +181,7 @@ finally-read inner t r (finally x) s e h = rw (e, h) refl
 
 -- The bodies of a Try are read one behind the other.
 tried-read : (inner : Reader (ActionsOf Text ℕ)) (shape next : ℕ) (x : ActionsOf Text ℕ) (c : CatchOf Text ℕ) (f : FinallyOf Text ℕ) (q : Place)
-    → hasCatch shape ≡ isCatch c → hasFinally shape ≡ isFinally f → BodiesFrom inner next (Try x c f) q → readTried shape inner (place next) ≡ got (triedOf x c f) q
+    → hasCatch shape ≡ isCatch c → hasFinally shape ≡ isFinally f → BodiesFrom inner next (Try x c f) q → readTried shape inner (placed next) ≡ got (triedOf x c f) q
 unfolding readTried
 tried-read inner shape next x c f q d e h = rw (h .2, catch-read inner (hasCatch shape) (h .0) c (h .1) d (h .3), finally-read inner (hasFinally shape) (h .1) f q e (h .4)) refl
 
@@ -176,12 +189,12 @@ tried-read inner shape next x c f q d e h = rw (h .2, catch-read inner (hasCatch
 
 module _ (inner : Reader (ActionsOf Text ℕ)) {b tab out : List ℕ} {at pos : ℕ} where
   -- There is an action to read.
-  pub reads-action : Room (readAction edition1 b inner) lengthAction nearAction b at pos tab out → ActionReads b at
+  pub reads-action : Room (readAction edition1 b inner) actionSize nearAction b at pos tab out → ActionReads b at
   reads-action r = record { terms = edition1; inner = inner; action = r .value; next = r .next; reads = r .reads }
 
   module _ {a : Action} (s : ShowsAction b at a) where
     -- Its head has room.
-    pub head-room : Room (readAction edition1 b inner) lengthAction nearAction b at pos tab out → Writable b at a pos tab out
+    pub head-room : Room (readAction edition1 b inner) actionSize nearAction b at pos tab out → Writable b at a pos tab out
     head-room r =
         record {
           bytes = r .bytes;
@@ -205,7 +218,7 @@ module _ (inner : Reader (ActionsOf Text ℕ)) {b tab out : List ℕ} {at pos : 
         pub from : BodiesFrom inner next x q
 
       -- For every action that is read there.
-      headed : (k : Bodies) → bodiesOf a ≡ k → (x : ActionOf Text ℕ) (q : Place) → readAction edition1 b inner (place at) ≡ got x q → Headed k x q
+      headed : (k : Bodies) → bodiesOf a ≡ k → (x : ActionOf Text ℕ) (q : Place) → readAction edition1 b inner (placed at) ≡ got x q → Headed k x q
       headed k e x q r =
           let t = s .shows edition1 inner x q r in
           let w = h .wrote inner x q t in
@@ -213,27 +226,27 @@ module _ (inner : Reader (ActionsOf Text ℕ)) {b tab out : List ℕ} {at pos : 
 
       -- An action without a body is written.
       pub none-wrote : bodiesOf a ≡ bodies.Nothing
-          → Wrote (readAction edition1 b inner) lengthAction (λ x. sets out pos (actionOf tab x pos)) at pos mid (record { next = next; pos = end })
+          → Wrote (readAction edition1 b inner) actionSize (λ x. sets out pos (actionOf tab x pos)) at pos mid (record { next = next; pos = end })
       none-wrote e = record { wrote = λ x q r. none-at x q r .0; ends = record { ended = λ x q r. none-at x q r .1 } }
         where
           none-go : (x : ActionOf Text ℕ) (q : Place) → Holds bodies.Nothing x → mid ≡ sets out pos (headOf tab x pos) → end ≡ pos + length (headOf tab x pos) → BodiesFrom inner next x q
-              → (mid ≡ sets out pos (actionOf tab x pos)) × ((end ≡ pos + lengthAction x) × (next ≡ q .at))
+              → (mid ≡ sets out pos (actionOf tab x pos)) × ((end ≡ pos + actionSize x) × (next ≡ q .at))
           none-go (flat f) q flat-none m k n = (m ∙ flat-same tab out f pos, (k ∙ flat-long tab f pos, ap (λ (o : Place). o .at) (sym n)))
           none-go (branch j l) q branch-none m k n = (m ∙ branch-same tab out j l pos, (k ∙ branch-long tab j l pos, ap (λ (o : Place). o .at) (sym n)))
 
-          none-at : (x : ActionOf Text ℕ) (q : Place) → readAction edition1 b inner (place at) ≡ got x q
-              → (mid ≡ sets out pos (actionOf tab x pos)) × ((end ≡ pos + lengthAction x) × (next ≡ q .at))
+          none-at : (x : ActionOf Text ℕ) (q : Place) → readAction edition1 b inner (placed at) ≡ got x q
+              → (mid ≡ sets out pos (actionOf tab x pos)) × ((end ≡ pos + actionSize x) × (next ≡ q .at))
           none-at x q r =
               let g = headed bodies.Nothing e x q r in
               none-go x q (g .has) (g .head) (g .reach) (g .from)
 
       -- The one body of an action has room, and its length stands two bytes before it.
-      pub one-room : bodiesOf a ≡ bodies.One → Room (readAction edition1 b inner) lengthAction nearAction b at pos tab out → length mid ≡ length out
-          → Room inner lengthOf nearOf b next end tab mid × (end - 2 + 2 ≤ end)
+      pub one-room : bodiesOf a ≡ bodies.One → Room (readAction edition1 b inner) actionSize nearAction b at pos tab out → length mid ≡ length out
+          → Room inner bodyLength nearOf b next end tab mid × (end - 2 + 2 ≤ end)
       one-room e r l = let g = headed bodies.One e (r .value) (r .next) (r .reads) in one-go (r .value) (r .next) (g .has) (g .reach) (g .from) (r .room) (r .is-near)
         where
-          one-go : (x : ActionOf Text ℕ) (q : Place) → Holds bodies.One x → end ≡ pos + length (headOf tab x pos) → BodiesFrom inner next x q → pos + lengthAction x ≤ length out → nearAction tab x pos
-              → Room inner lengthOf nearOf b next end tab mid × (end - 2 + 2 ≤ end)
+          one-go : (x : ActionOf Text ℕ) (q : Place) → Holds bodies.One x → end ≡ pos + length (headOf tab x pos) → BodiesFrom inner next x q → pos + actionSize x ≤ length out → nearAction tab x pos
+              → Room inner bodyLength nearOf b next end tab mid × (end - 2 + 2 ≤ end)
           one-go (owner o x) q one k n m i =
               let h = length-owner tab o x pos in (
                 record {
@@ -251,28 +264,28 @@ module _ (inner : Reader (ActionsOf Text ℕ)) {b tab out : List ℕ} {at pos : 
               )
 
       -- It was written with its length, and so the action is.
-      pub one-wrote : bodiesOf a ≡ bodies.One → (new : List ℕ) (r : Ends) → Wrote inner lengthOf (closed tab mid end (end - 2)) next end new r
-          → Wrote (readAction edition1 b inner) lengthAction (λ x. sets out pos (actionOf tab x pos)) at pos new r
+      pub one-wrote : bodiesOf a ≡ bodies.One → (new : List ℕ) (r : Ends) → Wrote inner bodyLength (closed tab mid end (end - 2)) next end new r
+          → Wrote (readAction edition1 b inner) actionSize (λ x. sets out pos (actionOf tab x pos)) at pos new r
       one-wrote e new r w = record { wrote = λ x q t. one-at x q t .0; ends = record { ended = λ x q t. one-at x q t .1 } }
         where
           one-go : (x : ActionOf Text ℕ) (q : Place) → Holds bodies.One x → mid ≡ sets out pos (headOf tab x pos) → end ≡ pos + length (headOf tab x pos) → BodiesFrom inner next x q
-              → (new ≡ sets out pos (actionOf tab x pos)) × ((r .pos ≡ pos + lengthAction x) × (r .next ≡ q .at))
+              → (new ≡ sets out pos (actionOf tab x pos)) × ((r .pos ≡ pos + actionSize x) × (r .next ≡ q .at))
           one-go (owner o x) q one m k n =
               let v = w .ends .ended x q n in
               (w .wrote x q n ∙ owner-closed tab out mid o x pos end m k, (omega (arith, v .0, k, length-owner tab o x pos, owner-length o x), v .1))
 
-          one-at : (x : ActionOf Text ℕ) (q : Place) → readAction edition1 b inner (place at) ≡ got x q
-              → (new ≡ sets out pos (actionOf tab x pos)) × ((r .pos ≡ pos + lengthAction x) × (r .next ≡ q .at))
+          one-at : (x : ActionOf Text ℕ) (q : Place) → readAction edition1 b inner (placed at) ≡ got x q
+              → (new ≡ sets out pos (actionOf tab x pos)) × ((r .pos ≡ pos + actionSize x) × (r .next ≡ q .at))
           one-at x q t =
               let g = headed bodies.One e x q t in
               one-go x q (g .has) (g .head) (g .reach) (g .from)
 
       -- The bodies of a Try have room, and their lengths stand from four bytes after its start on.
-      pub tried-room : (shape : ℕ) → bodiesOf a ≡ bodies.OfTry shape → Room (readAction edition1 b inner) lengthAction nearAction b at pos tab out → length mid ≡ length out
+      pub tried-room : (shape : ℕ) → bodiesOf a ≡ bodies.OfTry shape → Room (readAction edition1 b inner) actionSize nearAction b at pos tab out → length mid ≡ length out
           → Room (readTried shape inner) lengthTried nearTried b next end tab mid × (pos + 4 + 6 ≤ end)
       tried-room shape e r l = let g = headed (bodies.OfTry shape) e (r .value) (r .next) (r .reads) in tried-go (r .value) (r .next) (g .has) (g .reach) (g .from) (r .room) (r .is-near)
         where
-          tried-go : (x : ActionOf Text ℕ) (q : Place) → Holds (bodies.OfTry shape) x → end ≡ pos + length (headOf tab x pos) → BodiesFrom inner next x q → pos + lengthAction x ≤ length out → nearAction tab x pos
+          tried-go : (x : ActionOf Text ℕ) (q : Place) → Holds (bodies.OfTry shape) x → end ≡ pos + length (headOf tab x pos) → BodiesFrom inner next x q → pos + actionSize x ≤ length out → nearAction tab x pos
               → Room (readTried shape inner) lengthTried nearTried b next end tab mid × (pos + 4 + 6 ≤ end)
           tried-go (Try x c f) q (tried i j) k n m d =
               let h = length-try tab x c f pos in (
@@ -292,18 +305,18 @@ module _ (inner : Reader (ActionsOf Text ℕ)) {b tab out : List ℕ} {at pos : 
 
       -- They were written with their lengths, and so the action is.
       pub tried-wrote : (shape : ℕ) → bodiesOf a ≡ bodies.OfTry shape → (new : List ℕ) (r : Ends) → Wrote (readTried shape inner) lengthTried (closedTried tab mid end (pos + 4)) next end new r
-          → Wrote (readAction edition1 b inner) lengthAction (λ x. sets out pos (actionOf tab x pos)) at pos new r
+          → Wrote (readAction edition1 b inner) actionSize (λ x. sets out pos (actionOf tab x pos)) at pos new r
       tried-wrote shape e new r w = record { wrote = λ x q t. tried-at x q t .0; ends = record { ended = λ x q t. tried-at x q t .1 } }
         where
           tried-go : (x : ActionOf Text ℕ) (q : Place) → Holds (bodies.OfTry shape) x → mid ≡ sets out pos (headOf tab x pos) → end ≡ pos + length (headOf tab x pos) → BodiesFrom inner next x q
-              → (new ≡ sets out pos (actionOf tab x pos)) × ((r .pos ≡ pos + lengthAction x) × (r .next ≡ q .at))
+              → (new ≡ sets out pos (actionOf tab x pos)) × ((r .pos ≡ pos + actionSize x) × (r .next ≡ q .at))
           tried-go (Try x c f) q (tried i j) m k n =
               let t = tried-read inner shape next x c f q i j n in
               let v = w .ends .ended (triedOf x c f) q t in
               (w .wrote (triedOf x c f) q t ∙ try-closed tab out mid x c f pos end m k, (omega (arith, v .0, k, length-try tab x c f pos, try-length x c f), v .1))
 
-          tried-at : (x : ActionOf Text ℕ) (q : Place) → readAction edition1 b inner (place at) ≡ got x q
-              → (new ≡ sets out pos (actionOf tab x pos)) × ((r .pos ≡ pos + lengthAction x) × (r .next ≡ q .at))
+          tried-at : (x : ActionOf Text ℕ) (q : Place) → readAction edition1 b inner (placed at) ≡ got x q
+              → (new ≡ sets out pos (actionOf tab x pos)) × ((r .pos ≡ pos + actionSize x) × (r .next ≡ q .at))
           tried-at x q t =
               let g = headed (bodies.OfTry shape) e x q t in
               tried-go x q (g .has) (g .head) (g .reach) (g .from)

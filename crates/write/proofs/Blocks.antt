@@ -17,7 +17,8 @@ use Rattle.layout.specs.Lengths.{ownerLength, length-le16, length-ownerFields, 
 use Rattle.layout.specs.Pack.{spelling}
 use Rattle.encode_flat.specs.Branches.{tableBits}
 use Rattle.encode.specs.Heads.{headBytes, headOf}
-use Rattle.write.specs.Bodies.{Tried, lengthOf, lengthIf, lengthAction, bodyOf, actionOf, closed, closedIf, closedTried}
+use Rattle.laws.specs.Resolved.{bodyLength, actionSize}
+use Rattle.write.specs.Bodies.{Tried, lengthIf, bodyOf, actionOf, closed, closedIf, closedTried}
 use Rattle.write.proofs.Patches.{patched}
 
 -- The bytes of a body that may be absent.
@@ -26,8 +27,8 @@ bytesIf tab none p = []
 bytesIf tab (some x) p = bodyOf tab x p
 
 -- A body's length is that of its bytes.
-length-bodyOf : (tab : List ℕ) (x : ActionsOf Text ℕ) (p : ℕ) → length (bodyOf tab x p) ≡ lengthOf x
-unfolding bodyOf lengthOf
+length-bodyOf : (tab : List ℕ) (x : ActionsOf Text ℕ) (p : ℕ) → length (bodyOf tab x p) ≡ bodyLength x
+unfolding bodyOf
 length-bodyOf tab x p = length-body (tableBits tab) (mapBody spelling x) p
 
 -- The same of one that may be absent.
@@ -43,7 +44,7 @@ unfolding closedIf closed lengthIf
 closed-if tab l a c m none i pos at e p q = rw append-nil e
 closed-if tab l a c m (some x) i pos at e p q =
     rw (e, q, ap (λ (n : ℕ). sets (sets l i (a ++ (le16 0 ++ c))) n (bodyOf tab x pos)) p)
-    (patched l a (le16 0) (le16 (lengthOf x)) c (bodyOf tab x pos) i (length-le16 0 ∙ sym (length-le16 (lengthOf x))))
+    (patched l a (le16 0) (le16 (bodyLength x)) c (bodyOf tab x pos) i (length-le16 0 ∙ sym (length-le16 (bodyLength x))))
 
 -- ---- an action that owns a body
 
@@ -75,12 +76,12 @@ length-owner tab o x i =
 module _ (tab l m : List ℕ) (o : OwnerOf Text) (x : ActionsOf Text ℕ) (i end : ℕ) where
   -- Its head, then its body with the length two bytes before it: the action's bytes.
   pub owner-closed : m ≡ sets l i (headOf tab (owner o x) i) → end ≡ i + length (headOf tab (owner o x) i) → closed tab m end (end - 2) x ≡ sets l i (actionOf tab (owner o x) i)
-  unfolding headOf headBytes mapAction actionOf bytes bodyOf lengthOf closedIf lengthIf le16
+  unfolding headOf headBytes mapAction actionOf bytes bodyOf closedIf lengthIf le16
   owner-closed e p =
       let w : Owner = mapOwner spelling o in
       let q : end ≡ i + (5 + length (ownerFields w)) = omega (arith, length-owner tab o x i, p) in
       closed-if tab l (ownerFront w) [] m (some x) i end (end - 2) (e ∙ ap (λ (r : List ℕ). sets l i r) (owner-framed w 0)) (p ∙ ap (λ (r : List ℕ). i + length r) (owner-framed w 0)) (omega (arith, length-ownerFront w))
-      ∙ ap (λ (r : List ℕ). sets l i r) (sym (append-assoc (ownerFront w) (le16 (lengthOf x)) (bodyOf tab x end)) ∙ ap₂ (λ (r s : List ℕ). r ++ s) (sym (owner-framed w (lengthOf x))) (ap (λ (n : ℕ). bodyOf tab x n) q))
+      ∙ ap (λ (r : List ℕ). sets l i r) (sym (append-assoc (ownerFront w) (le16 (bodyLength x)) (bodyOf tab x end)) ∙ ap₂ (λ (r s : List ℕ). r ++ s) (sym (owner-framed w (bodyLength x))) (ap (λ (n : ℕ). bodyOf tab x n) q))
 
 -- ---- a Try
 
@@ -100,13 +101,13 @@ triedOf x c f = record { first = x; second = catchBody c; third = finallyBody f 
 
 -- The length of a catch is that of its body.
 pub catch-length : (c : CatchOf Text ℕ) → lengthIf (catchBody c) ≡ catchSize (mapCatch spelling c)
-unfolding lengthIf lengthOf mapCatch catchSize
+unfolding lengthIf mapCatch catchSize
 catch-length noCatch = refl
 catch-length (catch t x) = refl
 
 -- So is that of a finally.
 pub finally-length : (f : FinallyOf Text ℕ) → lengthIf (finallyBody f) ≡ finallySize (mapFinally spelling f)
-unfolding lengthIf lengthOf mapFinally finallySize
+unfolding lengthIf mapFinally finallySize
 finally-length noFinally = refl
 finally-length (finally x) = refl
 
@@ -136,12 +137,12 @@ module _ (tab l m name : List ℕ) (shape : ℕ) (t : Tried) (i end : ℕ) where
   -- A Try's payload with three zero lengths, then its bodies with their lengths: one run.
   tried-closed : m ≡ sets l i (tryFront shape name ++ (le16 0 ++ (le16 0 ++ (le16 0 ++ name)))) → end ≡ i + (10 + length name)
       → closedTried tab m end (i + 4) t
-      ≡ sets l i (tryFront shape name ++ (le16 (lengthOf (t .first)) ++ (le16 (lengthIf (t .second)) ++ (le16 (lengthIf (t .third))
-      ++ (((name ++ bodyOf tab (t .first) end) ++ bytesIf tab (t .second) (end + lengthOf (t .first)))
-      ++ bytesIf tab (t .third) (end + lengthOf (t .first) + lengthIf (t .second)))))))
+      ≡ sets l i (tryFront shape name ++ (le16 (bodyLength (t .first)) ++ (le16 (lengthIf (t .second)) ++ (le16 (lengthIf (t .third))
+      ++ (((name ++ bodyOf tab (t .first) end) ++ bytesIf tab (t .second) (end + bodyLength (t .first)))
+      ++ bytesIf tab (t .third) (end + bodyLength (t .first) + lengthIf (t .second)))))))
   unfolding tryFront le16 closedTried closedIf lengthIf
   tried-closed e p =
-      let n₁ : ℕ = lengthOf (t .first) in
+      let n₁ : ℕ = bodyLength (t .first) in
       let n₂ : ℕ = lengthIf (t .second) in
       let a : List ℕ = tryFront shape name in
       let x₁ : List ℕ = bodyOf tab (t .first) end in
@@ -167,34 +168,34 @@ length-try tab x c f i =
 module _ (tab l m : List ℕ) (x : ActionsOf Text ℕ) (c : CatchOf Text ℕ) (f : FinallyOf Text ℕ) (i end : ℕ) where
   -- Its head, then its bodies with their lengths from four bytes after its start on: the action's bytes.
   pub try-closed : m ≡ sets l i (headOf tab (Try x c f) i) → end ≡ i + length (headOf tab (Try x c f) i) → closedTried tab m end (i + 4) (triedOf x c f) ≡ sets l i (actionOf tab (Try x c f) i)
-  unfolding headOf headBytes mapAction actionOf bytes bodyOf lengthOf
+  unfolding headOf headBytes mapAction actionOf bytes bodyOf
   try-closed e p =
       let c′ : Catch = mapCatch spelling c in
       let name : List ℕ = catchName c′ in
       let shape : ℕ = catchShape c′ + finallyShape (mapFinally spelling f) in
       let q : end ≡ i + (10 + length name) = omega (arith, length-try tab x c f i, p) in
-      let head : tryFront shape name ++ (le16 (lengthOf x) ++ (le16 (lengthIf (catchBody c)) ++ (le16 (lengthIf (finallyBody f)) ++ name)))
-      ≡ framed OpCode.Try (tryPayload shape (lengthOf x) (catchSize c′) (finallySize (mapFinally spelling f)) name) =
-      rw (catch-length c, finally-length f) (sym (try-framed shape (lengthOf x) (catchSize c′) (finallySize (mapFinally spelling f)) name)) in
-      let second : end + lengthOf x ≡ i + (10 + length name) + lengthOf x = omega (arith, q) in
-      let third : end + lengthOf x + lengthIf (catchBody c) ≡ i + (10 + length name) + (lengthOf x + catchSize c′) = omega (arith, q, catch-length c) in
+      let head : tryFront shape name ++ (le16 (bodyLength x) ++ (le16 (lengthIf (catchBody c)) ++ (le16 (lengthIf (finallyBody f)) ++ name)))
+      ≡ framed OpCode.Try (tryPayload shape (bodyLength x) (catchSize c′) (finallySize (mapFinally spelling f)) name) =
+      rw (catch-length c, finally-length f) (sym (try-framed shape (bodyLength x) (catchSize c′) (finallySize (mapFinally spelling f)) name)) in
+      let second : end + bodyLength x ≡ i + (10 + length name) + bodyLength x = omega (arith, q) in
+      let third : end + bodyLength x + lengthIf (catchBody c) ≡ i + (10 + length name) + (bodyLength x + catchSize c′) = omega (arith, q, catch-length c) in
       tried-closed tab l m name shape (triedOf x c f) i end (e ∙ ap (λ (r : List ℕ). sets l i r) (try-framed shape 0 0 0 name)) q
       ∙ ap (λ (r : List ℕ). sets l i r)
-      (joined (tryFront shape name) (le16 (lengthOf x)) (le16 (lengthIf (catchBody c))) (le16 (lengthIf (finallyBody f))) name (bodyOf tab x end)
-      (bytesIf tab (catchBody c) (end + lengthOf x)) (bytesIf tab (finallyBody f) (end + lengthOf x + lengthIf (catchBody c)))
+      (joined (tryFront shape name) (le16 (bodyLength x)) (le16 (lengthIf (catchBody c))) (le16 (lengthIf (finallyBody f))) name (bodyOf tab x end)
+      (bytesIf tab (catchBody c) (end + bodyLength x)) (bytesIf tab (finallyBody f) (end + bodyLength x + lengthIf (catchBody c)))
       ∙ ap₂ (λ (r s : List ℕ). r ++ s)
       head
       (ap₂ (λ (r s : List ℕ). r ++ s) (ap (λ (n : ℕ). bodyOf tab x n) q)
       (ap₂ (λ (r s : List ℕ). r ++ s)
-      (catch-bytes tab c (end + lengthOf x) ∙ ap (λ (n : ℕ). catchBytes (tableBits tab) c′ n) second)
-      (finally-bytes tab f (end + lengthOf x + lengthIf (catchBody c))
+      (catch-bytes tab c (end + bodyLength x) ∙ ap (λ (n : ℕ). catchBytes (tableBits tab) c′ n) second)
+      (finally-bytes tab f (end + bodyLength x + lengthIf (catchBody c))
       ∙ ap (λ (n : ℕ). finallyBytes (tableBits tab) (mapFinally spelling f) n) third))))
 
 -- ---- every head
 
 -- A head is no longer than its action.
-pub head-most : (tab : List ℕ) (x : ActionOf Text ℕ) (i : ℕ) → length (headOf tab x i) ≤ lengthAction x
-unfolding headOf headBytes lengthAction mapAction size
+pub head-most : (tab : List ℕ) (x : ActionOf Text ℕ) (i : ℕ) → length (headOf tab x i) ≤ actionSize x
+unfolding headOf headBytes mapAction size
 head-most tab (flat f) i = omega arith
 head-most tab (branch k l) i = omega (arith, length-framed (branchOpCode k) (le16 (tableBits tab l (i + 5))) (branch-long k), length-le16 (tableBits tab l (i + 5)))
 head-most tab (owner o x) i = omega (arith, length-owner tab o x i)

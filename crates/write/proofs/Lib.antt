@@ -4,5 +4,4 @@ pub mod Loop
 pub mod Steps
 pub mod Actions
 pub mod Labels
-pub mod Nears
 pub mod Main

@@ -2,23 +2,25 @@
 use mathlib.Core.Path.{_≡_, refl, sym, ap, _∙_}
 use Prim.Native.Nat.{ℕ, zero, suc, _+_, _-_, _*_, _≤_, _<_}
 use native.Mathlib.Omega.{arith}
-use mathlib.Core.List.{List}
+use mathlib.Core.List.{List, _++_}
 use lib.ListN.{length}
 use lib.Seq.{sets, length-sets}
 use Rattle.stores.proofs.Stores.{sets-append}
 use Rattle.layout.specs.Numbers.{u16At}
-use Rattle.layout.specs.Tree.{Entry, ActionOf, ActionListOf, empty, more, ActionsOf, body}
-use Rattle.layout.specs.Read.{Text, edition1, Place, got, Reader, readEntries, readAction, readActions, readBodyWith, readBody}
+use Rattle.layout.specs.Tree.{Entry, ActionOf, ActionListOf, empty, more, ActionsOf, body, ActionIndex, firstAction, nextAction}
+use Rattle.layout.specs.Read.{Text, edition1, Place, placed, got, Reader, readEntries, readAction, readActions, readBodyWith, readBody}
 use Rattle.layout.specs.Strings.{mapAction, mapActions, mapBody}
-use Rattle.layout.specs.Write.{bytes, actionsBytes, bodyBytes, sizes, bodySize}
+use Rattle.layout.specs.Write.{bytes, actionsBytes, bodyBytes, sizes, bodySize, position, moved, Event, labelsAt, traces, traceBody}
 use Rattle.layout.specs.Lengths.{length-bytes}
 use Rattle.layout.specs.Pack.{spelling}
 use Rattle.labels.proofs.Labels.{entries-read}
-use Rattle.pcode.specs.Shown.{place}
 use Rattle.pcode.proofs.Readings.{Gives, gives, refuses, given, next, then, itself, u16}
 use Rattle.encode_flat.specs.Branches.{tableBits}
-use Rattle.write.specs.Bodies.{lengthOf, lengthAction, NearActions, nearOf, nearAction, bodyOf, actionOf, Room, Wrote}
-use Rattle.encode_values.specs.declared.Ends.{Ends}
+use Rattle.laws.specs.Resolved.{bodyLength, actionSize, actionTrace}
+use Rattle.write.specs.Bodies.{nearOf, nearAction, bodyOf, actionOf, Room, Wrote}
+use Rattle.positions.specs.declared.Ends.{Ends}
+use Rattle.laws.specs.Nears.{NoneFar, near-left, near-right}
+use Rattle.labels.specs.Table.{recordAt}
 
 -- ---- a body's front
 
@@ -34,32 +36,32 @@ pub record Fronted (b : List ℕ) (depth at : ℕ) (x : ActionsOf Text ℕ) (q :
   pub entries : List Entry
   pub actions : ActionListOf Text ℕ
   pub is : x ≡ body entries actions
-  pub reads : readActions edition1 b (readBody edition1 b (depth - 1)) (u16At b (countAt b at)) (place (countAt b at + 2)) ≡ got actions q
+  pub reads : readActions edition1 b (readBody edition1 b (depth - 1)) (u16At b (countAt b at)) (placed (countAt b at + 2)) ≡ got actions q
 
 module _ (b : List ℕ) (at : ℕ) where
   -- Of a body whose inner bodies have one level less.
-  fronted-with : (depth : ℕ) → Gives (Fronted b (suc depth) at) (readBodyWith edition1 b (readBody edition1 b depth) (place at))
+  fronted-with : (depth : ℕ) → Gives (Fronted b (suc depth) at) (readBodyWith edition1 b (readBody edition1 b depth) (placed at))
   unfolding readBodyWith
   fronted-with depth =
-      next _ (u16 b at) (λ l. then (itself (readEntries edition1 b (u16At b at) 0 (place (at + 2)))) (λ es r e.
-      let f : r ≡ place (countAt b at) = ap place (entries-read edition1 b (u16At b at) (place (at + 2)) es r l e .0 .ends) in
-      rw f (next _ (u16 b (countAt b at)) (λ m. then (itself (readActions edition1 b (readBody edition1 b depth) (u16At b (countAt b at)) (place (countAt b at + 2))))
+      next _ (u16 b at) (λ l. then (itself (readEntries edition1 b (u16At b at) 0 (placed (at + 2)))) (λ es r e.
+      let f : r ≡ placed (countAt b at) = ap placed (entries-read edition1 b (u16At b at) (placed (at + 2)) es r l e .0 .ends) in
+      rw f (next _ (u16 b (countAt b at)) (λ m. then (itself (readActions edition1 b (readBody edition1 b depth) (u16At b (countAt b at)) (placed (countAt b at + 2))))
       (λ xs s g. gives (record { first = l; second = m; deep = omega arith; entries = es; actions = xs; is = refl; reads = less xs s g }))))))
     where
-      less : (xs : ActionListOf Text ℕ) (s : Place) → readActions edition1 b (readBody edition1 b depth) (u16At b (countAt b at)) (place (countAt b at + 2)) ≡ got xs s
-          → readActions edition1 b (readBody edition1 b (suc depth - 1)) (u16At b (countAt b at)) (place (countAt b at + 2)) ≡ got xs s
+      less : (xs : ActionListOf Text ℕ) (s : Place) → readActions edition1 b (readBody edition1 b depth) (u16At b (countAt b at)) (placed (countAt b at + 2)) ≡ got xs s
+          → readActions edition1 b (readBody edition1 b (suc depth - 1)) (u16At b (countAt b at)) (placed (countAt b at + 2)) ≡ got xs s
       less xs s g =
           let k : suc depth - 1 ≡ depth = omega arith in
           rw k g
 
   -- Of a body with any number of levels.
-  fronted-body : (depth : ℕ) → Gives (Fronted b depth at) (readBody edition1 b depth (place at))
+  fronted-body : (depth : ℕ) → Gives (Fronted b depth at) (readBody edition1 b depth (placed at))
   unfolding readBody
   fronted-body zero = refuses
   fronted-body (suc depth) = fronted-with depth
 
   -- What reading a body makes sure of.
-  pub fronted : (depth : ℕ) (x : ActionsOf Text ℕ) (q : Place) → readBody edition1 b depth (place at) ≡ got x q → Fronted b depth at x q
+  pub fronted : (depth : ℕ) (x : ActionsOf Text ℕ) (q : Place) → readBody edition1 b depth (placed at) ≡ got x q → Fronted b depth at x q
   fronted depth x q e = given (fronted-body depth) e
 
 -- ---- the first of several actions
@@ -70,16 +72,16 @@ record FirstOf (b : List ℕ) (inner : Reader (ActionsOf Text ℕ)) (n p : ℕ) 
   pub others : ActionListOf Text ℕ
   pub then-at : Place
   pub is : xs ≡ more first others
-  pub reads-first : readAction edition1 b inner (place p) ≡ got first then-at
+  pub reads-first : readAction edition1 b inner (placed p) ≡ got first then-at
   pub reads-others : readActions edition1 b inner (n - 1) then-at ≡ got others q
 
 module _ (b : List ℕ) (inner : Reader (ActionsOf Text ℕ)) where
   -- Of several actions there is a first.
-  first-gives : (n p : ℕ) → 0 < n → Gives (FirstOf b inner n p) (readActions edition1 b inner n (place p))
+  first-gives : (n p : ℕ) → 0 < n → Gives (FirstOf b inner n p) (readActions edition1 b inner n (placed p))
   unfolding readActions
   first-gives zero p h = absurd (omega arith)
   first-gives (suc n) p h =
-      then (itself (readAction edition1 b inner (place p))) (λ a r e. then (itself (readActions edition1 b inner n r))
+      then (itself (readAction edition1 b inner (placed p))) (λ a r e. then (itself (readActions edition1 b inner n r))
       (λ xs q f. gives (record { first = a; others = xs; then-at = r; is = refl; reads-first = e; reads-others = less xs r q f })))
     where
       less : (xs : ActionListOf Text ℕ) (r q : Place) → readActions edition1 b inner n r ≡ got xs q → readActions edition1 b inner (suc n - 1) r ≡ got xs q
@@ -88,11 +90,11 @@ module _ (b : List ℕ) (inner : Reader (ActionsOf Text ℕ)) where
           rw k f
 
   -- The same of actions that were read.
-  first-of : (n p : ℕ) (xs : ActionListOf Text ℕ) (q : Place) → 0 < n → readActions edition1 b inner n (place p) ≡ got xs q → FirstOf b inner n p xs q
+  first-of : (n p : ℕ) (xs : ActionListOf Text ℕ) (q : Place) → 0 < n → readActions edition1 b inner n (placed p) ≡ got xs q → FirstOf b inner n p xs q
   first-of n p xs q h e = given (first-gives n p h) e
 
   -- No action was read.
-  none-of : (n p : ℕ) (xs : ActionListOf Text ℕ) (q : Place) → n ≤ 0 → readActions edition1 b inner n (place p) ≡ got xs q → (xs ≡ empty) × (q ≡ place p)
+  none-of : (n p : ℕ) (xs : ActionListOf Text ℕ) (q : Place) → n ≤ 0 → readActions edition1 b inner n (placed p) ≡ got xs q → (xs ≡ empty) × (q ≡ placed p)
   unfolding readActions
   none-of zero p xs q h e = (cc, cc)
   none-of (suc n) p xs q h e = absurd (omega arith)
@@ -107,28 +109,32 @@ lengthList xs = sizes (mapActions spelling xs)
 pub listOf : List ℕ → ActionListOf Text ℕ → ℕ → List ℕ
 listOf tab xs p = actionsBytes (tableBits tab) (mapActions spelling xs) p
 
--- Their branches are not too far.
-abbrev pub nearList : List ℕ → ActionListOf Text ℕ → ℕ → Type 0
-nearList tab xs p = NearActions tab (mapActions spelling xs) p
+-- None of their branches goes too far; the first has an index, and the body has these entries.
+abbrev pub nearList : List ℕ → List Entry → ActionIndex → ActionListOf Text ℕ → ℕ → Type 0
+nearList tab es i xs p = NoneFar (recordAt tab) (traces (mapActions spelling xs) es i (position p))
 
 -- The length of actions, one after the other.
-more-length : (a : ActionOf Text ℕ) (xs : ActionListOf Text ℕ) → lengthList (more a xs) ≡ lengthAction a + lengthList xs
-unfolding lengthList lengthAction mapActions sizes
+more-length : (a : ActionOf Text ℕ) (xs : ActionListOf Text ℕ) → lengthList (more a xs) ≡ actionSize a + lengthList xs
+unfolding lengthList mapActions sizes
 more-length a xs = refl
 
--- Nor are those of the first, and of the others.
-more-near : (tab : List ℕ) (xs : ActionListOf Text ℕ) (a : ActionOf Text ℕ) (ys : ActionListOf Text ℕ) (w : ℕ) → xs ≡ more a ys → nearList tab xs w
-    → nearAction tab a w × nearList tab ys (w + lengthAction a)
-unfolding mapActions lengthAction
-more-near tab xs a ys w e h = rw e at h
+-- Nor does one of the first, and of the others.
+more-near : (tab : List ℕ) (es : List Entry) (i : ActionIndex) (xs : ActionListOf Text ℕ) (a : ActionOf Text ℕ) (ys : ActionListOf Text ℕ) (w : ℕ) → xs ≡ more a ys
+    → nearList tab es i xs w → nearAction tab a w × nearList tab es (nextAction i) ys (w + actionSize a)
+unfolding mapActions traces moved
+more-near tab es i xs a ys w e h =
+    let x : List Event = actionTrace a w in
+    let y : List Event = traces (mapActions spelling ys) es (nextAction i) (position (w + actionSize a)) in
+    let k : NoneFar (recordAt tab) (x ++ y) = near-right (recordAt tab) (labelsAt es i (position w)) (x ++ y) (rw e at h) in
+    (near-left (recordAt tab) x y k, near-right (recordAt tab) x y k)
 
 -- An action is written, and then the others: all of them are.
 more-bytes : (tab l : List ℕ) (a : ActionOf Text ℕ) (xs : ActionListOf Text ℕ) (w : ℕ)
-    → sets (sets l w (actionOf tab a w)) (w + lengthAction a) (listOf tab xs (w + lengthAction a)) ≡ sets l w (listOf tab (more a xs) w)
-unfolding listOf mapActions actionsBytes actionOf lengthAction
+    → sets (sets l w (actionOf tab a w)) (w + actionSize a) (listOf tab xs (w + actionSize a)) ≡ sets l w (listOf tab (more a xs) w)
+unfolding listOf mapActions actionsBytes actionOf
 more-bytes tab l a xs w =
-    ap (λ (n : ℕ). sets (sets l w (actionOf tab a w)) (w + n) (listOf tab xs (w + lengthAction a))) (sym (length-bytes (tableBits tab) (mapAction spelling a) w))
-    ∙ sets-append l w (actionOf tab a w) (listOf tab xs (w + lengthAction a))
+    ap (λ (n : ℕ). sets (sets l w (actionOf tab a w)) (w + n) (listOf tab xs (w + actionSize a))) (sym (length-bytes (tableBits tab) (mapAction spelling a) w))
+    ∙ sets-append l w (actionOf tab a w) (listOf tab xs (w + actionSize a))
 
 -- `left` actions are still to be read at p and to be written at w: with them the output is what the whole body asks.
 pub record Writing (b : List ℕ) (at depth pos : ℕ) (tab old : List ℕ) (left p w : ℕ) (out : List ℕ) : Type 0 where
@@ -136,16 +142,18 @@ pub record Writing (b : List ℕ) (at depth pos : ℕ) (tab old : List ℕ) (lef
   pub end : Place
   pub rest : ActionListOf Text ℕ
   pub deep : 0 < depth
-  pub is-read : readBody edition1 b depth (place at) ≡ got whole end
-  pub goes-on : readActions edition1 b (readBody edition1 b (depth - 1)) left (place p) ≡ got rest end
-  pub is-near : nearList tab rest w
+  pub is-read : readBody edition1 b depth (placed at) ≡ got whole end
+  pub goes-on : readActions edition1 b (readBody edition1 b (depth - 1)) left (placed p) ≡ got rest end
+  pub entries : List Entry
+  pub index : ActionIndex
+  pub is-near : nearList tab entries index rest w
   pub completes : sets out w (listOf tab rest w) ≡ sets old pos (bodyOf tab whole pos)
-  pub reach : w + lengthList rest ≡ pos + lengthOf whole
+  pub reach : w + lengthList rest ≡ pos + bodyLength whole
   pub long : length out ≡ length old
 
 module _ (b : List ℕ) (at depth pos : ℕ) (tab old : List ℕ) where
   -- Before the first action.
-  pub writing-start : Room (readBody edition1 b depth) lengthOf nearOf b at pos tab old → (left p : ℕ) → left ≡ u16At b (countAt b at) → p ≡ countAt b at + 2
+  pub writing-start : Room (readBody edition1 b depth) bodyLength nearOf b at pos tab old → (left p : ℕ) → left ≡ u16At b (countAt b at) → p ≡ countAt b at + 2
       → Writing b at depth pos tab old left p pos old
   writing-start r left p e f =
       let g = fronted b at depth (r .value) (r .next) (r .reads) in
@@ -156,27 +164,29 @@ module _ (b : List ℕ) (at depth pos : ℕ) (tab old : List ℕ) where
         deep = g .deep;
         is-read = r .reads;
         goes-on = rw (e, f) (g .reads);
+        entries = g .entries;
+        index = firstAction;
         is-near = near (r .value) (g .entries) (g .actions) (g .is) (r .is-near);
         completes = ap (λ (s : List ℕ). sets old pos s) (same (r .value) (g .entries) (g .actions) (g .is));
         reach = ap (λ (n : ℕ). pos + n) (as-long (r .value) (g .entries) (g .actions) (g .is));
         long = refl;
       }
     where
-      near : (x : ActionsOf Text ℕ) (es : List Entry) (xs : ActionListOf Text ℕ) → x ≡ body es xs → nearOf tab x pos → nearList tab xs pos
+      near : (x : ActionsOf Text ℕ) (es : List Entry) (xs : ActionListOf Text ℕ) → x ≡ body es xs → nearOf tab x pos → nearList tab es firstAction xs pos
       near x es xs h k =
           let m = rw h at k in
-          unfold mapBody in m
+          unfold mapBody traceBody in m
 
       same : (x : ActionsOf Text ℕ) (es : List Entry) (xs : ActionListOf Text ℕ) → x ≡ body es xs → listOf tab xs pos ≡ bodyOf tab x pos
       same x es xs h = rw h (unfold bodyOf listOf mapBody bodyBytes in refl)
 
-      as-long : (x : ActionsOf Text ℕ) (es : List Entry) (xs : ActionListOf Text ℕ) → x ≡ body es xs → lengthList xs ≡ lengthOf x
-      as-long x es xs h = rw h (unfold lengthOf lengthList mapBody bodySize in refl)
+      as-long : (x : ActionsOf Text ℕ) (es : List Entry) (xs : ActionListOf Text ℕ) → x ≡ body es xs → lengthList xs ≡ bodyLength x
+      as-long x es xs h = rw h (unfold lengthList mapBody bodySize in refl)
 
   module _ (left p w : ℕ) (out : List ℕ) where
     -- The next action has room.
-    pub writing-room : 0 < left → Writing b at depth pos tab old left p w out → Room (readBody edition1 b depth) lengthOf nearOf b at pos tab old
-        → Room (readAction edition1 b (readBody edition1 b (depth - 1))) lengthAction nearAction b p w tab out
+    pub writing-room : 0 < left → Writing b at depth pos tab old left p w out → Room (readBody edition1 b depth) bodyLength nearOf b at pos tab old
+        → Room (readAction edition1 b (readBody edition1 b (depth - 1))) actionSize nearAction b p w tab out
     writing-room h g r =
         let f = first-of b (readBody edition1 b (depth - 1)) left p (g .rest) (g .end) h (g .goes-on) in
         let same : g .whole ≡ r .value = as-read (g .whole) (g .end) (r .value) (r .next) (g .is-read) (r .reads) in
@@ -186,18 +196,18 @@ module _ (b : List ℕ) (at depth pos : ℕ) (tab old : List ℕ) where
           next = f .then-at;
           reads = f .reads-first;
           slots = r .slots;
-          is-near = more-near tab (g .rest) (f .first) (f .others) w (f .is) (g .is-near) .0;
-          room = omega (arith, g .reach, g .long, r .room, ap lengthOf same, ap lengthList (f .is), more-length (f .first) (f .others));
+          is-near = more-near tab (g .entries) (g .index) (g .rest) (f .first) (f .others) w (f .is) (g .is-near) .0;
+          room = omega (arith, g .reach, g .long, r .room, ap bodyLength same, ap lengthList (f .is), more-length (f .first) (f .others));
           sums = omega (arith, g .long, r .sums);
           places = r .places;
         }
       where
-        as-read : (x : ActionsOf Text ℕ) (o : Place) (y : ActionsOf Text ℕ) (q : Place) → readBody edition1 b depth (place at) ≡ got x o → readBody edition1 b depth (place at) ≡ got y q → x ≡ y
+        as-read : (x : ActionsOf Text ℕ) (o : Place) (y : ActionsOf Text ℕ) (q : Place) → readBody edition1 b depth (placed at) ≡ got x o → readBody edition1 b depth (placed at) ≡ got y q → x ≡ y
         as-read x o y q e f = cc
 
     -- It was written, and the others are still to be.
     pub writing-more : (new : List ℕ) (e : Ends) → 0 < left → Writing b at depth pos tab old left p w out
-        → Wrote (readAction edition1 b (readBody edition1 b (depth - 1))) lengthAction (λ x. sets out w (actionOf tab x w)) p w new e
+        → Wrote (readAction edition1 b (readBody edition1 b (depth - 1))) actionSize (λ x. sets out w (actionOf tab x w)) p w new e
         → Writing b at depth pos tab old (left - 1) (e .next) (e .pos) new
     writing-more new e h g k =
         let f = first-of b (readBody edition1 b (depth - 1)) left p (g .rest) (g .end) h (g .goes-on) in
@@ -205,7 +215,7 @@ module _ (b : List ℕ) (at depth pos : ℕ) (tab old : List ℕ) where
       where
         go : (a : ActionOf Text ℕ) (xs : ActionListOf Text ℕ) (q : Place) (p′ w′ : ℕ) → g .rest ≡ more a xs
             → readActions edition1 b (readBody edition1 b (depth - 1)) (left - 1) q ≡ got xs (g .end)
-            → new ≡ sets out w (actionOf tab a w) → (w′ ≡ w + lengthAction a) × (p′ ≡ q .at) → Writing b at depth pos tab old (left - 1) p′ w′ new
+            → new ≡ sets out w (actionOf tab a w) → (w′ ≡ w + actionSize a) × (p′ ≡ q .at) → Writing b at depth pos tab old (left - 1) p′ w′ new
         go a xs q p′ w′ is r o t =
             record {
               whole = g .whole;
@@ -214,7 +224,9 @@ module _ (b : List ℕ) (at depth pos : ℕ) (tab old : List ℕ) where
               deep = g .deep;
               is-read = g .is-read;
               goes-on = rw (t .1) r;
-              is-near = rw (t .0) (more-near tab (g .rest) a xs w is (g .is-near) .1);
+              entries = g .entries;
+              index = nextAction (g .index);
+              is-near = rw (t .0) (more-near tab (g .entries) (g .index) (g .rest) a xs w is (g .is-near) .1);
               completes = rw (o, t .0) (more-bytes tab out a xs w ∙ ap (λ (ys : ActionListOf Text ℕ). sets out w (listOf tab ys w)) (sym is) ∙ g .completes);
               reach = omega (arith, t .0, ap lengthList is, more-length a xs, g .reach);
               long = ap length o ∙ length-sets out w (actionOf tab a w) ∙ g .long;
@@ -222,13 +234,13 @@ module _ (b : List ℕ) (at depth pos : ℕ) (tab old : List ℕ) where
 
     -- All are written.
     pub writing-end : left ≤ 0 → Writing b at depth pos tab old left p w out
-        → Wrote (readBody edition1 b depth) lengthOf (λ x. sets old pos (bodyOf tab x pos)) at pos out (record { next = p; pos = w })
+        → Wrote (readBody edition1 b depth) bodyLength (λ x. sets old pos (bodyOf tab x pos)) at pos out (record { next = p; pos = w })
     writing-end h g = record { wrote = λ x q e. same-bytes x q e; ends = record { ended = λ x q e. (same-end x q e, same-place x q e) } }
       where
-        rest-none : (g .rest ≡ empty) × (g .end ≡ place p)
+        rest-none : (g .rest ≡ empty) × (g .end ≡ placed p)
         rest-none = none-of b (readBody edition1 b (depth - 1)) left p (g .rest) (g .end) h (g .goes-on)
 
-        same-whole : (x : ActionsOf Text ℕ) (q : Place) → readBody edition1 b depth (place at) ≡ got x q → (g .whole ≡ x) × (g .end ≡ q)
+        same-whole : (x : ActionsOf Text ℕ) (q : Place) → readBody edition1 b depth (placed at) ≡ got x q → (g .whole ≡ x) × (g .end ≡ q)
         same-whole x q e =
             let i = g .is-read in
             (cc, cc)
@@ -239,11 +251,11 @@ module _ (b : List ℕ) (at depth pos : ℕ) (tab old : List ℕ) where
         nothing-long : (xs : ActionListOf Text ℕ) → xs ≡ empty → lengthList xs ≡ 0
         nothing-long xs k = rw k (unfold lengthList mapActions sizes in refl)
 
-        same-bytes : (x : ActionsOf Text ℕ) (q : Place) → readBody edition1 b depth (place at) ≡ got x q → out ≡ sets old pos (bodyOf tab x pos)
+        same-bytes : (x : ActionsOf Text ℕ) (q : Place) → readBody edition1 b depth (placed at) ≡ got x q → out ≡ sets old pos (bodyOf tab x pos)
         same-bytes x q e = nothing-bytes (g .rest) (rest-none .0) ∙ g .completes ∙ ap (λ (y : ActionsOf Text ℕ). sets old pos (bodyOf tab y pos)) (same-whole x q e .0)
 
-        same-end : (x : ActionsOf Text ℕ) (q : Place) → readBody edition1 b depth (place at) ≡ got x q → w ≡ pos + lengthOf x
-        same-end x q e = omega (arith, nothing-long (g .rest) (rest-none .0), g .reach, ap lengthOf (same-whole x q e .0))
+        same-end : (x : ActionsOf Text ℕ) (q : Place) → readBody edition1 b depth (placed at) ≡ got x q → w ≡ pos + bodyLength x
+        same-end x q e = omega (arith, nothing-long (g .rest) (rest-none .0), g .reach, ap bodyLength (same-whole x q e .0))
 
-        same-place : (x : ActionsOf Text ℕ) (q : Place) → readBody edition1 b depth (place at) ≡ got x q → p ≡ q .at
+        same-place : (x : ActionsOf Text ℕ) (q : Place) → readBody edition1 b depth (placed at) ≡ got x q → p ≡ q .at
         same-place x q e = ap (λ (o : Place). o .at) (sym (rest-none .1) ∙ same-whole x q e .1)

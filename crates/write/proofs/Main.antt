@@ -8,22 +8,22 @@ use lib.ListN.{length}
 use lib.Seq.{sets}
 use Rattle.stores.proofs.Stores.{sets-then}
 use Rattle.layout.specs.Tree.{Actions, ActionsOf}
-use Rattle.layout.specs.Read.{Text, edition1, deepest, Place, got, readBody, readMain}
+use Rattle.layout.specs.Read.{Text, edition1, deepest, Place, placed, got, readBody, readMain}
 use Rattle.layout.specs.Strings.{mapBody}
-use Rattle.layout.specs.Write.{bytes, bodyBytes, bodySize, Position, events, distanceBits, branchBits, blockBytes, blockSize}
+use Rattle.layout.specs.Write.{bytes, bodyBytes, bodySize, Position, events, distanceBits, branchBits, blockBytes, blockSize, position, traceBody, lookup}
 use Rattle.layout.specs.Lengths.{length-body}
 use Rattle.layout.specs.Pack.{spelling}
 use Rattle.layout.specs.Judge.{tooFar}
-use Rattle.labels.specs.Table.{TableHolds}
+use Rattle.labels.specs.Table.{TableHolds, recordAt}
 use Rattle.labels.proofs.Labels.{table-record}
-use Rattle.pcode.specs.Shown.{place}
 use Rattle.pcode.proofs.Readings.{given}
 use Rattle.encode_flat.specs.Branches.{tableBits}
-use Rattle.write.specs.Bodies.{lengthOf, nearOf, bodyOf, Room, Wrote, MainWritable, WroteBlock}
-use Rattle.encode_values.specs.declared.Ends.{Ends}
+use Rattle.laws.specs.Resolved.{bodyLength}
+use Rattle.write.specs.Bodies.{nearOf, bodyOf, Room, Wrote, MainWritable, WroteBlock}
+use Rattle.positions.specs.declared.Ends.{Ends}
 use Rattle.pcode.proofs.Trees.{UnderBody, main-body, body-under}
+use Rattle.pcode.proofs.Within.{body-within, far-same}
 use Rattle.write.proofs.Labels.{agree-body}
-use Rattle.write.proofs.Nears.{near-body}
 
 -- ---- the main body
 
@@ -36,8 +36,8 @@ table-bits tab t h l after k = ap (λ (o : Option Position). distanceBits o afte
 
 module _ (b tab out : List ℕ) (m : MainWritable b tab out) where
   -- There is room for the main body's actions.
-  pub main-room : Room (readBody edition1 b deepest) lengthOf nearOf b 0 0 tab out
-  unfolding lengthOf blockSize
+  pub main-room : Room (readBody edition1 b deepest) bodyLength nearOf b 0 0 tab out
+  unfolding blockSize
   main-room =
       let r = m .reads in
       record {
@@ -46,7 +46,7 @@ module _ (b tab out : List ℕ) (m : MainWritable b tab out) where
         next = r .next;
         reads = main-body b (r .read) (r .next) (r .is-read);
         slots = m .holds .slots;
-        is-near = near-main (r .read) (m .tree) (r .is-tree) (given (body-under b deepest (place 0)) (main-body b (r .read) (r .next) (r .is-read))) (m .holds) (m .is-near);
+        is-near = near-main (r .read) (m .tree) (r .is-tree) (given (body-under b deepest (placed 0)) (main-body b (r .read) (r .next) (r .is-read))) (m .holds) (m .is-near);
         room = omega (arith, m .room, ap bodySize (r .is-tree));
         sums = m .sums;
         places = m .places;
@@ -54,12 +54,14 @@ module _ (b tab out : List ℕ) (m : MainWritable b tab out) where
     where
       near-main : (x : ActionsOf Text ℕ) (t : Actions) → mapBody spelling x ≡ t → UnderBody 1024 (mapBody spelling x) → TableHolds 1024 tab (events t)
           → tooFar (events t) (events t) ≡ none → nearOf tab x 0
-      near-main x t i u h k = rw i (near-body (events t) tab (table-record 1024 tab (events t) h) t (record { at = 0 }) (subst (UnderBody 1024) i u) (unfold events in k))
+      near-main x t i u h k =
+          rw i (far-same 1024 (bodySize t) (recordAt tab) (λ l. lookup l (events t)) (table-record 1024 tab (events t) h) (traceBody t (position 0))
+          (body-within 1024 (bodySize t) t (position 0) (subst (UnderBody 1024) i u) (omega arith)) ∙ (unfold events in k))
 
-  module _ (mid : List ℕ) (e : Ends) (w : Wrote (readBody edition1 b deepest) lengthOf (λ x. sets out 0 (bodyOf tab x 0)) 0 0 mid e) where
+  module _ (mid : List ℕ) (e : Ends) (w : Wrote (readBody edition1 b deepest) bodyLength (λ x. sets out 0 (bodyOf tab x 0)) 0 0 mid e) where
     -- And for the End behind them.
     pub end-room : length mid ≡ length out → e .pos + 1 ≤ length mid
-    unfolding lengthOf blockSize
+    unfolding blockSize
     end-room l =
         let r = m .reads in
         omega (arith, w .ends .ended (r .read) (r .next) (main-body b (r .read) (r .next) (r .is-read)) .0, m .room, ap bodySize (r .is-tree), l)
@@ -73,7 +75,7 @@ module _ (b tab out : List ℕ) (m : MainWritable b tab out) where
         go t x q d i y s f j =
             let same : m .tree ≡ t = cc in
             let h = subst (λ (u : Actions). TableHolds 1024 tab (events u)) same (m .holds) in
-            let under = subst (UnderBody 1024) i (given (body-under b deepest (place 0)) (main-body b x q d)) in
+            let under = subst (UnderBody 1024) i (given (body-under b deepest (placed 0)) (main-body b x q d)) in
             let v = main-body b x q d in
             let k : mid ≡ sets out 0 (bodyBytes (branchBits t) t 0) =
             w .wrote x q v ∙ ap (λ (l : List ℕ). sets out 0 l) (shown x t i ∙ agree-body (tableBits tab) (branchBits t) 1024 (table-bits tab t h) t 0 under) in
@@ -82,8 +84,8 @@ module _ (b tab out : List ℕ) (m : MainWritable b tab out) where
             shown : (x : ActionsOf Text ℕ) (t : Actions) → mapBody spelling x ≡ t → bodyOf tab x 0 ≡ bodyBytes (tableBits tab) t 0
             shown x t i = unfold bodyOf in ap (λ (u : Actions). bodyBytes (tableBits tab) u 0) i
 
-            long : (x : ActionsOf Text ℕ) (t : Actions) → mapBody spelling x ≡ t → lengthOf x ≡ bodySize t
-            long x t i = unfold lengthOf in ap bodySize i
+            long : (x : ActionsOf Text ℕ) (t : Actions) → mapBody spelling x ≡ t → bodyLength x ≡ bodySize t
+            long x t i = ap bodySize i
 
             whole : (t : Actions) → mid ≡ sets out 0 (bodyBytes (branchBits t) t 0) → e .pos ≡ 0 + bodySize t → new ≡ sets out 0 (blockBytes t)
             whole t k p =

@@ -9,17 +9,17 @@ use lib.ListN.{length}
 use lib.Seq.{sets}
 use Rattle.layout.specs.Numbers.{le16}
 use Rattle.layout.specs.Tree.{ActionsOf}
-use Rattle.layout.specs.Read.{Text, Place, Reader, got, hasCatch, hasFinally}
-use Rattle.pcode.specs.Shown.{place}
+use Rattle.layout.specs.Read.{Text, Place, placed, Reader, got, hasCatch, hasFinally}
 use Rattle.pcode.proofs.Readings.{gives, given, then, itself}
-use Rattle.write.specs.Bodies.{readIf, Tried, readTried, lengthOf, lengthIf, lengthTried, nearOf, nearIf, nearTried, bodyOf, closed, closedIf, closedTried, Room, Ended, Wrote}
-use Rattle.encode_values.specs.declared.Ends.{Ends}
+use Rattle.laws.specs.Resolved.{bodyLength}
+use Rattle.write.specs.Bodies.{readIf, Tried, readTried, lengthIf, lengthTried, nearOf, nearIf, nearTried, bodyOf, closed, closedIf, closedTried, Room, Ended, Wrote}
+use Rattle.positions.specs.declared.Ends.{Ends}
 
 -- ---- a body and its length
 
 -- The length's place lies within an output of n bytes, and the body ends behind its start.
 pub block-room : {inner : Reader (ActionsOf Text ℕ)} {b tab out : List ℕ} {at pos n : ℕ} (from : ℕ) {e : Ends}
-    → Room inner lengthOf nearOf b at pos tab out × (from + 2 ≤ pos) → Ended inner lengthOf at pos e → n ≡ length out
+    → Room inner bodyLength nearOf b at pos tab out × (from + 2 ≤ pos) → Ended inner bodyLength at pos e → n ≡ length out
     → (from + 2 ≤ n) × (pos ≤ e .pos)
 block-room from r w l =
     let k = w .ended (r .0 .value) (r .0 .next) (r .0 .reads) .0 in
@@ -27,14 +27,14 @@ block-room from r w l =
 
 module _ (inner : Reader (ActionsOf Text ℕ)) (tab out mid : List ℕ) (at pos from : ℕ) (e : Ends) where
   -- The body was written, then its length.
-  pub block-wrote : (new : List ℕ) → Wrote inner lengthOf (λ x. sets out pos (bodyOf tab x pos)) at pos mid e → new ≡ sets mid from (le16 (e .pos - pos))
-      → Wrote inner lengthOf (closed tab out pos from) at pos new e
+  pub block-wrote : (new : List ℕ) → Wrote inner bodyLength (λ x. sets out pos (bodyOf tab x pos)) at pos mid e → new ≡ sets mid from (le16 (e .pos - pos))
+      → Wrote inner bodyLength (closed tab out pos from) at pos new e
   unfolding closed
   block-wrote new w n = record { wrote = λ x q r. go x (w .wrote x q r) (w .ends .ended x q r .0); ends = w .ends }
     where
-      go : (x : ActionsOf Text ℕ) → mid ≡ sets out pos (bodyOf tab x pos) → e .pos ≡ pos + lengthOf x → new ≡ sets (sets out pos (bodyOf tab x pos)) from (le16 (lengthOf x))
+      go : (x : ActionsOf Text ℕ) → mid ≡ sets out pos (bodyOf tab x pos) → e .pos ≡ pos + bodyLength x → new ≡ sets (sets out pos (bodyOf tab x pos)) from (le16 (bodyLength x))
       go x m k =
-          let d : e .pos - pos ≡ lengthOf x = omega (arith, k) in
+          let d : e .pos - pos ≡ bodyLength x = omega (arith, k) in
           n ∙ rw (d, m) refl
 
 -- ---- a body that may be absent
@@ -55,10 +55,10 @@ present inner p false e r =
 
 module _ (inner : Reader (ActionsOf Text ℕ)) (tab out : List ℕ) (at pos : ℕ) where
   -- A present body has room.
-  pub if-room : {b : List ℕ} (t : Bool) → not t ≡ false → Room (readIf t inner) lengthIf nearIf b at pos tab out → Room inner lengthOf nearOf b at pos tab out
+  pub if-room : {b : List ℕ} (t : Bool) → not t ≡ false → Room (readIf t inner) lengthIf nearIf b at pos tab out → Room inner bodyLength nearOf b at pos tab out
   unfolding lengthIf
   if-room t e r =
-      let x = present inner (place at) t e (r .reads) in
+      let x = present inner (placed at) t e (r .reads) in
       record {
         bytes = r .bytes;
         value = x .value;
@@ -73,15 +73,15 @@ module _ (inner : Reader (ActionsOf Text ℕ)) (tab out : List ℕ) (at pos : �
 
   module _ (from : ℕ) where
     -- It was written with its length.
-    pub if-wrote : (t : Bool) {new : List ℕ} {e : Ends} → not t ≡ false → Wrote inner lengthOf (closed tab out pos from) at pos new e → Wrote (readIf t inner) lengthIf (closedIf tab out pos from) at pos new e
+    pub if-wrote : (t : Bool) {new : List ℕ} {e : Ends} → not t ≡ false → Wrote inner bodyLength (closed tab out pos from) at pos new e → Wrote (readIf t inner) lengthIf (closedIf tab out pos from) at pos new e
     unfolding lengthIf closedIf
     if-wrote t {new} {e} h w =
         record {
-          wrote = λ y q r. let x = present inner (place at) t h r in w .wrote (x .value) q (x .reads) ∙ ap (λ (o : Option (ActionsOf Text ℕ)). closedIf tab out pos from o) (sym (x .is));
-          ends = record { ended = λ y q r. let x = present inner (place at) t h r in go y (x .value) (x .is) (w .ends .ended (x .value) q (x .reads)) };
+          wrote = λ y q r. let x = present inner (placed at) t h r in w .wrote (x .value) q (x .reads) ∙ ap (λ (o : Option (ActionsOf Text ℕ)). closedIf tab out pos from o) (sym (x .is));
+          ends = record { ended = λ y q r. let x = present inner (placed at) t h r in go y (x .value) (x .is) (w .ends .ended (x .value) q (x .reads)) };
         }
       where
-        go : (y : Option (ActionsOf Text ℕ)) (x : ActionsOf Text ℕ) {q : ℕ} → y ≡ some x → (e .pos ≡ pos + lengthOf x) × (e .next ≡ q) → (e .pos ≡ pos + lengthIf y) × (e .next ≡ q)
+        go : (y : Option (ActionsOf Text ℕ)) (x : ActionsOf Text ℕ) {q : ℕ} → y ≡ some x → (e .pos ≡ pos + bodyLength x) × (e .next ≡ q) → (e .pos ≡ pos + lengthIf y) × (e .next ≡ q)
         go y x i k = rw i k
 
     -- An absent body leaves everything as it is.
@@ -92,7 +92,7 @@ module _ (inner : Reader (ActionsOf Text ℕ)) (tab out : List ℕ) (at pos : �
         absurd (omega arith)
     if-absent false e = record { wrote = λ y q r. ap (λ (o : Option (ActionsOf Text ℕ)). closedIf tab out pos from o) (go y q r .0); ends = record { ended = λ y q r. (omega (arith, ap lengthIf (go y q r .0)), ap (λ (o : Place). o .at) (go y q r .1)) } }
       where
-        go : (y : Option (ActionsOf Text ℕ)) (q : Place) → got none (place at) ≡ got y q → (none ≡ y) × (place at ≡ q)
+        go : (y : Option (ActionsOf Text ℕ)) (q : Place) → got none (placed at) ≡ got y q → (none ≡ y) × (placed at ≡ q)
         go y q r = (cc, cc)
 
 -- ---- the bodies of a Try
@@ -114,10 +114,10 @@ parts shape inner p r =
 
 module _ (inner : Reader (ActionsOf Text ℕ)) (b tab out : List ℕ) (at pos shape : ℕ) (r : Room (readTried shape inner) lengthTried nearTried b at pos tab out) where
   -- The first body has room.
-  pub try-first : Room inner lengthOf nearOf b at pos tab out
+  pub try-first : Room inner bodyLength nearOf b at pos tab out
   unfolding lengthTried
   try-first =
-      let k = parts shape inner (place at) (r .reads) in
+      let k = parts shape inner (placed at) (r .reads) in
       record {
         bytes = r .bytes;
         value = r .value .first;
@@ -130,18 +130,18 @@ module _ (inner : Reader (ActionsOf Text ℕ)) (b tab out : List ℕ) (at pos sh
         places = r .places;
       }
 
-  module _ {t : Ends} (w : Ended inner lengthOf at pos t) where
+  module _ {t : Ends} (w : Ended inner bodyLength at pos t) where
     -- The second has, behind the first.
     pub try-second : (one : List ℕ) → length one ≡ length out → Room (readIf (hasCatch shape) inner) lengthIf nearIf b (t .next) (t .pos) tab one
     unfolding lengthTried
     try-second one l =
-        let k = parts shape inner (place at) (r .reads) in
+        let k = parts shape inner (placed at) (r .reads) in
         let v = w .ended (r .value .first) (k .second-at) (k .reads-first) in
         record {
           bytes = r .bytes;
           value = r .value .second;
           next = k .third-at;
-          reads = ap (λ (n : ℕ). readIf (hasCatch shape) inner (place n)) (v .1) ∙ k .reads-second;
+          reads = ap (λ (n : ℕ). readIf (hasCatch shape) inner (placed n)) (v .1) ∙ k .reads-second;
           slots = r .slots;
           is-near = rw (v .0) (r .is-near .1);
           room = omega (arith, r .room, v .0, l);
@@ -152,7 +152,7 @@ module _ (inner : Reader (ActionsOf Text ℕ)) (b tab out : List ℕ) (at pos sh
     -- The first ends behind its start.
     pub try-after : pos ≤ t .pos
     try-after =
-        let k = parts shape inner (place at) (r .reads) in
+        let k = parts shape inner (placed at) (r .reads) in
         omega (arith, w .ended (r .value .first) (k .second-at) (k .reads-first) .0)
 
     module _ {c : Ends} (x : Ended (readIf (hasCatch shape) inner) lengthIf (t .next) (t .pos) c) where
@@ -160,14 +160,14 @@ module _ (inner : Reader (ActionsOf Text ℕ)) (b tab out : List ℕ) (at pos sh
       pub try-third : (two : List ℕ) → length two ≡ length out → Room (readIf (hasFinally shape) inner) lengthIf nearIf b (c .next) (c .pos) tab two
       unfolding lengthTried
       try-third two l =
-          let k = parts shape inner (place at) (r .reads) in
+          let k = parts shape inner (placed at) (r .reads) in
           let v = w .ended (r .value .first) (k .second-at) (k .reads-first) in
-          let u = x .ended (r .value .second) (k .third-at) (ap (λ (n : ℕ). readIf (hasCatch shape) inner (place n)) (v .1) ∙ k .reads-second) in
+          let u = x .ended (r .value .second) (k .third-at) (ap (λ (n : ℕ). readIf (hasCatch shape) inner (placed n)) (v .1) ∙ k .reads-second) in
           record {
             bytes = r .bytes;
             value = r .value .third;
             next = r .next;
-            reads = ap (λ (n : ℕ). readIf (hasFinally shape) inner (place n)) (u .1) ∙ k .reads-third;
+            reads = ap (λ (n : ℕ). readIf (hasFinally shape) inner (placed n)) (u .1) ∙ k .reads-third;
             slots = r .slots;
             is-near = rw (u .0, v .0) (r .is-near .2);
             room = omega (arith, r .room, v .0, u .0, l);
@@ -178,25 +178,25 @@ module _ (inner : Reader (ActionsOf Text ℕ)) (b tab out : List ℕ) (at pos sh
       -- The second ends behind its start.
       pub try-after-both : t .pos ≤ c .pos
       try-after-both =
-          let k = parts shape inner (place at) (r .reads) in
+          let k = parts shape inner (placed at) (r .reads) in
           let v = w .ended (r .value .first) (k .second-at) (k .reads-first) in
-          omega (arith, x .ended (r .value .second) (k .third-at) (ap (λ (n : ℕ). readIf (hasCatch shape) inner (place n)) (v .1) ∙ k .reads-second) .0)
+          omega (arith, x .ended (r .value .second) (k .third-at) (ap (λ (n : ℕ). readIf (hasCatch shape) inner (placed n)) (v .1) ∙ k .reads-second) .0)
 
 module _ (inner : Reader (ActionsOf Text ℕ)) (tab out : List ℕ) (at pos shape from : ℕ) {one two three : List ℕ} {t c f : Ends} where
   -- All three were written with their lengths.
-  pub try-wrote : Wrote inner lengthOf (closed tab out pos from) at pos one t
+  pub try-wrote : Wrote inner bodyLength (closed tab out pos from) at pos one t
       → Wrote (readIf (hasCatch shape) inner) lengthIf (closedIf tab one (t .pos) (from + 2)) (t .next) (t .pos) two c
       → Wrote (readIf (hasFinally shape) inner) lengthIf (closedIf tab two (c .pos) (from + 4)) (c .next) (c .pos) three f
       → Wrote (readTried shape inner) lengthTried (closedTried tab out pos from) at pos three f
   unfolding lengthTried closedTried
-  try-wrote w x y = record { wrote = λ z q e. go z q (parts shape inner (place at) e) .0; ends = record { ended = λ z q e. go z q (parts shape inner (place at) e) .1 } }
+  try-wrote w x y = record { wrote = λ z q e. go z q (parts shape inner (placed at) e) .0; ends = record { ended = λ z q e. go z q (parts shape inner (placed at) e) .1 } }
     where
-      go : (z : Tried) (q : Place) → Parts shape inner (place at) z q → (three ≡ closedTried tab out pos from z) × ((f .pos ≡ pos + lengthTried z) × (f .next ≡ q .at))
+      go : (z : Tried) (q : Place) → Parts shape inner (placed at) z q → (three ≡ closedTried tab out pos from z) × ((f .pos ≡ pos + lengthTried z) × (f .next ≡ q .at))
       go z q k =
           let v = w .ends .ended (z .first) (k .second-at) (k .reads-first) in
-          let second = ap (λ (n : ℕ). readIf (hasCatch shape) inner (place n)) (v .1) ∙ k .reads-second in
+          let second = ap (λ (n : ℕ). readIf (hasCatch shape) inner (placed n)) (v .1) ∙ k .reads-second in
           let u = x .ends .ended (z .second) (k .third-at) second in
-          let third = ap (λ (n : ℕ). readIf (hasFinally shape) inner (place n)) (u .1) ∙ k .reads-third in
+          let third = ap (λ (n : ℕ). readIf (hasFinally shape) inner (placed n)) (u .1) ∙ k .reads-third in
           let s = y .ends .ended (z .third) q third in
           let one-is = w .wrote (z .first) (k .second-at) (k .reads-first) in
           (y .wrote (z .third) q third ∙ rw (u .0, x .wrote (z .second) (k .third-at) second, v .0, one-is) refl, (omega (arith, v .0, u .0, s .0), s .1))

@@ -8,7 +8,7 @@ use lib.ListN.{length, getD}
 use lib.Seq.{sets}
 use Rattle.layout.specs.Numbers.{le16}
 use Rattle.layout.specs.Tree.{Action, ActionOf, flat, branch, owner, Try, ActionList, empty, more, Actions, ActionsOf, body, Catch, noCatch, catch, Finally, noFinally, finally}
-use Rattle.layout.specs.Read.{Text, Place, Reader, got, _>>=_, give, hasCatch, hasFinally}
+use Rattle.layout.specs.Read.{Text, Place, placed, Reader, got, _>>=_, give, hasCatch, hasFinally}
 use Rattle.layout.specs.Strings.{mapAction, mapBody}
 use Rattle.layout.specs.Payload.{ownerFields, catchName}
 use Rattle.layout.specs.Write.{bytes, bodyBytes, size, bodySize, catchSize, events, blockBytes, blockSize}
@@ -16,14 +16,15 @@ use Rattle.layout.specs.Judge.{judged, tooFar}
 use Rattle.layout.specs.Pack.{spelling}
 use Rattle.laws.specs.Fits.{Bytes}
 use Rattle.laws.specs.Packed.{ReadsMain}
-use Rattle.labels.specs.Table.{recordOf, TableHolds}
-use Rattle.pcode.specs.Shown.{place}
+use Rattle.laws.specs.Nears.{NoneFar}
+use Rattle.laws.specs.Resolved.{actionTrace, bodyLength, bodyEvents}
+use Rattle.labels.specs.Table.{recordAt, TableHolds}
 use Rattle.pcode.specs.declared.Action as pcode
 use Rattle.pcode.specs.declared.Action.the-variants as code
 use Rattle.encode_flat.specs.Branches.{tableBits}
 use Rattle.write.specs.declared.Bodies.{Bodies}
 use Rattle.write.specs.declared.Bodies.the-variants as bodies
-use Rattle.encode_values.specs.declared.Ends.{Ends}
+use Rattle.positions.specs.declared.Ends.{Ends}
 
 -- ---- bodies
 
@@ -71,22 +72,14 @@ readTried shape inner = do
 
 -- ---- their lengths and bytes, by the label table
 
--- the length of a body that was read
-unfoldable pub lengthOf : ActionsOf Text ℕ → ℕ
-lengthOf x = bodySize (mapBody spelling x)
-
--- and of one that may be absent
+-- the length of a body that may be absent
 unfoldable pub lengthIf : Option (ActionsOf Text ℕ) → ℕ
 lengthIf none = 0
-lengthIf (some x) = lengthOf x
+lengthIf (some x) = bodyLength x
 
 -- and of a Try's bodies
 unfoldable pub lengthTried : Tried → ℕ
-lengthTried t = lengthOf (t .first) + lengthIf (t .second) + lengthIf (t .third)
-
--- the length of an action that was read
-unfoldable pub lengthAction : ActionOf Text ℕ → ℕ
-lengthAction x = size (mapAction spelling x)
+lengthTried t = bodyLength (t .first) + lengthIf (t .second) + lengthIf (t .third)
 
 -- the bytes of a body that was read
 unfoldable pub bodyOf : List ℕ → ActionsOf Text ℕ → ℕ → List ℕ
@@ -96,41 +89,11 @@ bodyOf tab x p = bodyBytes (tableBits tab) (mapBody spelling x) p
 unfoldable pub actionOf : List ℕ → ActionOf Text ℕ → ℕ → List ℕ
 actionOf tab x p = bytes (tableBits tab) (mapAction spelling x) p
 
--- ---- branches that are not too far, by the label table
+-- ---- branches of which none goes too far, by the label table
 
-abbrev mutual
-  -- every branch of an action at a position
-  pub Near : List ℕ → Action → ℕ → Type 0
-  Near tab (flat f) p = Unit {0}
-  Near tab (branch k l) p = judged (recordOf (getD tab l 0)) (p + 5) ≡ none
-  Near tab (owner o b) p = NearBody tab b (p + (5 + length (ownerFields o)))
-  Near tab (Try b c f) p =
-      NearBody tab b (p + (10 + length (catchName c)))
-      × NearCatch tab c (p + (10 + length (catchName c)) + bodySize b)
-      × NearFinally tab f (p + (10 + length (catchName c)) + (bodySize b + catchSize c))
-
-  -- of actions, one after the other
-  pub NearActions : List ℕ → ActionList → ℕ → Type 0
-  NearActions tab empty p = Unit {0}
-  NearActions tab (more a xs) p = Near tab a p × NearActions tab xs (p + size a)
-
-  -- of a body
-  pub NearBody : List ℕ → Actions → ℕ → Type 0
-  NearBody tab (body es xs) p = NearActions tab xs p
-
-  -- of a catch
-  pub NearCatch : List ℕ → Catch → ℕ → Type 0
-  NearCatch tab noCatch p = Unit {0}
-  NearCatch tab (catch t b) p = NearBody tab b p
-
-  -- of a finally
-  pub NearFinally : List ℕ → Finally → ℕ → Type 0
-  NearFinally tab noFinally p = Unit {0}
-  NearFinally tab (finally b) p = NearBody tab b p
-
--- of a body that was read
+-- those of a body that was read, at a position
 abbrev pub nearOf : List ℕ → ActionsOf Text ℕ → ℕ → Type 0
-nearOf tab x p = NearBody tab (mapBody spelling x) p
+nearOf tab x p = NoneFar (recordAt tab) (bodyEvents x p)
 
 -- and of one that may be absent
 abbrev pub nearIf : List ℕ → Option (ActionsOf Text ℕ) → ℕ → Type 0
@@ -139,17 +102,17 @@ nearIf tab (some x) p = nearOf tab x p
 
 -- and of a Try's bodies
 abbrev pub nearTried : List ℕ → Tried → ℕ → Type 0
-nearTried tab t p = nearOf tab (t .first) p × nearIf tab (t .second) (p + lengthOf (t .first)) × nearIf tab (t .third) (p + lengthOf (t .first) + lengthIf (t .second))
+nearTried tab t p = nearOf tab (t .first) p × nearIf tab (t .second) (p + bodyLength (t .first)) × nearIf tab (t .third) (p + bodyLength (t .first) + lengthIf (t .second))
 
 -- of an action that was read
 abbrev pub nearAction : List ℕ → ActionOf Text ℕ → ℕ → Type 0
-nearAction tab x p = Near tab (mapAction spelling x) p
+nearAction tab x p = NoneFar (recordAt tab) (actionTrace x p)
 
 -- ---- the output
 
 -- a body at a position, and then its length at a place before it
 unfoldable pub closed : List ℕ → List ℕ → ℕ → ℕ → ActionsOf Text ℕ → List ℕ
-closed tab out pos at x = sets (sets out pos (bodyOf tab x pos)) at (le16 (lengthOf x))
+closed tab out pos at x = sets (sets out pos (bodyOf tab x pos)) at (le16 (bodyLength x))
 
 -- the same, if the body is present
 unfoldable pub closedIf : List ℕ → List ℕ → ℕ → ℕ → Option (ActionsOf Text ℕ) → List ℕ
@@ -160,8 +123,8 @@ closedIf tab out pos at (some x) = closed tab out pos at x
 unfoldable pub closedTried : List ℕ → List ℕ → ℕ → ℕ → Tried → List ℕ
 closedTried tab out pos at t =
     let one : List ℕ = closed tab out pos at (t .first) in
-    let two : List ℕ = closedIf tab one (pos + lengthOf (t .first)) (at + 2) (t .second) in
-    closedIf tab two (pos + lengthOf (t .first) + lengthIf (t .second)) (at + 4) (t .third)
+    let two : List ℕ = closedIf tab one (pos + bodyLength (t .first)) (at + 2) (t .second) in
+    closedIf tab two (pos + bodyLength (t .first) + lengthIf (t .second)) (at + 4) (t .third)
 
 -- ---- contracts
 
@@ -170,7 +133,7 @@ pub record Room {A : Type 0} (read : Reader A) (long : A → ℕ) (near : List �
   pub bytes : Bytes b
   pub value : A
   pub next : Place
-  pub reads : read (place at) ≡ got value next
+  pub reads : read (placed at) ≡ got value next
   pub slots : length tab ≡ 1024
   pub is-near : near tab value pos
   pub room : pos + long value ≤ length out
@@ -179,11 +142,11 @@ pub record Room {A : Type 0} (read : Reader A) (long : A → ℕ) (near : List �
 
 -- where it ended, for every reading: the position behind what was written, and the place behind what was read
 pub record Ended {A : Type 0} (read : Reader A) (long : A → ℕ) (at pos : ℕ) (r : Ends) : Type 0 where
-  pub ended : (x : A) (q : Place) → read (place at) ≡ got x q → (r .pos ≡ pos + long x) × (r .next ≡ q .at)
+  pub ended : (x : A) (q : Place) → read (placed at) ≡ got x q → (r .pos ≡ pos + long x) × (r .next ≡ q .at)
 
 -- what is left, for every reading: the output, and where it ended
 pub record Wrote {A : Type 0} (read : Reader A) (long : A → ℕ) (output : A → List ℕ) (at pos : ℕ) (out : List ℕ) (r : Ends) : Type 0 where
-  pub wrote : (x : A) (q : Place) → read (place at) ≡ got x q → out ≡ output x
+  pub wrote : (x : A) (q : Place) → read (placed at) ≡ got x q → out ≡ output x
   pub ends : Ended read long at pos r
 
 -- what is asked of a main body, its table and the output

@@ -3,13 +3,14 @@ ghost use mathlib.Core.Path.{_≡_};
 ghost use Prim.Native.Nat.{_+_, _-_, _≤_};
 ghost use lib.Seq.{sets};
 ghost use Rattle.layout.specs.Read.{edition1, readAction, readBody};
-ghost use Rattle.write.specs.Bodies.{bodiesOf, readIf, readTried, lengthOf, lengthIf, lengthTried, lengthAction, nearOf, nearIf, nearTried, nearAction, bodyOf, actionOf, closed, closedIf, closedTried, Room, Wrote, MainWritable, WroteBlock};
+ghost use Rattle.laws.specs.Resolved.{bodyLength, actionSize};
+ghost use Rattle.write.specs.Bodies.{bodiesOf, readIf, readTried, lengthIf, lengthTried, nearOf, nearIf, nearTried, nearAction, bodyOf, actionOf, closed, closedIf, closedTried, Room, Wrote, MainWritable, WroteBlock};
 use encode::write_head;
-use encode_values::Ends;
 use fields::u16_at;
 use opcode::OpCode;
 use pcode::Action;
 use pcode::action_at;
+use positions::Ends;
 use stores::write_u8;
 use writer::write_block_length_at;
 
@@ -43,8 +44,8 @@ fn write_block(
     tab: &[usize],
     out: &mut [u8],
 ) -> Ends
-    requires { ⌜ Room (readBody edition1 (now b) depth) lengthOf nearOf (now b) at pos (now tab) (now out) × (place + 2 ≤ pos) ⌝ }
-    ensures { λ r. ⌜ Wrote (readBody edition1 (now (b .entry)) depth) lengthOf (closed (now (tab .entry)) (now (out .entry)) pos place) at pos (now (out .exit)) r ⌝ }
+    requires { ⌜ Room (readBody edition1 (now b) depth) bodyLength nearOf (now b) at pos (now tab) (now out) × (place + 2 ≤ pos) ⌝ }
+    ensures { λ r. ⌜ Wrote (readBody edition1 (now (b .entry)) depth) bodyLength (closed (now (tab .entry)) (now (out .entry)) pos place) at pos (now (out .exit)) r ⌝ }
 {
     let e = write_actions(b, at, depth, pos, tab, out);
     write_block_length_at(out, place, pos, e.pos);
@@ -120,8 +121,8 @@ fn write_action(
     tab: &[usize],
     out: &mut [u8],
 ) -> Ends
-    requires { ⌜ Room (readAction edition1 (now b) (readBody edition1 (now b) depth)) lengthAction nearAction (now b) at pos (now tab) (now out) ⌝ }
-    ensures { λ r. ⌜ Wrote (readAction edition1 (now (b .entry)) (readBody edition1 (now (b .entry)) depth)) lengthAction (λ x. sets (now (out .entry)) pos (actionOf (now (tab .entry)) x pos)) at pos (now (out .exit)) r ⌝ }
+    requires { ⌜ Room (readAction edition1 (now b) (readBody edition1 (now b) depth)) actionSize nearAction (now b) at pos (now tab) (now out) ⌝ }
+    ensures { λ r. ⌜ Wrote (readAction edition1 (now (b .entry)) (readBody edition1 (now (b .entry)) depth)) actionSize (λ x. sets (now (out .entry)) pos (actionOf (now (tab .entry)) x pos)) at pos (now (out .exit)) r ⌝ }
 {
     let a = action_at(b, at);
     let e = write_head(b, at, a, pos, tab, out);
@@ -156,8 +157,8 @@ fn write_actions(
     tab: &[usize],
     out: &mut [u8],
 ) -> Ends
-    requires { ⌜ Room (readBody edition1 (now b) depth) lengthOf nearOf (now b) at pos (now tab) (now out) ⌝ }
-    ensures { λ r. ⌜ Wrote (readBody edition1 (now (b .entry)) depth) lengthOf (λ x. sets (now (out .entry)) pos (bodyOf (now (tab .entry)) x pos)) at pos (now (out .exit)) r ⌝ }
+    requires { ⌜ Room (readBody edition1 (now b) depth) bodyLength nearOf (now b) at pos (now tab) (now out) ⌝ }
+    ensures { λ r. ⌜ Wrote (readBody edition1 (now (b .entry)) depth) bodyLength (λ x. sets (now (out .entry)) pos (bodyOf (now (tab .entry)) x pos)) at pos (now (out .exit)) r ⌝ }
 {
     let front = at + 2 + 4 * u16_at(b, at);
     let mut left = u16_at(b, front);

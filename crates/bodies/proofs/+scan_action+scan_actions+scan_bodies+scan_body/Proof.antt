@@ -1,7 +1,8 @@
 use Rattle.bodies.proofs.Walks as walk
-use Rattle.walk.specs.Walk.{state, bodyLength, bodyEvents}
+use Rattle.laws.specs.Resolved.{bodyLength, bodyEvents}
+use Rattle.measure.specs.Walk.{state}
 use Rattle.operands.proofs.Scans.{ends-is}
-use Rattle.operands.specs.Scanned.{faultOf}
+use Rattle.positions.specs.Scanned.{faultOf}
 use Rattle.layout.specs.Read.{edition1, readBody}
 use mathlib.Core.List.{[]}
 use mathlib.Core.Path.{refl, sym, _∙_}
@@ -25,10 +26,10 @@ use Rattle.bodies.proofs.+scan_action+scan_actions+scan_bodies+scan_bod
 use Rattle.fields.proofs.u16_at.Reads as u16-at-reads
 use Rattle.labels.proofs.due_entry.Reads as due-entry-reads
 use Rattle.labels.proofs.record_labels.Reads as record-labels-reads
-use Rattle.walk.proofs.note_long.Reads as note-long-reads
+use Rattle.measure.proofs.note_long.Reads as note-long-reads
 use Rattle.payload.proofs.scan_payload.Reads as scan-payload-reads
 use Rattle.opcode.proofs.OpCode.is_listed.Reads as is-listed-reads
-use Rattle.walk.proofs.first_long.Reads as first-long-reads
+use Rattle.measure.proofs.first_long.Reads as first-long-reads
 use Rattle.front.proofs.scan_front.Reads as scan-front-reads
 use Rattle.bodies.proofs.+scan_action+scan_actions+scan_bodies+scan_body.{statement}
 use Rattle.bodies.proofs.+scan_action+scan_actions+scan_bodies+scan_body.Tie.{close}

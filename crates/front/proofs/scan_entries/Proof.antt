@@ -1,6 +1,6 @@
 use Rattle.front.proofs.Fronts.{entries-cut, entries-big, entries-low, entries-half, entries-more, entries-end}
-use Rattle.operands.specs.Scanned.{placed, scanned, faultOf}
-use Rattle.layout.specs.Read.{edition1, readEntries}
+use Rattle.positions.specs.Scanned.{scanned, faultOf}
+use Rattle.layout.specs.Read.{edition1, placed, readEntries}
 use Prim.Native.Nat.{_≤_}
 use lib.ListN.{length}
 use native.Mathlib.Omega.{arith}

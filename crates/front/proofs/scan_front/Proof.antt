@@ -1,5 +1,5 @@
 use Rattle.front.proofs.Fronts.{front-cut, front-stops, front-place, front-ends}
-use Rattle.operands.specs.Scanned.{faultOf}
+use Rattle.positions.specs.Scanned.{faultOf}
 use native.Mathlib.Omega.{arith}
 use borrow.Author.Needs.{needs}
 use Rattle.front.proofs.scan_front.Statement.{statement}

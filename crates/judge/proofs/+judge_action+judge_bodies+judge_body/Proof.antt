@@ -1,9 +1,9 @@
 use Rattle.judge.proofs.Actions as laws
 use Rattle.judge.proofs.Loops as loops
 use Rattle.judge.specs.Judging.{Judging}
-use Rattle.walk.specs.Walk.{measured, bodyLength, bodyEvents, inBodies}
-use Rattle.operands.specs.Scanned.{placed}
-use Rattle.layout.specs.Read.{edition1, readBody, repeat}
+use Rattle.laws.specs.Resolved.{bodyLength, bodyEvents}
+use Rattle.measure.specs.Walk.{measured, inBodies}
+use Rattle.layout.specs.Read.{edition1, placed, readBody, repeat}
 use Rattle.layout.specs.Lengths.{total}
 use mathlib.Core.Path.{refl}
 use native.Mathlib.Omega.{arith}

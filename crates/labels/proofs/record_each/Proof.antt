@@ -2,13 +2,13 @@
 -- Each turn raises `next`. Assumes nothing.
 use Prim.Native.Nat.{_-_}
 use native.Mathlib.Omega.{arith}
-use Rattle.labels.specs.Table.{entriesAt, noneLeft, index, place}
+use Rattle.labels.specs.Table.{entriesAt, noneLeft, indexOf, positionOf}
 use Rattle.labels.proofs.Recording as laws
 use Rattle.labels.proofs.record_each.Statement.{statement}
 use Rattle.labels.proofs.record_each.Tie as tie
 
 abbrev Inv-loop : tie.InvT-loop
-Inv-loop b at n first i pos tab₀ next₀ tab next = laws.Standing (entriesAt b n at) first (index i) (place pos) tab₀ tab next
+Inv-loop b at n first i pos tab₀ next₀ tab next = laws.Standing (entriesAt b n at) first (indexOf i) (positionOf pos) tab₀ tab next
 
 abbrev μ-loop : tie.MeasureT-loop
 μ-loop b at n first i pos tab₀ next₀ tab next = noneLeft - next

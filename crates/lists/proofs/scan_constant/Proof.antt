@@ -1,4 +1,4 @@
-use Rattle.operands.specs.Scanned.{faultOf}
+use Rattle.positions.specs.Scanned.{faultOf}
 use Rattle.lists.proofs.Values as values
 use Rattle.operands.proofs.Reading as reading
 use Rattle.operands.proofs.Scans.{stops}

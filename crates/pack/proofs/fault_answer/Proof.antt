@@ -3,7 +3,7 @@ use mathlib.Core.Path.{refl}
 use Rattle.layout.specs.Answers.{faultNumber, refusalNumber, refusalValue}
 use Rattle.layout.specs.Answers as answers
 use Rattle.answer.specs.Answered.{number, value}
-use Rattle.operands.specs.Scanned.{meant}
+use Rattle.positions.specs.Scanned.{meant}
 use borrow.Author.Needs.{needs}
 use Rattle.pack.proofs.fault_answer.Statement.{statement}
 use Rattle.pack.proofs.fault_answer.Tie as tie

@@ -1,6 +1,6 @@
 use Rattle.payload.proofs.Arms as arms
 use native.Mathlib.Omega.{arith}
-use Rattle.walk.proofs.Layings as lay
+use Rattle.measure.proofs.Layings as lay
 use borrow.Author.Needs.{needs}
 use Rattle.payload.proofs.scan_payload.Statement.{statement}
 use Rattle.payload.proofs.scan_payload.Tie as tie

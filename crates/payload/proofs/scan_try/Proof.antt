@@ -1,7 +1,7 @@
 use Rattle.action_fields.specs.Fields.{bodiesAfter}
 use mathlib.Core.Path.{sym, _∙_}
 use native.Mathlib.Omega.{arith}
-use Rattle.walk.proofs.Layings as lay
+use Rattle.measure.proofs.Layings as lay
 use borrow.Author.Needs.{needs}
 use Rattle.payload.proofs.scan_try.Statement.{statement}
 use Rattle.payload.proofs.scan_try.Tie as tie

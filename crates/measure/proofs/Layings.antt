@@ -1,0 +1,240 @@
+-- What a payload's scan says of its action: laws for actions without a body and for those that own one. Assumes nothing.
+use mathlib.Core.Path.{_≡_, refl, sym, ap, ap₂, _∙_}
+use Prim.Native.Nat.{ℕ, _+_, _-_, _≤_, _<_}
+use native.Mathlib.Omega.{arith}
+use mathlib.Core.Bool.{Bool, true, false}
+use mathlib.Core.List.{List, [], _∷_, _++_, append-nil}
+use lib.ListN.{length}
+use lib.Dec.{ltb}
+use borrow.Author.Tests.{ltb-true, ltb-false, ne-eqb}
+use Rattle.layout.specs.Lists.{pick}
+use Rattle.layout.specs.OpCode.{byte}
+use Rattle.layout.specs.Answers as answers
+use Rattle.layout.specs.Tree.{FlatOf, OwnerOf, ActionOf, flat, branch, Branch, owner, ActionsOf}
+use Rattle.layout.specs.Read.{Text, Place, placed, Read, got, bad, Reader, chain, repeat}
+use Rattle.layout.specs.Strings.{mapFlat, mapOwner, mapAction, mapBody}
+use Rattle.layout.specs.Payload.{opcode, payload, ownerFields}
+use Rattle.layout.specs.Write.{size, bodySize, Position, Event, moved, payloadTest, bodyTest, trace, traceBody}
+use Rattle.layout.specs.Lengths.{total, ownerLength, length-payload, length-framed, length-ownerFields}
+use Rattle.layout.specs.Pack.{spelling}
+use Rattle.positions.specs.declared.BytePosition.{BytePosition}
+use Rattle.positions.specs.Scanned.{faultOf, scanned}
+use Rattle.positions.specs.declared.Fault.{Fault}
+use Rattle.positions.specs.declared.Scan.{Scan}
+use Rattle.positions.specs.declared.Scan.the-variants as scan
+use Rattle.measure.specs.declared.Laid.{Laid}
+use Rattle.measure.specs.declared.Laid.the-variants as laid
+use Rattle.action_fields.specs.Fields.{flatSize, ownerSize, readCaught, caughtSize}
+use Rattle.laws.specs.Resolved.{actionSize, actionTrace, bodyLength}
+use Rattle.measure.specs.Walk.{State, state, notedIf, run, done, outcome, branches, measure, measured, inBodies, bodyTests, bodiesEvents, Onward, Laying, laidAs, branchLaid, notedFrom, EndsFrom, Tried}
+use Rattle.action_fields.proofs.Steps.{caught-out}
+use Rattle.measure.proofs.Runs.{run-append, run-payload, run-body, noted-short, outcome-got, branches-append, branches-payload, branches-after, branches-body, measured-got}
+
+-- ---- an action without a body
+
+flat-size : (f : FlatOf Text) → ltb (byte (opcode (mapFlat spelling f))) 128 ≡ false → actionSize (flat f) ≡ 3 + flatSize f
+unfolding size mapAction flatSize
+flat-size f h = length-framed (opcode (mapFlat spelling f)) (payload (mapFlat spelling f)) h ∙ ap (λ (n : ℕ). 3 + n) (length-payload (mapFlat spelling f))
+
+flat-run : (f : FlatOf Text) (pos : ℕ) (tab over : List ℕ) → run (actionTrace (flat f) pos) (state tab over) ≡ state tab (notedIf 8 (flatSize f) over)
+unfolding trace mapAction flatSize
+flat-run f pos tab over = run-payload (length (payload (mapFlat spelling f))) _ tab over ∙ ap (λ (n : ℕ). state tab (notedIf 8 n over)) (length-payload (mapFlat spelling f))
+
+flat-branches : (f : FlatOf Text) (pos : ℕ) → [] ≡ branches (actionTrace (flat f) pos)
+unfolding trace mapAction
+flat-branches f pos = sym (branches-payload (length (payload (mapFlat spelling f))) _)
+
+-- an opcode from 80 on
+abbrev pub Long : FlatOf Text → Type 0
+Long f = ltb (byte (opcode (mapFlat spelling f))) 128 ≡ false
+
+module _ {A : Type 0} (read : Reader (ActionsOf Text ℕ) → Read (ActionOf Text ℕ)) (g : A → FlatOf Text) (at end pos : ℕ) (over : List ℕ) (s : A → ℕ) (w : ℕ)
+    (is-size : (a : A) → w + s a ≡ pos + 3 + flatSize (g a)) where
+  abbrev Reads : Read A → Type 0
+  Reads x = (inner : Reader (ActionsOf Text ℕ)) → read inner ≡ chain x (λ a q. got (flat (g a)) q)
+
+  long-got : (a : A) (q : Place) → Reads (got a q) → Long (g a)
+      → Laying read at end pos over (notedFrom (pos + 3) (scanned s w (got a q)) over) (laidAs 0 (scanned s w (got a q)))
+  unfolding scanned laidAs pick notedFrom
+  long-got a q h l =
+      Laying.flat {q = q .at} {w = record { 0 = w + s a }}
+      (λ inner tab. outcome-got actionSize actionTrace pos (state tab over) (h inner) (omega (arith, is-size a, flat-size (g a) l))
+      (ap (λ (n : ℕ). state tab (notedIf 8 n over)) (omega (arith, is-size a)) ∙ sym (flat-run (g a) pos tab over)))
+      (λ inner. measured-got actionSize actionTrace pos (h inner) (omega (arith, is-size a, flat-size (g a) l)) (flat-branches (g a) pos))
+
+  flat-got : (a : A) (q : Place) → Reads (got a q) → Long (g a) → flatSize (g a) ≤ 65535 → Laying read at end pos over over (laidAs 0 (scanned s w (got a q)))
+  unfolding scanned laidAs pick
+  flat-got a q h l short =
+      Laying.flat {q = q .at} {w = record { 0 = w + s a }}
+      (λ inner tab. outcome-got actionSize actionTrace pos (state tab over) (h inner) (omega (arith, is-size a, flat-size (g a) l))
+      (ap (state tab) (noted-short 8 (flatSize (g a)) over short) ∙ sym (flat-run (g a) pos tab over)))
+      (λ inner. measured-got actionSize actionTrace pos (h inner) (omega (arith, is-size a, flat-size (g a) l)) (flat-branches (g a) pos))
+
+  flat-bad : (f : answers.Fault) (q : Place) (over′ : List ℕ) → Reads (bad f q) → Laying read at end pos over over′ (laidAs 0 (scanned s w (bad f q)))
+  unfolding scanned laidAs outcome
+  flat-bad f q over′ h = Laying.stops {f = faultOf f} {q = q .at} (λ inner t. rw (h inner))
+
+  -- its payload may be too long
+  pub lay-long : (x : Read A) → Reads x → ((a : A) (q : Place) → x ≡ got a q → Long (g a)) → (over′ : List ℕ) (r : Scan) (l : Laid)
+      → r ≡ scanned s w x → l ≡ laidAs 0 r → over′ ≡ notedFrom (pos + 3) r over → Laying read at end pos over over′ l
+  lay-long x h k over′ r l e m n = rw (m, n, e) (go x h k)
+    where
+      go : (x : Read A) → Reads x → ((a : A) (q : Place) → x ≡ got a q → Long (g a)) → Laying read at end pos over (notedFrom (pos + 3) (scanned s w x) over) (laidAs 0 (scanned s w x))
+      go (got a q) h k = long-got a q h (k a q refl)
+      go (bad f q) h k = flat-bad f q _ h
+
+  -- it never is
+  pub lay-flat : (x : Read A) → Reads x → ((a : A) (q : Place) → x ≡ got a q → Long (g a) × (flatSize (g a) ≤ 65535)) → (r : Scan) (l : Laid)
+      → r ≡ scanned s w x → l ≡ laidAs 0 r → Laying read at end pos over over l
+  lay-flat x h k r l e m = rw (m, e) (go x h k)
+    where
+      go : (x : Read A) → Reads x → ((a : A) (q : Place) → x ≡ got a q → Long (g a) × (flatSize (g a) ≤ 65535)) → Laying read at end pos over over (laidAs 0 (scanned s w x))
+      go (got a q) h k = flat-got a q h (k a q refl .0) (k a q refl .1)
+      go (bad f q) h k = flat-bad f q over h
+
+-- ---- a branch
+
+module _ (read : Reader (ActionsOf Text ℕ) → Read (ActionOf Text ℕ)) (k : Branch) (x : Read ℕ) (is-read : (inner : Reader (ActionsOf Text ℕ)) → read inner ≡ chain x (λ l q. got (branch k l) q))
+    (under : (l : ℕ) (q : Place) → x ≡ got l q → l < 1024) where
+  pub lay-branch : (at end pos w : ℕ) (over : List ℕ) (l : Laid) → w ≡ pos + 3 → l ≡ branchLaid w x → Laying read at end pos over over l
+  lay-branch at end pos w over l f m = rw (m, f) (go x is-read under)
+    where
+      go : (x : Read ℕ) → ((inner : Reader (ActionsOf Text ℕ)) → read inner ≡ chain x (λ l q. got (branch k l) q)) → ((l : ℕ) (q : Place) → x ≡ got l q → l < 1024)
+          → Laying read at end pos over over (branchLaid (pos + 3) x)
+      go (got n q) h u = unfold branchLaid in Laying.to-label {q = q .at} {label = n} {w = record { 0 = pos + 3 + 2 }} {k = k} (omega arith) (u n q refl) refl h
+      go (bad f q) h u = unfold branchLaid in Laying.stops {f = faultOf f} {q = q .at} (λ inner t. unfold outcome in rw (h inner))
+
+-- ---- an action that owns a body
+
+module _ (read : Reader (ActionsOf Text ℕ) → Read (ActionOf Text ℕ)) (o : OwnerOf Text) (inner : Reader (ActionsOf Text ℕ)) (pos w q : ℕ) (tab over : List ℕ) (is-size : w ≡ pos + 3 + ownerSize o) where
+  -- where its body starts
+  body-at : pos + (5 + length (ownerFields (mapOwner spelling o))) ≡ w
+  unfolding ownerSize
+  body-at = omega (arith, is-size, length-ownerFields (mapOwner spelling o))
+
+  -- the events of its body and their test, after the test of its payload
+  owner-run : (y : ActionsOf Text ℕ) → run (actionTrace (owner o y) pos) (state tab over) ≡ run (bodiesEvents (y ∷ []) w) (state tab (notedIf 8 (ownerSize o) over))
+  unfolding trace mapAction bodiesEvents inBodies bodyTests moved ownerSize
+  owner-run y =
+      let n : ℕ = length (ownerFields (mapOwner spelling o)) + 2 in
+      let p : Position = record { at = pos } in
+      let u : Position = record { at = pos + (5 + length (ownerFields (mapOwner spelling o))) } in
+      let b = mapBody spelling y in
+      run-append (payloadTest n p) (traceBody b u ++ bodyTest (bodySize b) p) (state tab over)
+      ∙ ap (run (traceBody b u ++ bodyTest (bodySize b) p)) (run-payload n p tab over ∙ ap (λ (m : ℕ). state tab (notedIf 8 m over)) (length-ownerFields (mapOwner spelling o)))
+      ∙ run-append (traceBody b u) (bodyTest (bodySize b) p) _
+      ∙ tests (bodySize b) p (record { at = w }) (run (traceBody b u) _)
+      ∙ ap (λ (v : ℕ). run (bodyTest (bodySize b) (record { at = w })) (run (traceBody b (record { at = v })) (state tab (notedIf 8 (ownerLength (mapOwner spelling o)) over)))) body-at
+      ∙ sym (run-append (traceBody b (record { at = w })) (bodyTest (bodySize b) (record { at = w })) _)
+      ∙ sym (simp append-nil)
+    where
+      tests : (n : ℕ) (p p′ : Position) (s : State) → run (bodyTest n p) s ≡ run (bodyTest n p′) s
+      tests n p p′ s = run-body n p (s .table) (s .over) ∙ sym (run-body n p′ (s .table) (s .over))
+
+  pub owner-outcome : read inner ≡ chain (inner (placed q)) (λ y r. got (owner o y) r)
+      → outcome actionSize actionTrace pos (state tab over) (read inner) ≡ outcome (total bodyLength) bodiesEvents w (state tab (notedIf 8 (ownerSize o) over)) (repeat inner 1 (placed q))
+  unfolding repeat
+  owner-outcome e = rw e (go (inner (placed q)))
+    where
+      go : (y : Read (ActionsOf Text ℕ)) → outcome actionSize actionTrace pos (state tab over) (chain y (λ y r. got (owner o y) r))
+          ≡ outcome (total bodyLength) bodiesEvents w (state tab (notedIf 8 (ownerSize o) over)) (chain y (λ a u. chain (got [] u) (λ xs v. got (a ∷ xs) v)))
+      go (got y r) =
+          unfold outcome in
+          ap₂ (λ (n : ℕ) (s : State). done (r .at) n s) (unfold size mapAction total in omega (arith, body-at)) (owner-run y)
+      go (bad f r) = unfold outcome in refl
+
+  -- and its branches are those of its body
+  owner-branches : (y : ActionsOf Text ℕ) → branches (actionTrace (owner o y) pos) ≡ branches (inBodies (y ∷ []) w)
+  unfolding trace mapAction inBodies moved
+  owner-branches y =
+      let u : Position = record { at = pos + (5 + length (ownerFields (mapOwner spelling o))) } in
+      let b = mapBody spelling y in
+      branches-after _ _ (traceBody b u ++ bodyTest (bodySize b) (record { at = pos }))
+      ∙ branches-append (traceBody b u) (bodyTest (bodySize b) (record { at = pos }))
+      ∙ ap (λ (es : List Event). branches (traceBody b u) ++ es) (branches-body (bodySize b) (record { at = pos }))
+      ∙ append-nil (branches (traceBody b u))
+      ∙ ap (λ (v : ℕ). branches (traceBody b (record { at = v }))) body-at
+      ∙ ap branches (sym (append-nil (traceBody b (record { at = w }))))
+
+  pub owner-measured : read inner ≡ chain (inner (placed q)) (λ y r. got (owner o y) r) → measured actionSize actionTrace pos (read inner) ≡ measured (total bodyLength) inBodies w (repeat inner 1 (placed q))
+  unfolding repeat
+  owner-measured e = rw e (go (inner (placed q)))
+    where
+      go : (y : Read (ActionsOf Text ℕ)) → measured actionSize actionTrace pos (chain y (λ y r. got (owner o y) r)) ≡ measured (total bodyLength) inBodies w (chain y (λ a u. chain (got [] u) (λ xs v. got (a ∷ xs) v)))
+      go (got y r) = unfold measured in ap₂ (λ (n : ℕ) (es : List Event). got (measure n es) r) (unfold size mapAction total in omega (arith, body-at)) (owner-branches y)
+      go (bad f r) = unfold measured in refl
+
+module _ (read : Reader (ActionsOf Text ℕ) → Read (ActionOf Text ℕ)) (x : Read (OwnerOf Text))
+    (is-read : (inner : Reader (ActionsOf Text ℕ)) → read inner ≡ chain x (λ o q. chain (inner q) (λ y r. got (owner o y) r)))
+    (at end pos : ℕ) (onward : (o : OwnerOf Text) (q : Place) → x ≡ got o q → Onward at end pos (q .at) (pos + 3 + ownerSize o)) where
+  pub lay-owner : (over over′ : List ℕ) (r : Scan) (l : Laid) → r ≡ scanned ownerSize (pos + 3) x → l ≡ laidAs 1 r → over′ ≡ notedFrom (pos + 3) r over → Laying read at end pos over over′ l
+  lay-owner over over′ r l e m n = rw (m, n, e) (go x is-read onward)
+    where
+      go : (x : Read (OwnerOf Text)) → ((inner : Reader (ActionsOf Text ℕ)) → read inner ≡ chain x (λ o q. chain (inner q) (λ y r. got (owner o y) r)))
+          → ((o : OwnerOf Text) (q : Place) → x ≡ got o q → Onward at end pos (q .at) (pos + 3 + ownerSize o))
+          → Laying read at end pos over (notedFrom (pos + 3) (scanned ownerSize (pos + 3) x) over) (laidAs 1 (scanned ownerSize (pos + 3) x))
+      go (got o q) h i =
+          unfold scanned laidAs pick notedFrom in
+          Laying.bodies {q = q .at} {n = 1} {w = record { 0 = pos + 3 + ownerSize o }} (omega arith) (i o q refl)
+          (λ inner tab. owner-outcome read o inner pos (pos + 3 + ownerSize o) (q .at) tab over refl (h inner)
+          ∙ ap (λ (n : ℕ). outcome (total bodyLength) bodiesEvents (pos + 3 + ownerSize o) (state tab (notedIf 8 n over)) (repeat inner 1 (placed (q .at)))) (omega arith))
+          (λ inner. owner-measured read o inner pos (pos + 3 + ownerSize o) (q .at) [] over refl (h inner))
+      go (bad f q) h i = unfold scanned laidAs notedFrom in Laying.stops {f = faultOf f} {q = q .at} (λ inner t. unfold outcome in rw (h inner))
+
+-- ---- as the code makes them
+
+module _ (n : ℕ) (r : Scan) where
+  pub laid-flat : (q : ℕ) (w : BytePosition) → r ≡ scan.Ends q w → n ≡ 0 → laid.Flat q w ≡ laidAs n r
+  unfolding laidAs pick
+  laid-flat q w e f = rw (e, f)
+
+  pub laid-bodies : (q : ℕ) (w : BytePosition) → r ≡ scan.Ends q w → (n ≡ 0 → ⊥) → laid.Bodies q w n ≡ laidAs n r
+  unfolding laidAs pick
+  laid-bodies q w e f = rw (e, ne-eqb n 0 f)
+
+  pub laid-stops : (f : Fault) (q : ℕ) → r ≡ scan.Stops f q → laid.Stops f q ≡ laidAs n r
+  unfolding laidAs
+  laid-stops f q e = rw e
+
+module _ (from : ℕ) (r : Scan) (over : List ℕ) where
+  pub noted-ends : (q : ℕ) (w : BytePosition) (over′ : List ℕ) → r ≡ scan.Ends q w → over′ ≡ notedIf 8 (w .0 - from) over → over′ ≡ notedFrom from r over
+  unfolding notedFrom
+  noted-ends q w over′ e f = rw e f
+
+  pub noted-stops : (f : Fault) (q : ℕ) → r ≡ scan.Stops f q → over ≡ notedFrom from r over
+  unfolding notedFrom
+  noted-stops f q e = rw e
+
+-- a payload ends at or after its start
+pub from-is : (from : ℕ) (r : Scan) (q : ℕ) (w : BytePosition) → EndsFrom from r → r ≡ scan.Ends q w → from ≤ w .0
+from-is from (scan.Ends q w) q′ w′ h e =
+    let f : w ≡ w′ = cc in
+    omega (arith, h, ap (λ (v : BytePosition). v .0) f)
+from-is from (scan.Stops f p) q w h e =
+    let z : _≡_ {A = ℕ} 0 1 = cc in
+    absurd (omega arith)
+
+pub scanned-from-start : {A : Type 0} (s : A → ℕ) (from w : ℕ) (x : Read A) (r : Scan) → r ≡ scanned s w x → from ≤ w → EndsFrom from r
+scanned-from-start s from w x r e h = rw e (go x)
+  where
+    go : (x : Read _) → EndsFrom from (scanned s w x)
+    go (got a q) = unfold scanned in omega (arith, h)
+    go (bad f q) = unfold scanned in tt
+
+-- a Try whose shape was scanned has one
+pub caught-inside : (b : List ℕ) (at pos q : ℕ) (w : BytePosition) (r : Scan) → r ≡ scanned caughtSize pos (readCaught b (placed at)) → r ≡ scan.Ends q w → at < length b
+caught-inside b at pos q w r e f = go (ltb at (length b)) refl
+  where
+    go : (t : Bool) → ltb at (length b) ≡ t → at < length b
+    go true h = ltb-true at (length b) h
+    go false h =
+        let x = caught-out b at pos (omega (arith, ltb-false at (length b) h)) in
+        let z : _≡_ {A = ℕ} 0 1 = cc in
+        absurd (omega arith)
+
+-- what a scan of a payload ended with
+pub scanned-from-is : {A : Type 0} (s : A → ℕ) (pos : ℕ) (x : Read A) (q : ℕ) (w : BytePosition) (r : Scan) → r ≡ scanned s pos x → r ≡ scan.Ends q w → pos ≤ w .0
+scanned-from-is s pos x q w r e f = from-is pos r q w (scanned-from-start s pos pos x r e (omega arith)) f
+
+pub tried : (n from : ℕ) (over over′ : List ℕ) (l : Laid) (r r′ : Scan) → r ≡ r′ → (l ≡ laidAs n r) × (over′ ≡ notedFrom from r over) → Tried r′ n from l over over′
+tried n from over over′ l r r′ e h = record { is-laid = h .0 ∙ ap (laidAs n) e; is-noted = h .1 ∙ ap (λ (x : Scan). notedFrom from x over) e }

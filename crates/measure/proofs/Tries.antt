@@ -1,0 +1,380 @@
+-- What the scan of a Try's payload says of it: its bodies follow, their lengths tested after all of them. Assumes nothing.
+use mathlib.Core.Path.{_≡_, refl, sym, ap, ap₂, _∙_}
+use Prim.Native.Nat.{ℕ, _+_, _-_, _/_, _%_, _≤_, _<_}
+use native.Mathlib.Omega.{arith}
+use mathlib.Core.Bool.{Bool, true, false, false≢true}
+use mathlib.Core.List.{List, [], _∷_, _++_, append-nil}
+use lib.ListN.{length, getD}
+use lib.Dec.{leb, eqb}
+use borrow.Author.Tests.{eqb-true, eqb-false, leb-true, ne-eqb}
+use Rattle.layout.specs.Lists.{pick}
+use Rattle.layout.specs.Numbers.{bit}
+use Rattle.layout.specs.OpCode.{OpCode}
+use Rattle.layout.specs.Answers as answers
+use Rattle.layout.specs.Tree.{CatchTargetOf, Variable, Register, ActionOf, Try, ActionsOf, CatchOf, noCatch, catch, FinallyOf, noFinally, finally}
+use Rattle.layout.specs.Read.{Text, plain, edition1, Place, placed, ahead, Read, got, bad, Reader, chain, ifWhole, repeat, tested, isShape, readU8, hasCatch, hasFinally, hasRegister, readCatchTarget, readCatch, readFinally, readTry, readFields}
+use Rattle.layout.specs.Strings.{mapTarget, mapAction, mapBody, mapCatch, mapFinally}
+use Rattle.layout.specs.Payload.{catchName}
+use Rattle.layout.specs.Write.{size, catchSize, finallySize, Position, Event, moved, payloadTest, bodyTest, trace, traceBody, traceCatch, traceFinally}
+use Rattle.layout.specs.Lengths.{total, nameLength, stringLength, length-catchName}
+use Rattle.layout.specs.Pack.{spelling}
+use Rattle.laws.specs.Fits.{Bytes}
+use Rattle.laws.specs.ReadFits.{Good, fine, refused, good-then, good-got, u8-good, tested-good, text-good}
+use Rattle.laws.specs.Packed.{spells}
+use Rattle.positions.specs.declared.BytePosition.{BytePosition}
+use Rattle.positions.specs.Scanned.{faultOf, scanned}
+use Rattle.operands.specs.Operands.{stringSize}
+use Rattle.positions.specs.declared.Scan.the-variants as scan
+use Rattle.measure.specs.declared.Laid.{Laid}
+use Rattle.measure.specs.declared.Laid.the-variants as laid
+use Rattle.action_fields.specs.Fields.{readCaught, targetSize, caughtSize, bodiesAfter}
+use Rattle.laws.specs.Resolved.{actionSize, actionTrace, bodyLength}
+use Rattle.measure.specs.Walk.{State, state, notedIf, run, done, outcome, branches, measure, measured, inBodies, bodyTests, bodiesEvents, Onward, Laying, laidAs, notedFrom, Tried}
+use Rattle.measure.proofs.Runs.{run-append, run-none, run-payload, run-body, branches-append, branches-none, branches-after, branches-body}
+
+-- ---- a body's test, as a change of the state
+
+unfoldable closed : ℕ → State → State
+closed n s = state (s .table) (notedIf 9 n (s .over))
+
+run-closed : (n : ℕ) (p : Position) (s : State) → run (bodyTest n p) s ≡ closed n s
+unfolding closed
+run-closed n p s = run-body n p (s .table) (s .over)
+
+-- an absent body's length is 0
+closed-none : (s : State) → closed 0 s ≡ s
+unfolding closed notedIf pick
+closed-none s = refl
+
+-- ---- the bodies of a Try as a list
+
+abbrev catchBodies : CatchOf Text ℕ → List (ActionsOf Text ℕ)
+catchBodies noCatch = []
+catchBodies (catch t x) = x ∷ []
+
+abbrev finallyBodies : FinallyOf Text ℕ → List (ActionsOf Text ℕ)
+finallyBodies noFinally = []
+finallyBodies (finally x) = x ∷ []
+
+abbrev tryBodies : ActionsOf Text ℕ → CatchOf Text ℕ → FinallyOf Text ℕ → List (ActionsOf Text ℕ)
+tryBodies t c f = t ∷ (catchBodies c ++ finallyBodies f)
+
+-- their events and tests, whatever the names of the positions of the tests
+module _ (t : ActionsOf Text ℕ) (w : ℕ) (p : Position) (s : State) where
+  bodies-run : (c : CatchOf Text ℕ) (f : FinallyOf Text ℕ) →
+      run (traceBody (mapBody spelling t) (record { at = w }) ++ (traceCatch (mapCatch spelling c) (moved (bodyLength t) (record { at = w }))
+      ++ (traceFinally (mapFinally spelling f) (moved (bodyLength t + catchSize (mapCatch spelling c)) (record { at = w }))
+      ++ (bodyTest (bodyLength t) p ++ (bodyTest (catchSize (mapCatch spelling c)) p ++ bodyTest (finallySize (mapFinally spelling f)) p))))) s
+      ≡ run (bodiesEvents (tryBodies t c f) w) s
+  unfolding traceCatch catchSize mapCatch moved bodiesEvents inBodies bodyTests
+  bodies-run noCatch noFinally = simp (run-append, run-none, run-closed, closed-none)
+  bodies-run (catch u x) noFinally = simp (run-append, run-none, run-closed, closed-none)
+  bodies-run noCatch (finally y) =
+      let e : w + (bodyLength t + 0) ≡ w + bodyLength t = omega arith in
+      rw e (simp (run-append, run-none, run-closed, closed-none))
+  bodies-run (catch u x) (finally y) =
+      let e : w + (bodyLength t + bodyLength x) ≡ w + bodyLength t + bodyLength x = omega arith in
+      rw e (simp (run-append, run-none, run-closed))
+
+-- their branches
+module _ (t : ActionsOf Text ℕ) (w : ℕ) (p : Position) where
+  bodies-branches : (c : CatchOf Text ℕ) (f : FinallyOf Text ℕ) →
+      branches (traceBody (mapBody spelling t) (record { at = w }) ++ (traceCatch (mapCatch spelling c) (moved (bodyLength t) (record { at = w }))
+      ++ (traceFinally (mapFinally spelling f) (moved (bodyLength t + catchSize (mapCatch spelling c)) (record { at = w }))
+      ++ (bodyTest (bodyLength t) p ++ (bodyTest (catchSize (mapCatch spelling c)) p ++ bodyTest (finallySize (mapFinally spelling f)) p)))))
+      ≡ branches (inBodies (tryBodies t c f) w)
+  unfolding traceCatch catchSize mapCatch moved inBodies
+  bodies-branches noCatch noFinally = simp (branches-append, branches-none, branches-body, append-nil)
+  bodies-branches (catch u x) noFinally = simp (branches-append, branches-none, branches-body, append-nil)
+  bodies-branches noCatch (finally y) =
+      let e : w + (bodyLength t + 0) ≡ w + bodyLength t = omega arith in
+      rw e (simp (branches-append, branches-body, append-nil))
+  bodies-branches (catch u x) (finally y) =
+      let e : w + (bodyLength t + bodyLength x) ≡ w + bodyLength t + bodyLength x = omega arith in
+      rw e (simp (branches-append, branches-body, append-nil))
+
+-- ---- a Try that was read
+
+name-size : (u : CatchTargetOf Text) (x : ActionsOf Text ℕ) → nameLength (mapCatch spelling (catch u x)) ≡ targetSize u
+unfolding nameLength mapCatch mapTarget targetSize stringSize stringLength
+name-size (Variable s) x = refl
+name-size (Register r) x = refl
+
+-- m bytes stand for the name
+module _ (t : ActionsOf Text ℕ) (c : CatchOf Text ℕ) (f : FinallyOf Text ℕ) (m pos w : ℕ) (is-name : nameLength (mapCatch spelling c) ≡ m) (is-size : w ≡ pos + 3 + (7 + m)) where
+  body-at : pos + (10 + length (catchName (mapCatch spelling c))) ≡ w
+  body-at = omega (arith, is-name, is-size, length-catchName (mapCatch spelling c))
+
+  bodies-total : total bodyLength (tryBodies t c f) ≡ bodyLength t + catchSize (mapCatch spelling c) + finallySize (mapFinally spelling f)
+  bodies-total = go c f
+    where
+      go : (c : CatchOf Text ℕ) (f : FinallyOf Text ℕ) → total bodyLength (t ∷ (catchBodies c ++ finallyBodies f)) ≡ bodyLength t + catchSize (mapCatch spelling c) + finallySize (mapFinally spelling f)
+      go noCatch noFinally = unfold total catchSize mapCatch in omega arith
+      go (catch u x) noFinally = unfold total catchSize mapCatch in omega arith
+      go noCatch (finally y) = unfold total catchSize mapCatch in omega arith
+      go (catch u x) (finally y) = unfold total catchSize mapCatch in omega arith
+
+  try-size : actionSize (Try t c f) ≡ 3 + (7 + m) + total bodyLength (tryBodies t c f)
+  unfolding size mapAction
+  try-size = omega (arith, is-name, length-catchName (mapCatch spelling c), bodies-total)
+
+  moved-is : moved (10 + length (catchName (mapCatch spelling c))) (record { at = pos }) ≡ record { at = w }
+  moved-is = unfold moved in ap (λ (v : ℕ). record { at = v }) body-at
+
+  try-run : (tab over : List ℕ) → run (actionTrace (Try t c f) pos) (state tab over) ≡ run (bodiesEvents (tryBodies t c f) w) (state tab (notedIf 8 (7 + m) over))
+  unfolding trace mapAction
+  try-run tab over =
+      let n : ℕ = length (catchName (mapCatch spelling c)) in
+      let p : Position = record { at = pos } in
+      let e : 7 + n ≡ 7 + m = omega (arith, is-name, length-catchName (mapCatch spelling c)) in
+      run-append (payloadTest (7 + n) p) _ (state tab over)
+      ∙ ap (run _) (run-payload (7 + n) p tab over ∙ ap (λ (k : ℕ). state tab (notedIf 8 k over)) e)
+      ∙ ap (λ (v : Position). run (traceBody (mapBody spelling t) v ++ (traceCatch (mapCatch spelling c) (moved (bodyLength t) v)
+      ++ (traceFinally (mapFinally spelling f) (moved (bodyLength t + catchSize (mapCatch spelling c)) v)
+      ++ (bodyTest (bodyLength t) p ++ (bodyTest (catchSize (mapCatch spelling c)) p ++ bodyTest (finallySize (mapFinally spelling f)) p))))) (state tab (notedIf 8 (7 + m) over))) moved-is
+      ∙ bodies-run t w p (state tab (notedIf 8 (7 + m) over)) c f
+
+  try-branches : branches (actionTrace (Try t c f) pos) ≡ branches (inBodies (tryBodies t c f) w)
+  unfolding trace mapAction
+  try-branches =
+      let n : ℕ = length (catchName (mapCatch spelling c)) in
+      let p : Position = record { at = pos } in
+      branches-after (7 + n) p _
+      ∙ ap (λ (v : Position). branches (traceBody (mapBody spelling t) v ++ (traceCatch (mapCatch spelling c) (moved (bodyLength t) v)
+      ++ (traceFinally (mapFinally spelling f) (moved (bodyLength t + catchSize (mapCatch spelling c)) v)
+      ++ (bodyTest (bodyLength t) p ++ (bodyTest (catchSize (mapCatch spelling c)) p ++ bodyTest (finallySize (mapFinally spelling f)) p)))))) moved-is
+      ∙ bodies-branches t w p c f
+
+  try-done : (tab over : List ℕ) (r : Place) → outcome actionSize actionTrace pos (state tab over) (got (Try t c f) r)
+      ≡ outcome (total bodyLength) bodiesEvents w (state tab (notedIf 8 (7 + m) over)) (got (tryBodies t c f) r)
+  unfolding outcome
+  try-done tab over r = ap₂ (λ (n : ℕ) (s : State). done (r .at) n s) (omega (arith, try-size, is-size)) (try-run tab over)
+
+  try-measured : (r : Place) → measured actionSize actionTrace pos (got (Try t c f) r) ≡ measured (total bodyLength) inBodies w (got (tryBodies t c f) r)
+  unfolding measured
+  try-measured r = ap₂ (λ (n : ℕ) (es : List Event). got (measure n es) r) (omega (arith, try-size, is-size)) try-branches
+
+-- ---- its bodies, read one after the other
+
+abbrev count : Bool → Bool → ℕ
+count true true = 3
+count true false = 2
+count false true = 2
+count false false = 1
+
+-- the shape says how many
+bit-of : (n : ℕ) → n < 2 → (t : Bool) → eqb n 1 ≡ t → n ≡ bit t
+unfolding bit
+bit-of n h true e = eqb-true n 1 e
+bit-of n h false e =
+    let z = eqb-false n 1 e in
+    omega (arith, h, z)
+
+count-bits : (c f : Bool) → count c f ≡ 1 + bit c + bit f
+unfolding bit
+count-bits true true = refl
+count-bits true false = refl
+count-bits false true = refl
+count-bits false false = refl
+
+count-is : (n : ℕ) → count (hasCatch n) (hasFinally n) ≡ bodiesAfter n
+unfolding hasCatch hasFinally bodiesAfter
+count-is n =
+    let c = bit-of (n % 2) (omega arith) (eqb (n % 2) 1) refl in
+    let f = bit-of (n / 2 % 2) (omega arith) (eqb (n / 2 % 2) 1) refl in
+    omega (arith, count-bits (eqb (n % 2) 1) (eqb (n / 2 % 2) 1), c, f)
+
+-- whatever is told of a whole Try and of its bodies alike, its name m bytes long
+module _ {O : Type 0} (b : List ℕ) (inner : Reader (ActionsOf Text ℕ)) (target : CatchTargetOf Text) (m : ℕ) (whole : Read (ActionOf Text ℕ) → O) (parts : Read (List (ActionsOf Text ℕ)) → O)
+    (try-alike : (t : ActionsOf Text ℕ) (c : CatchOf Text ℕ) (f : FinallyOf Text ℕ) → nameLength (mapCatch spelling c) ≡ m → (r : Place) → whole (got (Try t c f) r) ≡ parts (got (tryBodies t c f) r))
+    (no-fault : (f : answers.Fault) (p : Place) → whole (bad f p) ≡ parts (bad f p)) where
+  abbrev after-try : Bool → Bool → ActionsOf Text ℕ → Reader (ActionOf Text ℕ)
+  after-try c f t r = chain (readCatch edition1 b inner c target r) (λ x u. chain (readFinally edition1 b inner f u) (λ y v. got (Try t x y) v))
+
+  -- the bodies after the first
+  one : nameLength (mapCatch spelling noCatch) ≡ m → (t : ActionsOf Text ℕ) (r : Place) → whole (after-try false false t r) ≡ parts (got (t ∷ []) r)
+  unfolding readCatch readFinally
+  one h t r = try-alike t noCatch noFinally h r
+
+  only-catch : ((x : ActionsOf Text ℕ) → nameLength (mapCatch spelling (catch target x)) ≡ m) → (t : ActionsOf Text ℕ) (y : Read (ActionsOf Text ℕ)) (r : Place) → inner r ≡ y
+      → whole (after-try true false t r) ≡ parts (chain y (λ x u. got (t ∷ x ∷ []) u))
+  unfolding readCatch readFinally
+  only-catch h t (got x u) r e = rw e (try-alike t (catch target x) noFinally (h x) u)
+  only-catch h t (bad f u) r e = rw e (no-fault f u)
+
+  only-finally : nameLength (mapCatch spelling noCatch) ≡ m → (t : ActionsOf Text ℕ) (y : Read (ActionsOf Text ℕ)) (r : Place) → inner r ≡ y
+      → whole (after-try false true t r) ≡ parts (chain y (λ x u. got (t ∷ x ∷ []) u))
+  unfolding readCatch readFinally
+  only-finally h t (got x u) r e = rw e (try-alike t noCatch (finally x) h u)
+  only-finally h t (bad f u) r e = rw e (no-fault f u)
+
+  both : ((x : ActionsOf Text ℕ) → nameLength (mapCatch spelling (catch target x)) ≡ m) → (t : ActionsOf Text ℕ) (y : Read (ActionsOf Text ℕ)) (r : Place) → inner r ≡ y
+      → whole (after-try true true t r) ≡ parts (chain y (λ x u. chain (inner u) (λ z v. got (t ∷ x ∷ z ∷ []) v)))
+  unfolding readCatch
+  both h t (got x u) r e = rw e (last (inner u) refl)
+    where
+      last : (z : Read (ActionsOf Text ℕ)) → inner u ≡ z → whole (chain (readFinally edition1 b inner true u) (λ y v. got (Try t (catch target x) y) v)) ≡ parts (chain z (λ z v. got (t ∷ x ∷ z ∷ []) v))
+      last (got z v) g = unfold readFinally in rw g (try-alike t (catch target x) (finally z) (h x) v)
+      last (bad f v) g = unfold readFinally in rw g (no-fault f v)
+  both h t (bad f u) r e = rw e (no-fault f u)
+
+  repeat-two : (t : ActionsOf Text ℕ) (y : Read (ActionsOf Text ℕ))
+      → chain y (λ x u. got (t ∷ x ∷ []) u) ≡ chain (chain y (λ x u. chain (got [] u) (λ xs v. got (x ∷ xs) v))) (λ xs v. got (t ∷ xs) v)
+  repeat-two t (got x u) = refl
+  repeat-two t (bad f u) = refl
+
+  repeat-three : (t : ActionsOf Text ℕ) (y : Read (ActionsOf Text ℕ))
+      → chain y (λ x u. chain (inner u) (λ z v. got (t ∷ x ∷ z ∷ []) v))
+      ≡ chain (chain y (λ x u. chain (chain (inner u) (λ z v. chain (got [] v) (λ xs o. got (z ∷ xs) o))) (λ xs v. got (x ∷ xs) v))) (λ xs v. got (t ∷ xs) v)
+  repeat-three t (bad f u) = refl
+  repeat-three t (got x u) = go (inner u)
+    where
+      go : (z : Read (ActionsOf Text ℕ)) → chain z (λ z v. got (t ∷ x ∷ z ∷ []) v)
+          ≡ chain (chain (chain z (λ z v. chain (got [] v) (λ xs o. got (z ∷ xs) o))) (λ xs v. got (x ∷ xs) v)) (λ xs v. got (t ∷ xs) v)
+      go (got z v) = refl
+      go (bad f v) = refl
+
+  try-bodies : (c f : Bool) (q : Place) → (c ≡ true → (x : ActionsOf Text ℕ) → nameLength (mapCatch spelling (catch target x)) ≡ m) → (c ≡ false → nameLength (mapCatch spelling noCatch) ≡ m)
+      → whole (chain (inner q) (λ t r. after-try c f t r)) ≡ parts (repeat inner (count c f) q)
+  unfolding repeat
+  try-bodies true true q h k = go (inner q)
+    where
+      go : (y : Read (ActionsOf Text ℕ)) → whole (chain y (λ t r. after-try true true t r))
+          ≡ parts (chain y (λ t r. chain (chain (inner r) (λ x u. chain (chain (inner u) (λ z v. chain (got [] v) (λ xs o. got (z ∷ xs) o))) (λ xs v. got (x ∷ xs) v))) (λ xs v. got (t ∷ xs) v)))
+      go (got t r) = both (h refl) t (inner r) r refl ∙ ap parts (repeat-three t (inner r))
+      go (bad f r) = no-fault f r
+  try-bodies true false q h k = go (inner q)
+    where
+      go : (y : Read (ActionsOf Text ℕ)) → whole (chain y (λ t r. after-try true false t r))
+          ≡ parts (chain y (λ t r. chain (chain (inner r) (λ x u. chain (got [] u) (λ xs v. got (x ∷ xs) v))) (λ xs v. got (t ∷ xs) v)))
+      go (got t r) = only-catch (h refl) t (inner r) r refl ∙ ap parts (repeat-two t (inner r))
+      go (bad f r) = no-fault f r
+  try-bodies false true q h k = go (inner q)
+    where
+      go : (y : Read (ActionsOf Text ℕ)) → whole (chain y (λ t r. after-try false true t r))
+          ≡ parts (chain y (λ t r. chain (chain (inner r) (λ x u. chain (got [] u) (λ xs v. got (x ∷ xs) v))) (λ xs v. got (t ∷ xs) v)))
+      go (got t r) = only-finally (k refl) t (inner r) r refl ∙ ap parts (repeat-two t (inner r))
+      go (bad f r) = no-fault f r
+  try-bodies false false q h k = go (inner q)
+    where
+      go : (y : Read (ActionsOf Text ℕ)) → whole (chain y (λ t r. after-try false false t r)) ≡ parts (chain y (λ t r. chain (got [] r) (λ xs v. got (t ∷ xs) v)))
+      go (got t r) = one (k refl) t r
+      go (bad f r) = no-fault f r
+
+-- ---- what the payload says
+
+module _ (b : List ℕ) (small : Bytes b) where
+  -- the byte that was read
+  byte-read : (p : Place) → p .at ≤ length b → Good (length b) (λ n q. (n ≡ getD b (p .at) 0) × (q .at ≡ p .at + 1)) (readU8 b p)
+  unfolding readU8 ifWhole
+  byte-read p l = go (leb (p .at + 1) (length b)) refl
+    where
+      go : (t : Bool) → leb (p .at + 1) (length b) ≡ t → Good (length b) (λ n q. (n ≡ getD b (p .at) 0) × (q .at ≡ p .at + 1)) (ifWhole t p (getD b (p .at) 0) (ahead 1 p))
+      go true h = unfold ifWhole in fine {p = ahead 1 p} (refl, refl) (leb-true (p .at + 1) (length b) h)
+      go false h = unfold ifWhole in refused l
+
+  -- without a catch one zero byte stands for the name
+  one-byte : (c r : Bool) (p : Place) → p .at ≤ length b → Good (length b) (λ t q. (c ≡ false → targetSize t ≡ 1) × (targetSize t + p .at ≤ q .at + 2) × (p .at ≤ q .at)) (readCatchTarget edition1 b c r p)
+  unfolding readCatchTarget targetSize stringSize stringLength spelling
+  one-byte true true p l = good-then (u8-good b small p l) (λ n q h m. fine ((λ e. absurd (false≢true (sym e))), omega (arith, h .1), omega (arith, h .1)) m)
+  one-byte true false p l = good-then (text-good edition1 b small spelling (Unit {0}) (spells b small edition1) p l) (λ s q h m. fine ((λ e. absurd (false≢true (sym e))), omega (arith, h .1 tt), h .2) m)
+  one-byte false r p l = fine {a = Variable (plain [])} {p = p} ((λ e. refl), omega arith, omega arith) l
+
+  pub caught-good : (p : Place) → p .at ≤ length b
+      → Good (length b) (λ x q. (x .0 ≡ getD b (p .at) 0) × (hasCatch (x .0) ≡ false → targetSize (x .1) ≡ 1) × (targetSize (x .1) + p .at ≤ q .at + 1) × (p .at ≤ q .at)) (readCaught b p)
+  unfolding readCaught
+  caught-good p l =
+      good-then (tested-good b small isShape (readU8 b) p l (byte-read p l))
+      (λ n q h m. good-then (one-byte (hasCatch n) (hasRegister n) q m) (λ t r k o. fine {a = (n, t)} {p = r} (h .0 .0, k .0, omega (arith, h .0 .1, k .1), omega (arith, h .0 .1, k .2)) o))
+
+-- a Try's fields are its shape, its target and its bodies
+try-fields : (b : List ℕ) (inner : Reader (ActionsOf Text ℕ)) (p : Place)
+    → readFields edition1 b inner OpCode.Try p
+    ≡ chain (readCaught b p) (λ x q. chain (inner q) (λ t r. chain (readCatch edition1 b inner (hasCatch (x .0)) (x .1) r) (λ c u. chain (readFinally edition1 b inner (hasFinally (x .0)) u) (λ f v. got (Try t c f) v))))
+unfolding readFields readCaught readTry
+try-fields b inner p = go (tested isShape (readU8 b) p)
+  where
+    rest : (n : ℕ) (y : Read (CatchTargetOf Text))
+        → chain y (λ t q. chain (inner q) (λ x r. chain (readCatch edition1 b inner (hasCatch n) t r) (λ c u. chain (readFinally edition1 b inner (hasFinally n) u) (λ f v. got (Try x c f) v))))
+        ≡ chain (chain {B = ℕ × CatchTargetOf Text} y (λ t q. got (n, t) q)) (λ x q. chain (inner q) (λ t r. chain (readCatch edition1 b inner (hasCatch (x .0)) (x .1) r) (λ c u. chain (readFinally edition1 b inner (hasFinally (x .0)) u) (λ f v. got (Try t c f) v))))
+    rest n (got t q) = refl
+    rest n (bad f q) = refl
+
+    go : (y : Read ℕ) → chain y (λ n q. chain (readCatchTarget edition1 b (hasCatch n) (hasRegister n) q) (λ t q. chain (inner q) (λ x r. chain (readCatch edition1 b inner (hasCatch n) t r) (λ c u. chain (readFinally edition1 b inner (hasFinally n) u) (λ f v. got (Try x c f) v)))))
+        ≡ chain (chain {B = ℕ × CatchTargetOf Text} y (λ n q. chain (readCatchTarget edition1 b (hasCatch n) (hasRegister n) q) (λ t q. got (n, t) q))) (λ x q. chain (inner q) (λ t r. chain (readCatch edition1 b inner (hasCatch (x .0)) (x .1) r) (λ c u. chain (readFinally edition1 b inner (hasFinally (x .0)) u) (λ f v. got (Try t c f) v))))
+    go (got n q) = rest n (readCatchTarget edition1 b (hasCatch n) (hasRegister n) q)
+    go (bad f q) = refl
+
+laid-some : (n q : ℕ) (w : BytePosition) → 1 ≤ n → laidAs n (scan.Ends q w) ≡ laid.Bodies q w n
+unfolding laidAs pick
+laid-some n q w h = rw (ne-eqb n 0 (λ e. omega (arith, e, h)))
+
+after-some : (n : ℕ) → 1 ≤ bodiesAfter n
+unfolding bodiesAfter
+after-some n = omega arith
+
+-- a Try whose shape and target were read is told of as its bodies are
+module _ (b : List ℕ) (p pos : ℕ) (x : ℕ × CatchTargetOf Text) (q : Place) (is-read : readCaught b (placed p) ≡ got x q) (inner : Reader (ActionsOf Text ℕ)) (one-byte : hasCatch (x .0) ≡ false → 1 ≡ targetSize (x .1)) where
+  abbrev named : ℕ
+  named = targetSize (x .1)
+
+  alike : {O : Type 0} (whole : Read (ActionOf Text ℕ) → O) (parts : Read (List (ActionsOf Text ℕ)) → O)
+      → ((t : ActionsOf Text ℕ) (c : CatchOf Text ℕ) (f : FinallyOf Text ℕ) → nameLength (mapCatch spelling c) ≡ named → (r : Place) → whole (got (Try t c f) r) ≡ parts (got (tryBodies t c f) r))
+      → ((f : answers.Fault) (r : Place) → whole (bad f r) ≡ parts (bad f r))
+      → whole (readFields edition1 b inner OpCode.Try (placed p)) ≡ parts (repeat inner (count (hasCatch (x .0)) (hasFinally (x .0))) q)
+  alike whole parts h k =
+      rw (try-fields b inner (placed p), is-read) (try-bodies b inner (x .1) named whole parts h k (hasCatch (x .0)) (hasFinally (x .0)) q (λ c y. name-size (x .1) y) (λ c. no-name ∙ one-byte c))
+    where
+      no-name : nameLength (mapCatch spelling noCatch) ≡ 1
+      no-name = unfold nameLength mapCatch in refl
+
+  try-outcome : (over tab : List ℕ)
+      → outcome actionSize actionTrace pos (state tab over) (readFields edition1 b inner OpCode.Try (placed p))
+      ≡ outcome (total bodyLength) bodiesEvents (pos + 3 + (7 + named)) (state tab (notedIf 8 (7 + named) over)) (repeat inner (count (hasCatch (x .0)) (hasFinally (x .0))) q)
+  try-outcome over tab =
+      alike (outcome actionSize actionTrace pos (state tab over)) (outcome (total bodyLength) bodiesEvents (pos + 3 + (7 + named)) (state tab (notedIf 8 (7 + named) over)))
+      (λ t c f h r. try-done t c f named pos (pos + 3 + (7 + named)) h refl tab over r) (λ f r. unfold outcome in refl)
+
+  pub try-measure : measured actionSize actionTrace pos (readFields edition1 b inner OpCode.Try (placed p))
+      ≡ measured (total bodyLength) inBodies (pos + 3 + (7 + named)) (repeat inner (count (hasCatch (x .0)) (hasFinally (x .0))) q)
+  try-measure =
+      alike (measured actionSize actionTrace pos) (measured (total bodyLength) inBodies (pos + 3 + (7 + named)))
+      (λ t c f h r. try-measured t c f named pos (pos + 3 + (7 + named)) h refl r) (λ f r. unfold measured in refl)
+
+module _ (b : List ℕ) (small : Bytes b) (at p pos : ℕ) (is-next : p ≡ at + 1) (inside : p ≤ length b) (over over′ : List ℕ) (l : Laid) where
+  onward : (x : ℕ × CatchTargetOf Text) (q : Place) → (x .0 ≡ getD b p 0) × (hasCatch (x .0) ≡ false → targetSize (x .1) ≡ 1) × (targetSize (x .1) + p ≤ q .at + 1) × (p ≤ q .at) → q .at ≤ length b
+      → Onward at (length b) pos (q .at) (pos + 3 + caughtSize x)
+  unfolding caughtSize
+  onward x q g o = record { beyond = omega (arith, is-next, g .3); within = o; written = omega (arith, is-next, g .2, g .3) }
+
+  lay-caught : (x : ℕ × CatchTargetOf Text) (q : Place) → readCaught b (placed p) ≡ got x q
+      → (x .0 ≡ getD b p 0) × (hasCatch (x .0) ≡ false → targetSize (x .1) ≡ 1) × (targetSize (x .1) + p ≤ q .at + 1) × (p ≤ q .at) → q .at ≤ length b
+      → Laying (λ inner. readFields edition1 b inner OpCode.Try (placed p)) at (length b) pos over (notedFrom (pos + 3) (scanned caughtSize (pos + 3) (got x q)) over)
+      (laidAs (bodiesAfter (getD b p 0)) (scanned caughtSize (pos + 3) (got x q)))
+  unfolding scanned notedFrom caughtSize
+  lay-caught x q e g o =
+      let k : count (hasCatch (x .0)) (hasFinally (x .0)) ≡ bodiesAfter (getD b p 0) = count-is (x .0) ∙ ap bodiesAfter (g .0) in
+      let m : 7 + targetSize (x .1) ≡ pos + 3 + (7 + targetSize (x .1)) - (pos + 3) = omega arith in
+      rw (laid-some (bodiesAfter (getD b p 0)) (q .at) (record { 0 = pos + 3 + caughtSize x }) (after-some (getD b p 0)))
+      (Laying.bodies {q = q .at} {n = bodiesAfter (getD b p 0)} {w = record { 0 = pos + 3 + caughtSize x }} (after-some (getD b p 0)) (onward x q g o)
+      (λ inner tab. try-outcome b p pos x q e inner (λ c. sym (g .1 c)) over tab
+      ∙ ap₂ (λ (i j : ℕ). outcome (total bodyLength) bodiesEvents (pos + 3 + caughtSize x) (state tab (notedIf 8 i over)) (repeat inner j q)) m k)
+      (λ inner. try-measure b p pos x q e inner (λ c. sym (g .1 c))
+      ∙ ap (λ (j : ℕ). measured (total bodyLength) inBodies (pos + 3 + caughtSize x) (repeat inner j q)) k))
+
+  lay-uncaught : (f : answers.Fault) (q : Place) → readCaught b (placed p) ≡ bad f q
+      → Laying (λ inner. readFields edition1 b inner OpCode.Try (placed p)) at (length b) pos over (notedFrom (pos + 3) (scanned caughtSize (pos + 3) (bad f q)) over)
+      (laidAs (bodiesAfter (getD b p 0)) (scanned caughtSize (pos + 3) (bad f q)))
+  unfolding scanned notedFrom laidAs outcome
+  lay-uncaught f q e = Laying.stops {f = faultOf f} {q = q .at} (λ inner t. rw (try-fields b inner (placed p), e))
+
+  pub lay-try : Tried (scanned caughtSize (pos + 3) (readCaught b (placed p))) (bodiesAfter (getD b p 0)) (pos + 3) l over over′
+      → Laying (λ inner. readFields edition1 b inner OpCode.Try (placed p)) at (length b) pos over over′ l
+  lay-try h = rw (h .is-laid, h .is-noted) (go (readCaught b (placed p)) refl)
+    where
+      go : (x : Read (ℕ × CatchTargetOf Text)) → readCaught b (placed p) ≡ x
+          → Laying (λ inner. readFields edition1 b inner OpCode.Try (placed p)) at (length b) pos over (notedFrom (pos + 3) (scanned caughtSize (pos + 3) x) over) (laidAs (bodiesAfter (getD b p 0)) (scanned caughtSize (pos + 3) x))
+      go (got x q) e =
+          let g = good-got x q (caught-good b small (placed p) inside) e in
+          lay-caught x q e (g .0) (g .1)
+      go (bad f q) e = lay-uncaught f q e

@@ -1,0 +1,28 @@
+// The kinds that the walks share: where reading and writing stand, and what the walk over one part of a main body answers.
+
+// The index of an action in its body's list: what label_positions of source 001's Actions holds.
+pub struct ActionIndex(pub u32);
+
+// A position in the written block: what label_positions of source 000's ActionEncoder holds.
+pub struct BytePosition(pub usize);
+
+// What reading can meet: 3 to 7 of document 01.
+pub enum Fault {
+    CutShort,
+    UnknownCode,
+    BadField,
+    TooDeep,
+    LeftOver,
+}
+
+// Of a part that is read: the place where reading ended and the position that writing would have reached, or a fault and its place.
+pub enum Scan {
+    Ends(usize, BytePosition),
+    Stops(Fault, usize),
+}
+
+// Of a part that is written: the place where reading goes on, and the position where writing does.
+pub struct Ends {
+    pub next: usize,
+    pub pos: usize,
+}
