@@ -27,7 +27,7 @@ pub fn scan_wait_for_frame(b: &[u8], at: usize, pos: BytePosition) -> Scan
 }
 
 // GotoFrame2: a bias and whether to play; the bias is written when it is not 0.
-pub fn scan_goto_frame2(b: &[u8], at: usize, pos: BytePosition) -> Scan
+pub fn scan_goto_frame_2(b: &[u8], at: usize, pos: BytePosition) -> Scan
     requires { ⌜ Roomy (now b) at pos ⌝ }
     ensures { λ r. ⌜ r ≡ scanned flatSize (pos .0) (readGotoFrame2 (now (b .entry)) (placed at)) ⌝ }
 {
@@ -41,7 +41,7 @@ pub fn scan_goto_frame2(b: &[u8], at: usize, pos: BytePosition) -> Scan
 }
 
 // GetUrl2: two flags and a method.
-pub fn scan_get_url2(b: &[u8], at: usize, pos: BytePosition) -> Scan
+pub fn scan_get_url_2(b: &[u8], at: usize, pos: BytePosition) -> Scan
     requires { ⌜ Roomy (now b) at pos ⌝ }
     ensures { λ r. ⌜ r ≡ scanned flatSize (pos .0) (readGetUrl2 (now (b .entry)) (placed at)) ⌝ }
 {
@@ -68,7 +68,7 @@ pub fn scan_get_url(b: &[u8], at: usize, pos: BytePosition) -> Scan
 // ---- payloads before bodies
 
 // A function's name and parameters.
-pub fn scan_function(b: &[u8], at: usize, pos: BytePosition) -> Scan
+pub fn scan_define_function(b: &[u8], at: usize, pos: BytePosition) -> Scan
     requires { ⌜ Roomy (now b) at pos ⌝ }
     ensures { λ r. ⌜ r ≡ scanned ownerSize (pos .0) (readFunction (now (b .entry)) (placed at)) ⌝ }
 {
@@ -97,7 +97,7 @@ fn scan_registers(b: &[u8], at: usize, pos: BytePosition) -> Scan
 }
 
 // A function's name, its parameters after their registers, its register count and flags.
-pub fn scan_function2(b: &[u8], at: usize, pos: BytePosition) -> Scan
+pub fn scan_define_function_2(b: &[u8], at: usize, pos: BytePosition) -> Scan
     requires { ⌜ Roomy (now b) at pos ⌝ }
     ensures { λ r. ⌜ r ≡ scanned ownerSize (pos .0) (readFunction2 (now (b .entry)) (placed at)) ⌝ }
 {

@@ -688,7 +688,7 @@ impl OpCode {
     }
 
     // The same for a DefineFunction2.
-    pub fn define_function2_len(name: usize, sum: usize) -> usize
+    pub fn define_function_2_len(name: usize, sum: usize) -> usize
         requires { ⌜ (name < 4294967296) × (sum < 4294967296) ⌝ }
         ensures { λ r. ⌜ DefineFunction2Length name sum r ⌝ }
     {
@@ -704,7 +704,7 @@ impl OpCode {
     }
 
     // A GotoFrame2's payload.
-    pub fn goto_frame2_len(bias: usize) -> usize
+    pub fn goto_frame_2_len(bias: usize) -> usize
         ensures { λ r. ⌜ GotoFrame2Length bias r ⌝ }
     {
         if bias == 0 { 1 } else { 3 }

@@ -9,11 +9,11 @@ ghost use Rattle.positions.specs.Scanned.{scanned, Roomy};
 ghost use Rattle.measure.specs.Walk.{Laying, branchLaid, Tried};
 ghost use Rattle.action_fields.specs.Fields.{readCaught, caughtSize, bodiesAfter};
 use action_fields::scan_catch;
-use action_fields::scan_function;
-use action_fields::scan_function2;
+use action_fields::scan_define_function;
+use action_fields::scan_define_function_2;
 use action_fields::scan_get_url;
-use action_fields::scan_get_url2;
-use action_fields::scan_goto_frame2;
+use action_fields::scan_get_url_2;
+use action_fields::scan_goto_frame_2;
 use action_fields::scan_wait_for_frame;
 use fields::u16_at;
 use lists::scan_push;
@@ -75,16 +75,16 @@ pub fn scan_payload(b: &[u8], op: u8, at: usize, pos: BytePosition, over: &mut [
         OpCode::SET_TARGET => long_payload(scan_string(b, p, w), w, 0, over),
         OpCode::GOTO_LABEL => long_payload(scan_string(b, p, w), w, 0, over),
         OpCode::WAIT_FOR_FRAME2 => flat_payload(scan_bytes(b, p, 1, BytePosition(w.0 + 1))),
-        OpCode::DEFINE_FUNCTION2 => long_payload(scan_function2(b, p, w), w, 1, over),
+        OpCode::DEFINE_FUNCTION2 => long_payload(scan_define_function_2(b, p, w), w, 1, over),
         OpCode::TRY => scan_try(b, p, w, over),
         OpCode::WITH => Laid::Bodies(p, BytePosition(w.0 + 2), 1),
         OpCode::PUSH => long_payload(scan_push(b, p, w), w, 0, over),
         OpCode::JUMP => scan_branch(b, p, w),
-        OpCode::GET_URL2 => flat_payload(scan_get_url2(b, p, w)),
-        OpCode::DEFINE_FUNCTION => long_payload(scan_function(b, p, w), w, 1, over),
+        OpCode::GET_URL2 => flat_payload(scan_get_url_2(b, p, w)),
+        OpCode::DEFINE_FUNCTION => long_payload(scan_define_function(b, p, w), w, 1, over),
         OpCode::IF => scan_branch(b, p, w),
         OpCode::CALL => Laid::Flat(p, w),
-        OpCode::GOTO_FRAME2 => flat_payload(scan_goto_frame2(b, p, w)),
+        OpCode::GOTO_FRAME2 => flat_payload(scan_goto_frame_2(b, p, w)),
         _ => Laid::Stops(Fault::UnknownCode, at),
     }
 }

@@ -71,11 +71,11 @@ scan-bytes-requires-3 c κs = search needs
 flat-payload-requires-4 : tie.Need-flat-payload-requires-4
 flat-payload-requires-4 c κs = search needs
 
-scan-function2-requires : tie.Need-scan-function2-requires
-scan-function2-requires c κs = search needs
+scan-define-function-2-requires : tie.Need-scan-define-function-2-requires
+scan-define-function-2-requires c κs = search needs
 
 long-payload-requires-5 : tie.Need-long-payload-requires-5
-long-payload-requires-5 c κs = (c .before .before .before .before .before .before .pre .2, lay.scanned-from-start _ _ _ _ _ (c .before .scan-function2 .ensures) (omega arith))
+long-payload-requires-5 c κs = (c .before .before .before .before .before .before .pre .2, lay.scanned-from-start _ _ _ _ _ (c .before .scan-define-function-2 .ensures) (omega arith))
 
 scan-try-requires : tie.Need-scan-try-requires
 scan-try-requires c κs = search needs
@@ -89,8 +89,8 @@ scan-push-requires c κs = search needs
 long-payload-requires-6 : tie.Need-long-payload-requires-6
 long-payload-requires-6 c κs = (c .before .before .before .before .before .before .pre .2, lay.scanned-from-start _ _ _ _ _ (c .before .scan-push .ensures) (omega arith))
 
-scan-get-url2-requires : tie.Need-scan-get-url2-requires
-scan-get-url2-requires c κs = search needs
+scan-get-url-2-requires : tie.Need-scan-get-url-2-requires
+scan-get-url-2-requires c κs = search needs
 
 scan-branch-requires : tie.Need-scan-branch-requires
 scan-branch-requires c κs = search needs
@@ -101,14 +101,14 @@ scan-branch-requires-2 c κs = search needs
 flat-payload-requires-5 : tie.Need-flat-payload-requires-5
 flat-payload-requires-5 c κs = search needs
 
-scan-function-requires : tie.Need-scan-function-requires
-scan-function-requires c κs = search needs
+scan-define-function-requires : tie.Need-scan-define-function-requires
+scan-define-function-requires c κs = search needs
 
 long-payload-requires-7 : tie.Need-long-payload-requires-7
-long-payload-requires-7 c κs = (c .before .before .before .before .before .before .pre .2, lay.scanned-from-start _ _ _ _ _ (c .before .scan-function .ensures) (omega arith))
+long-payload-requires-7 c κs = (c .before .before .before .before .before .before .pre .2, lay.scanned-from-start _ _ _ _ _ (c .before .scan-define-function .ensures) (omega arith))
 
-scan-goto-frame2-requires : tie.Need-scan-goto-frame2-requires
-scan-goto-frame2-requires c κs = search needs
+scan-goto-frame-2-requires : tie.Need-scan-goto-frame-2-requires
+scan-goto-frame-2-requires c κs = search needs
 
 flat-payload-requires-6 : tie.Need-flat-payload-requires-6
 flat-payload-requires-6 c κs = search needs
@@ -153,7 +153,7 @@ same-length-5 : tie.Need-same-length-5
 same-length-5 c = search needs
 
 returns-9 : tie.Need-returns-9
-returns-9 c = arms.arm-define-function2 _ _ _ _ _ _ _ (c .before .before .before .before .before .before .before .before .before .pre .3 .bytes) (omega arith) _ (c .before .before .before .before .before .match .keys9) (c .before .before .before .before .scan-function2 .ensures) (c .before .before .long-payload5 .ensures .0) (c .before .before .long-payload5 .ensures .1)
+returns-9 c = arms.arm-define-function2 _ _ _ _ _ _ _ (c .before .before .before .before .before .before .before .before .before .pre .3 .bytes) (omega arith) _ (c .before .before .before .before .before .match .keys9) (c .before .before .before .before .scan-define-function-2 .ensures) (c .before .before .long-payload5 .ensures .0) (c .before .before .long-payload5 .ensures .1)
 
 same-length-6 : tie.Need-same-length-6
 same-length-6 c = search needs
@@ -174,13 +174,13 @@ returns-13 : tie.Need-returns-13
 returns-13 c = arms.arm-jump _ _ _ _ _ _ (omega arith) (c .before .match .keys13) (c .scan-branch .ensures)
 
 returns-14 : tie.Need-returns-14
-returns-14 c = arms.arm-get-url2 _ _ _ _ _ _ _ (c .before .before .match .keys14) (c .before .scan-get-url2 .ensures) (c .flat-payload5 .ensures)
+returns-14 c = arms.arm-get-url2 _ _ _ _ _ _ _ (c .before .before .match .keys14) (c .before .scan-get-url-2 .ensures) (c .flat-payload5 .ensures)
 
 same-length-8 : tie.Need-same-length-8
 same-length-8 c = search needs
 
 returns-15 : tie.Need-returns-15
-returns-15 c = arms.arm-define-function _ _ _ _ _ _ _ (c .before .before .before .before .before .before .before .before .before .pre .3 .bytes) (omega arith) _ (c .before .before .before .before .before .match .keys15) (c .before .before .before .before .scan-function .ensures) (c .before .before .long-payload7 .ensures .0) (c .before .before .long-payload7 .ensures .1)
+returns-15 c = arms.arm-define-function _ _ _ _ _ _ _ (c .before .before .before .before .before .before .before .before .before .pre .3 .bytes) (omega arith) _ (c .before .before .before .before .before .match .keys15) (c .before .before .before .before .scan-define-function .ensures) (c .before .before .long-payload7 .ensures .0) (c .before .before .long-payload7 .ensures .1)
 
 returns-16 : tie.Need-returns-16
 returns-16 c = arms.arm-if _ _ _ _ _ _ (omega arith) (c .before .match .keys16) (c .scan-branch2 .ensures)
@@ -189,7 +189,7 @@ returns-17 : tie.Need-returns-17
 returns-17 c = arms.arm-call _ _ _ _ _ (c .match .keys17)
 
 returns-18 : tie.Need-returns-18
-returns-18 c = arms.arm-goto-frame2 _ _ _ _ _ _ _ (c .before .before .match .keys18) (c .before .scan-goto-frame2 .ensures) (c .flat-payload6 .ensures)
+returns-18 c = arms.arm-goto-frame2 _ _ _ _ _ _ _ (c .before .before .match .keys18) (c .before .scan-goto-frame-2 .ensures) (c .flat-payload6 .ensures)
 
 returns-19 : tie.Need-returns-19
 returns-19 c = let r = c .match .rest in arms.arm-unknown _ _ _ _ _ (arms.unlisted _ (c .before .before .before .before .pre .0) (omega arith) (r .0 .0 .0 .0 .0 .0 .0 .0 .0 .0 .0 .0 .0 .0 .0 .0 .0 .1, (r .0 .0 .0 .0 .0 .0 .0 .0 .0 .0 .0 .0 .0 .0 .0 .0 .1, (r .0 .0 .0 .0 .0 .0 .0 .0 .0 .0 .0 .0 .0 .0 .0 .1, (r .0 .0 .0 .0 .0 .0 .0 .0 .0 .0 .0 .0 .0 .0 .1, (r .0 .0 .0 .0 .0 .0 .0 .0 .0 .0 .0 .0 .0 .1, (r .0 .0 .0 .0 .0 .0 .0 .0 .0 .0 .0 .0 .1, (r .0 .0 .0 .0 .0 .0 .0 .0 .0 .0 .0 .1, (r .0 .0 .0 .0 .0 .0 .0 .0 .0 .0 .1, (r .0 .0 .0 .0 .0 .0 .0 .0 .0 .1, (r .0 .0 .0 .0 .0 .0 .0 .0 .1, (r .0 .0 .0 .0 .0 .0 .0 .1, (r .0 .0 .0 .0 .0 .0 .1, (r .0 .0 .0 .0 .0 .1, (r .0 .0 .0 .0 .1, (r .0 .0 .0 .1, (r .0 .0 .1, (r .0 .1, (r .1, tt)))))))))))))))))))
@@ -220,19 +220,19 @@ scan-payload-spec =
     add-t32
     scan-bytes-requires-3
     flat-payload-requires-4
-    scan-function2-requires
+    scan-define-function-2-requires
     long-payload-requires-5
     scan-try-requires
     add-t39
     scan-push-requires
     long-payload-requires-6
     scan-branch-requires
-    scan-get-url2-requires
+    scan-get-url-2-requires
     flat-payload-requires-5
-    scan-function-requires
+    scan-define-function-requires
     long-payload-requires-7
     scan-branch-requires-2
-    scan-goto-frame2-requires
+    scan-goto-frame-2-requires
     flat-payload-requires-6
     returns
     same-length

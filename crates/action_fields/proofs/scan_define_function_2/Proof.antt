@@ -4,8 +4,8 @@ use native.Mathlib.Omega.{arith}
 use Rattle.lists.proofs.Lists as lists
 use Rattle.action_fields.proofs.Steps as steps
 use borrow.Author.Needs.{needs}
-use Rattle.action_fields.proofs.scan_function2.Statement.{statement}
-use Rattle.action_fields.proofs.scan_function2.Tie as tie
+use Rattle.action_fields.proofs.scan_define_function_2.Statement.{statement}
+use Rattle.action_fields.proofs.scan_define_function_2.Tie as tie
 
 scan-string-requires : tie.Need-scan-string-requires
 scan-string-requires c κs = search needs
@@ -43,8 +43,8 @@ returns-3 : tie.Need-returns-3
 unfolding readFunction2
 returns-3 c = steps.then-ends _ _ _ _ _ _ _ (c .before .before .before .before .before .before .before .before .before .scan-string .ensures) (c .before .before .before .before .before .before .before .p .given .1) (λ s g h. steps.then-ends _ _ _ _ _ _ _ (steps.params-scan _ _ _ _ _ h (c .before .before .before .before .scan-strings .ensures)) (c .before .before .q .given .1) (λ ps i j. steps.function2-in _ _ _ _ 0 h _ _ _ _ j (c .scan-registers .ensures)))
 
-pub scan-function2-spec : {M : Type 1} → statement M
-scan-function2-spec =
+pub scan-define-function-2-spec : {M : Type 1} → statement M
+scan-define-function-2-spec =
     tie.close
     (tie.spec
     scan-string-requires

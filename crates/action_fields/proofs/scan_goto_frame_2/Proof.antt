@@ -1,8 +1,8 @@
 use native.Mathlib.Omega.{arith}
 use Rattle.action_fields.proofs.Steps as steps
 use borrow.Author.Needs.{needs}
-use Rattle.action_fields.proofs.scan_goto_frame2.Statement.{statement}
-use Rattle.action_fields.proofs.scan_goto_frame2.Tie as tie
+use Rattle.action_fields.proofs.scan_goto_frame_2.Statement.{statement}
+use Rattle.action_fields.proofs.scan_goto_frame_2.Tie as tie
 
 sub-if1 : tie.Need-sub-if1
 sub-if1 c = search needs
@@ -37,8 +37,8 @@ scan-flag-requires-2 c κs = search needs
 returns-3 : tie.Need-returns-3
 returns-3 c = steps.goto-in _ _ _ _ 3 _ (omega arith) (c .before .before .before .u16-at .ensures .0) (steps.goto-bias _ (c .before .before .if2 .left)) (c .scan-flag2 .ensures)
 
-pub scan-goto-frame2-spec : {M : Type 1} → statement M
-scan-goto-frame2-spec =
+pub scan-goto-frame-2-spec : {M : Type 1} → statement M
+scan-goto-frame-2-spec =
     tie.close
     (tie.spec
     sub-if1

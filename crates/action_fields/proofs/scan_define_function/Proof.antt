@@ -3,8 +3,8 @@ use native.Mathlib.Omega.{arith}
 use Rattle.lists.proofs.Lists as lists
 use Rattle.action_fields.proofs.Steps as steps
 use borrow.Author.Needs.{needs}
-use Rattle.action_fields.proofs.scan_function.Statement.{statement}
-use Rattle.action_fields.proofs.scan_function.Tie as tie
+use Rattle.action_fields.proofs.scan_define_function.Statement.{statement}
+use Rattle.action_fields.proofs.scan_define_function.Tie as tie
 
 scan-string-requires : tie.Need-scan-string-requires
 scan-string-requires c κs = search needs
@@ -29,8 +29,8 @@ returns-2 : tie.Need-returns-2
 unfolding readFunction
 returns-2 c = steps.then-ends _ _ _ _ _ _ _ (c .before .before .before .before .before .scan-string .ensures) (c .before .before .before .p .given .1) (λ s g h. steps.function-in _ _ _ _ _ h _ (c .scan-strings .ensures))
 
-pub scan-function-spec : {M : Type 1} → statement M
-scan-function-spec =
+pub scan-define-function-spec : {M : Type 1} → statement M
+scan-define-function-spec =
     tie.close
     (tie.spec
     scan-string-requires
