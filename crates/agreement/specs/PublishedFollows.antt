@@ -1,5 +1,5 @@
--- Every block that the packer gives follows the published layouts, the two differences apart that `Order` names:
--- `follows-published`, `no-third-difference` and `label-starts`, at the end. Assumes nothing.
+-- Every block that the packer gives follows the published layouts, the three differences apart that Published names:
+-- `follows-published`, `no-other-difference` and `label-starts`, at the end. Assumes nothing.
 use mathlib.Core.Path.{_≡_, refl, sym, ap, ap₂, _∙_, subst}
 use Prim.Native.Nat.{ℕ, zero, suc, _+_, _-_, _*_, _/_, _%_, _≤_, _<_}
 use native.Mathlib.Omega.{arith}
@@ -23,7 +23,7 @@ use Rattle.layout.specs.Lengths.{length-le16, length-tryPayload, framed-long, f
 use Rattle.laws.specs.Fits.{Bytes, Clean, ValueFits, ParamFits, Listed, FlatFits, OwnerFits, NameFits, Fits, ActionsFit, BodyFits, CatchFits, FinallyFits}
 use Rattle.laws.specs.Packed.{Written, is-written, tree-fits}
 use Rattle.laws.specs.Nears.{near-both, near-of, bits-small, NoneFar, near-left, near-right, branch-near}
-use Rattle.agreement.specs.Published.{Order, asPublished, asWritten, ui8, UI16, ui16, UI32, ui32, SI16, positive, negative, DOUBLE, littleEndian, highWordFirst, NonZero, STRING, string, bitOf, BITS, eightBits, Each, nil, cons, codeAlone, codeAndLength, Fields, header-and-fields, Simple, simple, simples, Member, here, there, PushData, PushString, PushNull, PushUndefined, PushRegister, PushBoolean, PushDouble, PushInteger, PushConstant8, PushConstant16, GetURL2Flags, fromMost, fromLeast, FlatRecord, ActionSimple, ActionGotoFrame, ActionGetURL, ActionStoreRegister, ActionConstantPool, ActionWaitForFrame, ActionSetTarget, ActionGoToLabel, ActionWaitForFrame2, ActionPush, ActionGetURL2, ActionGotoFrame2, ActionGotoFrame2Bias, Lands, reaches, unlabelled, REGISTERPARAM, registerParam, FunctionFlags, functionFlags, OwnerFields, ActionWith, ActionDefineFunction, ActionDefineFunction2, CatchFields, NoCatch, CatchName, CatchRegister, FinallyFlag, NoFinally, FinallyBlock, Places, placed, labelsHere, ActionRecord, ActionFlat, ActionJump, ActionIf, ActionBlock, ActionTry, ActionRecords, end, next, BodyRecords, code, CatchRecords, noCatchBody, CatchBody, FinallyRecords, noFinallyBody, FinallyBody, placeIf, lastPlace, Block, actionStarts, actionsStarts, bodyStarts, catchStarts, finallyStarts, ValueUndisputed, FlatUndisputed, Undisputed, ActionsUndisputed, BodyUndisputed, CatchUndisputed, FinallyUndisputed}
+use Rattle.agreement.specs.Published.{Order, asPublished, asWritten, ui8, UI16, ui16, UI32, ui32, SI16, positive, negative, DOUBLE, littleEndian, highWordFirst, NonZero, STRING, string, bitOf, BITS, eightBits, Each, nil, cons, codeAlone, codeAndLength, Fields, header-and-fields, Simple, simple, simples, Member, here, there, PushData, PushString, PushNull, PushUndefined, PushRegister, PushBoolean, PushDouble, PushInteger, PushConstant8, PushConstant16, GetURL2Flags, fromMost, fromLeast, byteZero, FlatRecord, ActionSimple, EndAmongActions, ActionGotoFrame, ActionGetURL, ActionStoreRegister, ActionConstantPool, ActionWaitForFrame, ActionSetTarget, ActionGoToLabel, ActionWaitForFrame2, ActionPush, ActionGetURL2, ActionGotoFrame2, ActionGotoFrame2Bias, Lands, reaches, unlabelled, REGISTERPARAM, registerParam, FunctionFlags, functionFlags, OwnerFields, ActionWith, ActionDefineFunction, ActionDefineFunction2, CatchFields, NoCatch, CatchName, CatchRegister, FinallyFlag, NoFinally, FinallyBlock, Places, placed, labelsHere, ActionRecord, ActionFlat, ActionJump, ActionIf, ActionBlock, ActionTry, ActionRecords, end, next, BodyRecords, code, CatchRecords, noCatchBody, CatchBody, FinallyRecords, noFinallyBody, FinallyBody, placeIf, lastPlace, Block, actionStarts, actionsStarts, bodyStarts, catchStarts, finallyStarts, ValueUndisputed, FlatUndisputed, Undisputed, ActionsUndisputed, BodyUndisputed, CatchUndisputed, FinallyUndisputed}
 
 -- ---- the definitions' numbers, strings and bits are of the published types
 
@@ -90,9 +90,9 @@ is-fields op q h k l =
 unfoldable codeOf : Simple → ℕ
 codeOf (simple action ActionCode) = ActionCode
 
--- an opcode among the published actions without a field, if it belongs there
+-- an opcode among the published actions without a field, if it belongs there; End, the one with byte 0, does not
 unfoldable simpleOf : OpCode → Option Simple
-simpleOf (OpCode.Small op) = some (simple op (smallByte op))
+simpleOf (OpCode.Small op) = pick (eqb (smallByte op) 0) none (some (simple op (smallByte op)))
 simpleOf OpCode.GotoFrame = none
 simpleOf OpCode.GetUrl = none
 simpleOf OpCode.StoreRegister = none
@@ -153,14 +153,30 @@ first-member number n (y ∷ ys) x e = go (eqb (number y) n) (λ k. first-member
         rw same here
     go false later k = there (later k)
 
+zero-listed : opcodeOf 0 ≡ some (OpCode.Small SmallOpCode.End)
+unfolding each firstWith pick smallByte byte smallOpCodes opcodes opcodeOf
+zero-listed = refl
+
+end-framed : FlatRecord asWritten (Small SmallOpCode.End) (framed (OpCode.Small SmallOpCode.End) [])
+unfolding byte smallByte
+end-framed = rw (framed-short (OpCode.Small SmallOpCode.End) [] refl) (EndAmongActions byteZero)
+
 module _ (op : SmallOpCode) (listed : Listed (OpCode.Small op)) where
-  -- the opcode has its published name and code
-  is-member : Member (simple op (smallByte op)) simples
+  -- an opcode that is not 0 has its published name and code
+  is-member : eqb (smallByte op) 0 ≡ false → Member (simple op (smallByte op)) simples
   unfolding opcodeOf
-  is-member =
+  is-member e =
       first-member codeOf (smallByte op) simples (simple op (smallByte op))
-      (unfold byte simpleOf in all-first (λ x. firstWith codeOf (byte x) simples ≡ simpleOf x) byte (byte (OpCode.Small op)) opcodes (OpCode.Small op)
-      (each-same (λ x. firstWith codeOf (byte x) simples) simpleOf opcodes codes-published) listed)
+      (unfold byte simpleOf pick in all-first (λ x. firstWith codeOf (byte x) simples ≡ simpleOf x) byte (byte (OpCode.Small op)) opcodes (OpCode.Small op)
+      (each-same (λ x. firstWith codeOf (byte x) simples) simpleOf opcodes codes-published) listed
+      ∙ ap (λ (t : Bool). pick t none (some (simple op (smallByte op)))) e)
+
+  -- the one that is 0 is End
+  is-end : smallByte op ≡ 0 → SmallOpCode.End ≡ op
+  unfolding byte
+  is-end e =
+      let k : some (OpCode.Small SmallOpCode.End) ≡ some (OpCode.Small op) = sym zero-listed ∙ ap opcodeOf (sym e) ∙ listed in
+      cc
 
   code-under : ltb (byte (OpCode.Small op)) 256 ≡ true
   unfolding opcodeOf
@@ -174,6 +190,14 @@ module _ (op : SmallOpCode) (listed : Listed (OpCode.Small op)) where
       go : (t : Bool) → ltb (byte (OpCode.Small op)) 128 ≡ t → Fields (smallByte op) [] (framed (OpCode.Small op) [])
       go true h = unfold byte in rw (framed-short (OpCode.Small op) [] h) (header-and-fields (codeAlone (ltb-true (smallByte op) 128 h)))
       go false h = unfold byte in is-fields (OpCode.Small op) [] h code-under (omega arith)
+
+  -- so each has a published record, or is End and has the source's
+  is-small : FlatRecord asWritten (Small op) (framed (OpCode.Small op) [])
+  is-small = go (eqb (smallByte op) 0) refl
+    where
+      go : (t : Bool) → eqb (smallByte op) 0 ≡ t → FlatRecord asWritten (Small op) (framed (OpCode.Small op) [])
+      go true e = subst (λ (x : SmallOpCode). FlatRecord asWritten (Small x) (framed (OpCode.Small x) [])) (is-end (eqb-true (smallByte op) 0 e)) end-framed
+      go false e = ActionSimple (is-member e) is-simple
 
 -- ---- records of actions with no body and no branch
 
@@ -240,7 +264,7 @@ is-frame2 (suc n) p h l =
 -- each has the record of its table
 is-flat : (f : Flat) → FlatFits f → length (payload f) < 65536 → FlatRecord asWritten f (framed (opcode f) (payload f))
 unfolding opcode payload byte
-is-flat (Small op) h l = ActionSimple (is-member op h) (is-simple op h)
+is-flat (Small op) h l = is-small op h
 is-flat (GotoFrame n) h l = ActionGotoFrame (is-ui16 n h) (is-fields OpCode.GotoFrame (le16 n) refl refl l)
 is-flat (GetUrl u t) h l = ActionGetURL (is-string u (h .0)) (is-string t (h .1)) (is-fields OpCode.GetUrl (zeroEnded u ++ zeroEnded t) refl refl l)
 is-flat (StoreRegister r) h l = ActionStoreRegister (ui8 h) (is-fields OpCode.StoreRegister (r ∷ []) refl refl l)
@@ -600,7 +624,7 @@ tree-follows t h n =
       is-ended = refl;
     }
 
--- ---- there is no third difference
+-- ---- there is no other difference
 
 value-published : {v : PushValue} {bs : List ℕ} → PushData asWritten v bs → ValueUndisputed v → PushData asPublished v bs
 value-published (PushString a) h = PushString a
@@ -619,6 +643,7 @@ values-published (cons a r) h = cons (value-published a (h .0)) (values-publishe
 
 flat-published : {f : Flat} {r : List ℕ} → FlatRecord asWritten f r → FlatUndisputed f → FlatRecord asPublished f r
 flat-published (ActionSimple m a) h = ActionSimple m a
+flat-published (EndAmongActions a) h = absurd (h refl)
 flat-published (ActionGotoFrame a r) h = ActionGotoFrame a r
 flat-published (ActionGetURL a b r) h = ActionGetURL a b r
 flat-published (ActionStoreRegister a r) h = ActionStoreRegister a r
@@ -750,7 +775,7 @@ last-placed ps (y ∷ ls) l x h e = go (eqb l (y .0)) (lastPlace ls l) refl e (�
     go true none z k f = let g : y .1 ≡ x = (unfold placeIf in cc) in rw g at (h .0)
     go false none z k f = absurd (Option·none-ne-some x (unfold placeIf in k))
 
--- ---- the two differences, by name
+-- ---- the three differences, by name
 
 -- GetUrl2: the byte that the specification's table gives, and the byte that the source writes
 pub getUrl2-published : (v t : Bool) (m : ℕ) (bs : List ℕ) → GetURL2Flags asPublished v t m bs
@@ -777,21 +802,49 @@ double-written w bs (highWordFirst {lo = lo} {hi = hi} l u e) =
     let e′ : w % 4294967296 * 4294967296 + w / 4294967296 ≡ hi + 4294967296 * lo = rw (e₁, e₂) (omega arith) in
     littleEndian {n = w % 4294967296 * 4294967296 + w / 4294967296} {lo = hi} {hi = lo} u l e′
 
+-- what all have, an element has
+all-member : {A : Type 0} (P : A → Type 0) (x : A) (xs : List A) → All P xs → Member x xs → P x
+all-member P x (y ∷ xs) h here = h .0
+all-member P x (y ∷ xs) h (there m) = all-member P x xs (h .1) m
+
+-- the byte of a published action's opcode
+unfoldable byteOf : Simple → ℕ
+byteOf (simple action ActionCode) = smallByte action
+
+-- none of them has End's byte, so none is End
+no-zero : each (λ x. eqb (byteOf x) 0) simples ≡ each (λ x. false) simples
+unfolding each byteOf smallByte simples
+no-zero = refl
+
+end-not-simple : (n : ℕ) → Member (simple SmallOpCode.End n) simples → ⊥
+unfolding byteOf smallByte
+end-not-simple n m =
+    eqb-false 0 0 (all-member (λ x. eqb (byteOf x) 0 ≡ false) (simple SmallOpCode.End n) simples
+    (each-same (λ x. eqb (byteOf x) 0) (λ x. false) simples no-zero) m) refl
+
+-- End: no record of the specification has it as its contents, and the source writes the byte 0
+pub end-unpublished : (r : List ℕ) → FlatRecord asPublished (Small SmallOpCode.End) r → ⊥
+end-unpublished r (ActionSimple {ActionCode = n} m a) = end-not-simple n m
+
+pub end-written : (r : List ℕ) → FlatRecord asWritten (Small SmallOpCode.End) r → r ≡ 0 ∷ []
+end-written r (ActionSimple {ActionCode = n} m a) = absurd (end-not-simple n m)
+end-written r (EndAmongActions byteZero) = refl
+
 -- ---- the theorems, for a sheet s of bytes that reads whole as a tree t and is packed to a block q
 
--- Demand 2, its second half: the block is a sequence of published records with the contents of the tree, then End. Each
--- Length is the length of the record's fields, each code size that of the body that follows, each branch offset the signed
--- distance from the end of its record to the last place of its label, or 0 without one. GetUrl2's bits and a double's words
--- are as `asWritten` says
+-- Demand 2, its second half: the block is a sequence of published records with the contents of the tree, then ActionEndFlag.
+-- Each Length is the length of the record's fields, each code size that of the body that follows, each branch offset the
+-- signed distance from the end of its record to the last place of its label, or 0 without one. GetUrl2's bits, a double's
+-- words and an End among the actions are as `asWritten` says
 pub follows-published : (s : List ℕ) (t : Actions) (room : ℕ) (q : List ℕ) → Bytes s → ReadsAs s t → pack s room ≡ Done q → Block asWritten t q
 follows-published s t room q small h e =
     let k : Written t room q = is-written s room q t h e in
     subst (λ (b : List ℕ). Block asWritten t b) (k .is-block) (tree-follows t (tree-fits s t small h (k .is-short)) (k .is-near))
 
--- without GetUrl2 and without a pushed double it is as published, so there is no third difference
-pub no-third-difference : (s : List ℕ) (t : Actions) (room : ℕ) (q : List ℕ) → Bytes s → ReadsAs s t → pack s room ≡ Done q → BodyUndisputed t
+-- for a tree without GetUrl2, without a pushed double and without End it is as published, so there is no other difference
+pub no-other-difference : (s : List ℕ) (t : Actions) (room : ℕ) (q : List ℕ) → Bytes s → ReadsAs s t → pack s room ≡ Done q → BodyUndisputed t
     → Block asPublished t q
-no-third-difference s t room q small h e u = block-published (follows-published s t room q small h e) u
+no-other-difference s t room q small h e u = block-published (follows-published s t room q small h e) u
 
 -- and in any such block a label stands only where a record starts or a body ends
 pub label-starts : (order : Order) (t : Actions) (q : List ℕ) (b : Block order t q) (l at : ℕ) → lastPlace (b .labels) l ≡ some at

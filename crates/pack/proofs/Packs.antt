@@ -7,7 +7,7 @@ use mathlib.Core.Option.{Option, none, some}
 use mathlib.Core.List.{List, [], _∷_}
 use lib.IntN.{pos}
 use lib.ListN.{length, getD, take, drop}
-use Rattle.layout.specs.Answers.{Refusal, SheetTooLong, BadTrailer, ReadingFault, ActionLenOverflow, BlockLenOverflow, JumpOffsetOverflow, refusalNumber, refusalValue}
+use Rattle.layout.specs.Answers.{Refusal, SheetTooLong, BadTrailer, ReadingFault, ActionLenOverflow, BlockLenOverflow, JumpOffsetOverflow, Refused, refusalNumber, refusalValue}
 use Rattle.layout.specs.Answers as answers
 use Rattle.layout.specs.Tree.{Actions, ActionsOf}
 use Rattle.layout.specs.Read.{Text, edition1, deepest, Place, Read, got, bad, readMain}
@@ -21,22 +21,18 @@ use Rattle.laws.specs.Fits.{Bytes}
 use Rattle.laws.specs.Packed.{ReadsMain}
 use Rattle.positions.specs.declared.BytePosition.{BytePosition}
 use Rattle.positions.specs.declared.Fault.{Fault}
-use Rattle.positions.specs.declared.Scan.{Scan}
-use Rattle.positions.specs.declared.Scan.the-variants as scan
-use Rattle.positions.specs.Scanned.{faultOf, meant}
-use Rattle.operands.proofs.Scans.{meant-back}
-use Rattle.scan.specs.Mains.{Holds, MainScanned, whole, stopped}
-use Rattle.cut.specs.Cuts as cuts
-use Rattle.cut.proofs.Mains.{is-cut}
-use Rattle.cut.specs.declared.CutMain.{CutMain}
-use Rattle.cut.specs.declared.CutMain.the-variants as cutMain
+use Rattle.positions.specs.Scanned.{meant}
+use Rattle.scan.specs.Mains.{Holds, MainWhole}
+use Rattle.reading.specs.Readings.{said, SheetRead, read-refused}
+use Rattle.reading.specs.declared.Reading.{Reading}
+use Rattle.reading.specs.declared.Reading.the-variants as reading
 use Rattle.judge.specs.Judging.{Says, near, far, MainJudged}
 use Rattle.judge.specs.declared.Verdict.{Verdict}
 use Rattle.judge.specs.declared.Verdict.the-variants as verdict
 use Rattle.answer.specs.Answered.{number, value, Answered}
 use Rattle.if_room.specs.Near.{MainNear, MainPacked}
 use Rattle.if_room.proofs.Nears.{refused, packed-by}
-use Rattle.pack.specs.Steps.{TellsFault, MainWhole, MainShort}
+use Rattle.pack.specs.Steps.{TellsFault, MainShort}
 use Rattle.answer.specs.declared.Answer.{Answer}
 use Rattle.answer.specs.declared.Answer.the-variants as answer
 
@@ -99,7 +95,7 @@ module _ (b tab over : List ℕ) (end : BytePosition) (m : MainWhole b end tab o
   noted-answered r o z i v = packed-by (m .measured .tree) (m .measured .reads) (go (tooLong (events (m .measured .tree))) refl (m .long))
     where
       go : (x : Option Refusal) → tooLong (events (m .measured .tree)) ≡ x → Holds x over → Answered (packTree (m .measured .tree) (length o)) o r o
-      go none l h = absurd (z h)
+      go none l h = absurd (z (h .0))
       go (some x) l h = refused x o r (long-first (m .measured .tree) (length o) x l) (i ∙ h .0) (v ∙ h .1)
 
   pub whole-8 : getD over 0 0 ≡ 8 → (o : List ℕ) → MainPacked b o (answer.ActionLenOverflow (getD over 1 0)) o
@@ -118,90 +114,65 @@ module _ (b tab over : List ℕ) (end : BytePosition) (m : MainWhole b end tab o
       go none k h = refl
       go (some x) k h = absurd (⊎-elim (λ i. no-8 (h .0 ∙ i)) (λ i. no-9 (h .0 ∙ i)) (long-number (events (m .measured .tree)) x k))
 
-  -- The answer to its tree is the answer to what was read.
-  pub whole-answered : (start : ℕ) (o : List ℕ) (r : Answer) (new : List ℕ) → MainPacked b o r new
-      → Answered (packRead start (readMain edition1 b deepest) (length o)) o r new
-  whole-answered start o r new p =
-      let j = m .measured in
-      rw (read-tree b (j .tree) start (length o) (j .reads)) (p .packed (j .tree) (j .reads))
+-- ---- a sheet that was read
 
--- What the walk leaves of a main body that reads whole.
-pub scan-whole : (b tab over : List ℕ) (s : Scan) → MainScanned tab over (readMain edition1 b deepest) s → (q : ℕ) (end : BytePosition) → s ≡ scan.Ends q end
-    → Bytes b → length b ≤ 1048576 → length over ≡ 2 → MainWhole b end tab over
-scan-whole b tab over s m q end e small limited two = go (readMain edition1 b deepest) refl m e
-  where
-    go : (x : Read (ActionsOf Text ℕ)) {r : Scan} → readMain edition1 b deepest ≡ x → MainScanned tab over x r → r ≡ scan.Ends q end → MainWhole b end tab over
-    go (got t p) k (whole {w = w} i h l) e =
-        let j : w ≡ end = cc in
-        record {
-          measured = record {
-            bytes = small;
-            tree = mapBody spelling t;
-            reads = record { read = t; next = p; is-read = k; is-tree = refl };
-            is-end = ap (λ (v : BytePosition). v .0) (sym j) ∙ i;
-            holds = h;
-            limited = limited;
-          };
-          two = two;
-          long = l;
-        }
-    go (bad f p) k stopped e =
-        let z : _≡_ {A = ℕ} 0 1 = cc in
-        absurd (omega arith)
-
--- ---- 3 to 7
-
--- The main body is read as far as this fault.
-record Stopped (b : List ℕ) (f : Fault) (p : ℕ) : Type 0 where
-  pub fault : answers.Fault
-  pub next : Place
-  pub is-read : readMain edition1 b deepest ≡ bad fault next
-  pub is-fault : faultOf fault ≡ f
-  pub is-place : next .at ≡ p
-
-module _ (b tab over : List ℕ) (s : Scan) (m : MainScanned tab over (readMain edition1 b deepest) s) (f : Fault) (p : ℕ) (e : s ≡ scan.Stops f p) where
-  -- What the walk that stops leaves.
-  scan-stopped : Stopped b f p
-  scan-stopped = go (readMain edition1 b deepest) refl m e
+module _ (s tab over : List ℕ) (x : Reading) (h : SheetRead s tab over x) where
+  -- What reading refuses is the answer, whatever the room: 1 to 7.
+  refused-read : (o : List ℕ) (y : Refusal) (r : Answer) → said x ≡ some y → number r ≡ refusalNumber y → value r ≡ refusalValue y → Outcome s o (number r) (value r) o
+  unfolding said
+  refused-read o y r e n v = go h e
     where
-      go : (x : Read (ActionsOf Text ℕ)) {r : Scan} → readMain edition1 b deepest ≡ x → MainScanned tab over x r → r ≡ scan.Stops f p → Stopped b f p
-      go (got t q) k (whole i h l) e =
+      go : {x : Reading} → SheetRead s tab over x → said x ≡ some y → Outcome s o (number r) (value r) o
+      go (SheetRead.whole i j c m) k =
           let z : _≡_ {A = ℕ} 0 1 = cc in
           absurd (omega arith)
-      go (bad g q) k stopped e =
-          let i : faultOf g ≡ f = cc in
-          let j : q .at ≡ p = cc in
-          record { fault = g; next = q; is-read = k; is-fault = i; is-place = j }
+      go (SheetRead.refused {x = z} i j) k =
+          let same : z ≡ y = cc in
+          let a = refused y o r (read-refused s z (length o) j ∙ ap Refused same) n v in
+          record { told = a .told; holds = a .holds }
 
-  -- It is the answer, whatever the room.
-  pub fault-answered : (start : ℕ) (o : List ℕ) (r : Answer) → TellsFault f (start + p) r → Answered (packRead start (readMain edition1 b deepest) (length o)) o r o
-  unfolding packRead answers.number answers.value
-  fault-answered start o r t =
-      let h = scan-stopped in
-      let k : meant f ≡ h .fault = ap meant (sym (h .is-fault)) ∙ meant-back (h .fault) in
-      let same : ReadingFault (meant f) (start + p) ≡ ReadingFault (h .fault) (start + h .next .at) =
-      ap₂ (λ (g : answers.Fault) (i : ℕ). ReadingFault g (start + i)) k (sym (h .is-place)) in
-      refused (ReadingFault (h .fault) (start + h .next .at)) o r (rw (h .is-read)) (t .is-number ∙ ap refusalNumber same) (t .is-value ∙ ap refusalValue same)
+  pub read-long : (o : List ℕ) (n : ℕ) → x ≡ reading.SheetTooLong n → Outcome s o (number (answer.SheetTooLong n)) (value (answer.SheetTooLong n)) o
+  unfolding said number value refusalNumber refusalValue
+  read-long o n e = refused-read o (SheetTooLong n) (answer.SheetTooLong n) (rw e) refl refl
 
--- ---- 1 and 2
+  pub read-bad : (o : List ℕ) → x ≡ reading.BadTrailer → Outcome s o (number answer.BadTrailer) (value answer.BadTrailer) o
+  unfolding said number value refusalNumber refusalValue
+  read-bad o e = refused-read o BadTrailer answer.BadTrailer (rw e) refl refl
 
--- What is answered of the cut is the outcome.
-outcome : (s o : List ℕ) (c : Cut) → cut s ≡ c → (r : Answer) (after : List ℕ) → Answered (packCut c (length o)) o r after → Outcome s o (number r) (value r) after
-unfolding pack
-outcome s o c e r after h = record { told = rw e (h .told); holds = rw e (h .holds) }
+  pub read-stops : (o : List ℕ) (f : Fault) (p : ℕ) → x ≡ reading.Stops f p → (r : Answer) → TellsFault f p r → Outcome s o (number r) (value r) o
+  unfolding said answers.number answers.value
+  read-stops o f p e r t = refused-read o (ReadingFault (meant f) p) r (rw e) (t .is-number) (t .is-value)
 
-module _ (s : List ℕ) (c : CutMain) (e : cuts.said s c ≡ cut s) where
-  pub cut-long : (n : ℕ) → c ≡ cutMain.SheetTooLong n → (o : List ℕ) → Outcome s o (number (answer.SheetTooLong n)) (value (answer.SheetTooLong n)) o
-  unfolding cuts.said packCut number value refusalNumber refusalValue
-  cut-long n k o = outcome s o (uncut (SheetTooLong n)) (sym e ∙ rw k) (answer.SheetTooLong n) o (refused (SheetTooLong n) o (answer.SheetTooLong n) refl refl refl)
+  -- Where it reads whole, the main body lies in the sheet, and is packed by what was left.
+  module _ (start end : ℕ) (w : BytePosition) (e : x ≡ reading.Whole start end w) where
+    abbrev b : List ℕ
+    b = take (end - start) (drop start s)
 
-  pub cut-bad : c ≡ cutMain.BadTrailer → (o : List ℕ) → Outcome s o (number answer.BadTrailer) (value answer.BadTrailer) o
-  unfolding cuts.said packCut number value refusalNumber refusalValue
-  cut-bad k o = outcome s o (uncut BadTrailer) (sym e ∙ rw k) answer.BadTrailer o (refused BadTrailer o answer.BadTrailer refl refl refl)
+    pub read-whole : ((start ≤ end) × (end ≤ length s)) × (cut s ≡ main start b) × MainWhole b w tab over
+    unfolding said
+    read-whole = go h e
+      where
+        go : {x : Reading} → SheetRead s tab over x → x ≡ reading.Whole start end w → ((start ≤ end) × (end ≤ length s)) × (cut s ≡ main start b) × MainWhole b w tab over
+        go (SheetRead.whole {start = start′} {end = end′} {w = w′} i j c m) k =
+            let p : start′ ≡ start = cc in
+            let q : end′ ≡ end = cc in
+            let r : w′ ≡ w = cc in
+            same start′ end′ w′ p q r i j c m
+          where
+            same : (start′ end′ : ℕ) (w′ : BytePosition) → start′ ≡ start → end′ ≡ end → w′ ≡ w → start′ ≤ end′ → end′ ≤ length s
+                → cut s ≡ main start′ (take (end′ - start′) (drop start′ s)) → MainWhole (take (end′ - start′) (drop start′ s)) w′ tab over
+                → ((start ≤ end) × (end ≤ length s)) × (cut s ≡ main start b) × MainWhole b w tab over
+            same start′ end′ w′ p q r i j c m = rw (sym p, sym q, sym r) ((i, j), c, m)
+        go (SheetRead.refused {r = y} {x = z} i j) k =
+            let none-some : said (reading.Whole start end w) ≡ some z = sym (ap said k) ∙ i in
+            let z : _≡_ {A = ℕ} 0 1 = cc in
+            absurd (omega arith)
 
-  module _ (start end : ℕ) (k : c ≡ cutMain.Main start end) where
-    -- Its answer is the sheet's.
-    pub cut-answered : (o : List ℕ) (r : Answer) (after : List ℕ)
-        → Answered (packRead start (readMain edition1 (take (end - start) (drop start s)) deepest) (length o)) o r after → Outcome s o (number r) (value r) after
-    unfolding packCut
-    cut-answered o r after h = outcome s o (main start (take (end - start) (drop start s))) (is-cut s c e start end k) r after h
+    -- The answer to its tree is the answer to the sheet.
+    pub whole-outcome : (o : List ℕ) (r : Answer) (after : List ℕ) → MainPacked b o r after → Outcome s o (number r) (value r) after
+    unfolding pack packCut
+    whole-outcome o r after p =
+        let m = read-whole .2 .measured in
+        let a : Answered (packTree (m .tree) (length o)) o r after = p .packed (m .tree) (m .reads) in
+        let same : pack s (length o) ≡ packTree (m .tree) (length o) = rw (read-whole .1) (read-tree b (m .tree) start (length o) (m .reads)) in
+        record { told = rw same (a .told); holds = rw same (a .holds) }

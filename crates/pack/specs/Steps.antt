@@ -3,14 +3,12 @@ use mathlib.Core.Path.{_≡_}
 use Prim.Native.Nat.{ℕ}
 use mathlib.Core.Option.{none}
 use mathlib.Core.List.{List}
-use lib.ListN.{length}
 use Rattle.layout.specs.Answers.{Told, lengthOf, Refused, ReadingFault}
 use Rattle.layout.specs.Write.{events}
 use Rattle.layout.specs.Judge.{tooLong}
 use Rattle.positions.specs.declared.BytePosition.{BytePosition}
 use Rattle.positions.specs.declared.Fault.{Fault}
 use Rattle.positions.specs.Scanned.{meant}
-use Rattle.scan.specs.Mains.{Holds}
 use Rattle.labels.specs.Mains.{MainMeasured}
 use Rattle.answer.specs.declared.Answer.{Answer}
 use Rattle.answer.specs.Answered.{number, value}
@@ -19,13 +17,7 @@ use Rattle.answer.specs.Answered.{number, value}
 abbrev pub TellsFault : Fault → ℕ → Answer → Type 0
 TellsFault f place r = Told {A = List ℕ} lengthOf (Refused (ReadingFault (meant f) place)) (number r) (value r)
 
--- a main body that reads whole as far as position `end`, with its label table, and the first of 8 and 9 noted in `over`
-pub record MainWhole (b : List ℕ) (end : BytePosition) (tab over : List ℕ) : Type 0 where
-  pub measured : MainMeasured b end tab
-  pub two : length over ≡ 2
-  pub long : Holds (tooLong (events (measured .tree))) over
-
--- one in which nothing is too long
+-- a main body that reads whole as far as position `end`, with its label table, and in which nothing is too long
 pub record MainShort (b : List ℕ) (end : BytePosition) (tab : List ℕ) : Type 0 where
   pub measured : MainMeasured b end tab
   pub is-short : tooLong (events (measured .tree)) ≡ none

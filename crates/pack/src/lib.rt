@@ -1,21 +1,17 @@
 // The packer: a sheet's block in the lent output, or one of 1 to 11.
-ghost use Prim.Native.Nat.{_≤_};
-ghost use lib.ListN.{length};
-ghost use Rattle.layout.specs.Read.{edition1, deepest, readMain};
-ghost use Rattle.layout.specs.Pack.{packRead, Outcome};
-ghost use Rattle.answer.specs.Answered.{number, value, Answered};
+ghost use Rattle.layout.specs.Pack.{Outcome};
+ghost use Rattle.answer.specs.Answered.{number, value};
+ghost use Rattle.scan.specs.Mains.{MainWhole};
 ghost use Rattle.if_room.specs.Near.{MainPacked};
-ghost use Rattle.pack.specs.Steps.{TellsFault, MainWhole, MainShort};
+ghost use Rattle.pack.specs.Steps.{TellsFault, MainShort};
 use answer::Answer;
-use cut::CutMain;
-use cut::cut_main;
 use if_room::pack_near;
 use judge::Verdict;
 use judge::judge_main;
 use positions::BytePosition;
 use positions::Fault;
-use positions::Scan;
-use scan::scan_main;
+use reading::Reading;
+use reading::read_sheet;
 
 // 3 to 7, at a place of the sheet.
 fn fault_answer(f: Fault, place: usize) -> Answer
@@ -57,26 +53,16 @@ fn pack_whole(b: &[u8], end: BytePosition, tab: &[usize], over: &[usize], out: &
     pack_short(b, end, tab, out)
 }
 
-// The main body, which starts at `start` of the sheet: 3 to 7 where it does not read whole, else 8 to 11 or 0.
-fn pack_main(b: &[u8], start: usize, out: &mut [u8]) -> Answer
-    requires { ⌜ (length (now b) ≤ 1048576) × (start ≤ 1048576) ⌝ }
-    ensures { λ r. ⌜ Answered (packRead start (readMain edition1 (now (b .entry)) deepest) (length (now (out .entry)))) (now (out .entry)) r (now (out .exit)) ⌝ }
-{
-    let mut tab = [0; 1024];
-    let mut over = [0; 2];
-    match scan_main(b, &mut tab, &mut over) {
-        Scan::Stops(f, p) => fault_answer(f, start + p),
-        Scan::Ends(_, end) => pack_whole(b, end, &tab, &over, out),
-    }
-}
-
 // Packs a sheet into the lent output, whose bytes past a Done length keep their values.
 pub fn pack(sheet: &[u8], out: &mut [u8]) -> Answer
     ensures { λ r. ⌜ Outcome (now (sheet .entry)) (now (out .entry)) (number r) (value r) (now (out .exit)) ⌝ }
 {
-    match cut_main(sheet) {
-        CutMain::SheetTooLong(n) => Answer::SheetTooLong(n),
-        CutMain::BadTrailer => Answer::BadTrailer,
-        CutMain::Main(start, end) => pack_main(&sheet[start..end], start, out),
+    let mut tab = [0; 1024];
+    let mut over = [0; 2];
+    match read_sheet(sheet, &mut tab, &mut over) {
+        Reading::SheetTooLong(n) => Answer::SheetTooLong(n),
+        Reading::BadTrailer => Answer::BadTrailer,
+        Reading::Stops(f, place) => fault_answer(f, place),
+        Reading::Whole(start, end, pos) => pack_whole(&sheet[start..end], pos, &tab, &over, out),
     }
 }

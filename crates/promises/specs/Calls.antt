@@ -20,7 +20,7 @@ use Rattle.laws.specs.Demands.{same-meaning, length-done, noteLength, same-note
 use Rattle.agreement.specs.Source.{ActionEncoder, Result, ok, err, encode}
 use Rattle.agreement.specs.SourceAgrees.{Agrees, in-room, no-room, overflowed, same-as-source, agrees-once}
 use Rattle.agreement.specs.Published.{Block, asWritten, asPublished, BodyUndisputed}
-use Rattle.agreement.specs.PublishedFollows.{follows-published, no-third-difference}
+use Rattle.agreement.specs.PublishedFollows.{follows-published, no-other-difference}
 
 -- ---- 0 is Done's number alone
 
@@ -158,13 +158,13 @@ module _ (s o : List ℕ) (t : Actions) (k : ℕ) (after : List ℕ) (small : By
       go (ok e) a i j (no-room w) = refused-done j
       go (err x) a i j (overflowed c w) = refused-done j
 
-  -- and they follow the published layouts, GetUrl2's bits and a double's words apart
+  -- and they follow the published layouts, GetUrl2's bits, a double's words and an End among the actions apart
   pub done-published : Block asWritten t (take k after)
   done-published = follows-published s t (length o) (take k after) small r (filled s o k after h .packed)
 
-  -- without GetUrl2 and without a pushed double, in these too
+  -- for a tree without GetUrl2, without a pushed double and without End, in these too
   pub done-undisputed : BodyUndisputed t → Block asPublished t (take k after)
-  done-undisputed u = no-third-difference s t (length o) (take k after) small r (filled s o k after h .packed) u
+  done-undisputed u = no-other-difference s t (length o) (take k after) small r (filled s o k after h .packed) u
 
 -- any call on such a sheet tells and leaves the one answer that agrees with the source's result at its room: an overflow's number
 -- and value too

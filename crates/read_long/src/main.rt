@@ -5,6 +5,7 @@ use io::print_decimal;
 use io::write_all;
 use libc::STDOUT_FILENO;
 use reading::Reading;
+use reading::read_sheet;
 
 fn zeros() -> [u8; 1048578]
     ensures { λ r. ⌜ 1048578 ≡ length r ⌝ }
@@ -13,7 +14,9 @@ fn zeros() -> [u8; 1048578]
 }
 
 fn answer(bytes: &[u8]) {
-    match reading::read(bytes) {
+    let mut tab = [0; 1024];
+    let mut over = [0; 2];
+    match read_sheet(bytes, &mut tab, &mut over) {
         Reading::SheetTooLong(n) => {
             print_decimal(STDOUT_FILENO, n as u64);
             write_all(STDOUT_FILENO, b" too long\n");

@@ -7,6 +7,7 @@ use libc::STDIN_FILENO;
 use libc::STDOUT_FILENO;
 use positions::Fault;
 use reading::Reading;
+use reading::read_sheet;
 
 fn fault_number(f: Fault) -> u64 {
     match f {
@@ -26,8 +27,10 @@ fn write_line(number: u64, value: usize) {
 }
 
 fn answer(bytes: &[u8]) {
-    match reading::read(bytes) {
-        Reading::Whole => write_line(0, 0),
+    let mut tab = [0; 1024];
+    let mut over = [0; 2];
+    match read_sheet(bytes, &mut tab, &mut over) {
+        Reading::Whole(_, _, _) => write_line(0, 0),
         Reading::SheetTooLong(n) => write_line(1, n),
         Reading::BadTrailer => write_line(2, 0),
         Reading::Stops(f, p) => write_line(fault_number(f), p),

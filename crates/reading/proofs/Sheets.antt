@@ -1,48 +1,67 @@
--- Laws of the reading of a sheet. Assumes nothing.
-use mathlib.Core.Path.{_≡_, refl, sym, _∙_}
-use Prim.Native.Nat.{ℕ, _+_, _-_}
+-- Laws of the reading of a sheet: from what the cut and the walk leave to the answer. Assumes nothing.
+use mathlib.Core.Path.{_≡_, refl, sym, ap, _∙_}
+use Prim.Native.Nat.{ℕ, _+_, _-_, _≤_}
 use native.Mathlib.Omega.{arith}
-use mathlib.Core.Option.{none, some}
+use mathlib.Core.Option.{Option, some}
 use mathlib.Core.List.{List}
-use lib.ListN.{take, drop}
-use Rattle.layout.specs.Answers.{ReadingFault}
+use lib.ListN.{length, take, drop}
+use Rattle.layout.specs.Answers.{Refusal, SheetTooLong, BadTrailer, ReadingFault}
 use Rattle.layout.specs.Tree.{ActionsOf}
-use Rattle.layout.specs.Read.{Text, edition1, deepest, Read, readMain}
-use Rattle.layout.specs.Cut.{cut}
+use Rattle.layout.specs.Read.{Text, edition1, deepest, Read, got, bad, readMain}
+use Rattle.layout.specs.Strings.{mapBody}
+use Rattle.layout.specs.Pack.{spelling}
+use Rattle.layout.specs.Cut.{main, uncut, cut}
+use Rattle.laws.specs.Fits.{Bytes}
 use Rattle.positions.specs.declared.BytePosition.{BytePosition}
 use Rattle.positions.specs.declared.Fault.{Fault}
 use Rattle.positions.specs.declared.Scan.{Scan}
 use Rattle.positions.specs.declared.Scan.the-variants as scan
 use Rattle.positions.specs.Scanned.{faultOf, meant}
 use Rattle.operands.proofs.Scans.{meant-back}
-use Rattle.scan.specs.Mains.{MainScanned, whole, stopped}
+use Rattle.scan.specs.Mains.{MainScanned, whole, stopped, MainWhole}
 use Rattle.cut.specs.Cuts as cuts
-use Rattle.cut.proofs.Mains.{is-cut}
+use Rattle.cut.proofs.Mains.{is-cut, cut-within}
 use Rattle.cut.specs.declared.CutMain.{CutMain}
 use Rattle.cut.specs.declared.CutMain.the-variants as cutMain
-use Rattle.reading.specs.Readings.{faultIn, faultOfCut, readSheet, said}
+use Rattle.reading.specs.Readings.{faultIn, faultOfCut, readSheet, said, MainRead, SheetRead}
 use Rattle.reading.specs.declared.Reading.{Reading}
 use Rattle.reading.specs.declared.Reading.the-variants as reading
 
 -- ---- the main body
 
-module _ (tab over : List ℕ) (start : ℕ) (x : Read (ActionsOf Text ℕ)) (r : Scan) (m : MainScanned tab over x r) where
-  pub main-whole : (q : ℕ) (w : BytePosition) → r ≡ scan.Ends q w → said reading.Whole ≡ faultIn start x
-  unfolding said faultIn
-  main-whole q w e = go m e
+module _ (b tab over : List ℕ) (s : Scan) (m : MainScanned tab over (readMain edition1 b deepest) s) where
+  -- What the walk leaves of one that reads whole.
+  pub main-whole : (start end q : ℕ) (w : BytePosition) → s ≡ scan.Ends q w → Bytes b → length b ≤ 1048576 → length over ≡ 2
+      → MainRead b start end tab over (reading.Whole start end w)
+  main-whole start end q w e small limited two = go (readMain edition1 b deepest) refl m e
     where
-      go : {x : Read (ActionsOf Text ℕ)} {r : Scan} → MainScanned tab over x r → r ≡ scan.Ends q w → none ≡ faultIn start x
-      go (whole a b c) e = refl
-      go stopped e =
+      go : (x : Read (ActionsOf Text ℕ)) {r : Scan} → readMain edition1 b deepest ≡ x → MainScanned tab over x r → r ≡ scan.Ends q w
+          → MainRead b start end tab over (reading.Whole start end w)
+      go (got t p) k (whole {w = v} i h l) e =
+          let j : v ≡ w = cc in
+          MainRead.whole (record {
+            measured = record {
+              bytes = small;
+              tree = mapBody spelling t;
+              reads = record { read = t; next = p; is-read = k; is-tree = refl };
+              is-end = ap (λ (u : BytePosition). u .0) (sym j) ∙ i;
+              holds = h;
+              limited = limited;
+            };
+            two = two;
+            long = l;
+          })
+      go (bad f p) k stopped e =
           let z : _≡_ {A = ℕ} 0 1 = cc in
           absurd (omega arith)
 
-  pub main-stops : (f : Fault) (p : ℕ) → r ≡ scan.Stops f p → said (reading.Stops f (start + p)) ≡ faultIn start x
+  -- And of one that does not: the fault, at its place in the sheet.
+  pub main-stops : (start end : ℕ) (f : Fault) (p : ℕ) → s ≡ scan.Stops f p → MainRead b start end tab over (reading.Stops f (start + p))
   unfolding said faultIn
-  main-stops f p e = go m e
+  main-stops start end f p e = MainRead.refused {x = ReadingFault (meant f) (start + p)} refl (go m e)
     where
-      go : {x : Read (ActionsOf Text ℕ)} {r : Scan} → MainScanned tab over x r → r ≡ scan.Stops f p → some (ReadingFault (meant f) (start + p)) ≡ faultIn start x
-      go (whole a b c) e =
+      go : {x : Read (ActionsOf Text ℕ)} {r : Scan} → MainScanned tab over x r → r ≡ scan.Stops f p → faultIn start x ≡ some (ReadingFault (meant f) (start + p))
+      go (whole i h l) e =
           let z : _≡_ {A = ℕ} 0 1 = cc in
           absurd (omega arith)
       go (stopped {f = g} {p = q}) e =
@@ -52,16 +71,17 @@ module _ (tab over : List ℕ) (start : ℕ) (x : Read (ActionsOf Text ℕ)) (r 
 
 -- ---- the sheet
 
-module _ (s : List ℕ) (c : CutMain) (e : cuts.said s c ≡ cut s) where
-  pub cut-long : (n : ℕ) → c ≡ cutMain.SheetTooLong n → said (reading.SheetTooLong n) ≡ readSheet s
+module _ (s tab over : List ℕ) (c : CutMain) (e : cuts.said s c ≡ cut s) where
+  pub cut-long : (n : ℕ) → c ≡ cutMain.SheetTooLong n → SheetRead s tab over (reading.SheetTooLong n)
   unfolding said readSheet faultOfCut cuts.said
-  cut-long n k = rw (← e, k)
+  cut-long n k = SheetRead.refused {x = SheetTooLong n} refl (rw (← e, k))
 
-  pub cut-bad : c ≡ cutMain.BadTrailer → said reading.BadTrailer ≡ readSheet s
+  pub cut-bad : c ≡ cutMain.BadTrailer → SheetRead s tab over reading.BadTrailer
   unfolding said readSheet faultOfCut cuts.said
-  cut-bad k = rw (← e, k)
+  cut-bad k = SheetRead.refused {x = BadTrailer} refl (rw (← e, k))
 
-  module _ (start end : ℕ) (k : c ≡ cutMain.Main start end) where
-    pub cut-main : (r : Reading) → said r ≡ faultIn start (readMain edition1 (take (end - start) (drop start s)) deepest) → said r ≡ readSheet s
-    unfolding readSheet faultOfCut
-    cut-main r h = h ∙ sym (rw (is-cut s c e start end k))
+  pub cut-main : (start end : ℕ) → c ≡ cutMain.Main start end → cuts.Within s c → (r : Reading)
+      → MainRead (take (end - start) (drop start s)) start end tab over r → SheetRead s tab over r
+  unfolding readSheet faultOfCut
+  cut-main start end k w r (MainRead.whole m) = SheetRead.whole (cut-within s c e start end k w .0) (cut-within s c e start end k w .1) (is-cut s c e start end k) m
+  cut-main start end k w r (MainRead.refused h i) = SheetRead.refused h (rw (is-cut s c e start end k) i)

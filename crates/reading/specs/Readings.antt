@@ -1,15 +1,18 @@
 -- What reading a whole sheet comes to, and that a packer answers the same where it is refused. Assumes nothing.
 use mathlib.Core.Path.{_≡_}
-use Prim.Native.Nat.{ℕ, _+_}
+use Prim.Native.Nat.{ℕ, _+_, _-_, _≤_}
 use native.Mathlib.Omega.{arith}
 use mathlib.Core.Option.{Option, none, some}
 use mathlib.Core.List.{List}
+use lib.ListN.{length, take, drop}
 use Rattle.layout.specs.Answers.{Refusal, SheetTooLong, BadTrailer, ReadingFault, Refused}
 use Rattle.layout.specs.Tree.{ActionsOf}
 use Rattle.layout.specs.Read.{Text, edition1, deepest, Read, got, bad, readMain}
 use Rattle.layout.specs.Cut.{Cut, main, uncut, cut}
 use Rattle.layout.specs.Pack.{pack, packCut, packRead}
 use Rattle.positions.specs.Scanned.{meant}
+use Rattle.positions.specs.declared.BytePosition.{BytePosition}
+use Rattle.scan.specs.Mains.{MainWhole}
 use Rattle.reading.specs.declared.Reading.{Reading}
 use Rattle.reading.specs.declared.Reading.the-variants as reading
 
@@ -30,10 +33,22 @@ readSheet s = faultOfCut (cut s)
 -- ---- by the code
 
 unfoldable pub said : Reading → Option Refusal
-said reading.Whole = none
+said (reading.Whole start end w) = none
 said (reading.SheetTooLong n) = some (SheetTooLong n)
 said reading.BadTrailer = some BadTrailer
 said (reading.Stops f p) = some (ReadingFault (meant f) p)
+
+-- the answer to a main body that lies from `start` to `end` in its sheet, with what is left in the table and the two numbers where
+-- it reads whole
+pub data MainRead (b : List ℕ) (start end : ℕ) (tab over : List ℕ) : Reading → Type 0 where
+  whole : {w : BytePosition} → MainWhole b w tab over → MainRead b start end tab over (reading.Whole start end w)
+  refused : {r : Reading} {x : Refusal} → said r ≡ some x → faultIn start (readMain edition1 b deepest) ≡ some x → MainRead b start end tab over r
+
+-- the answer to a sheet
+pub data SheetRead (s tab over : List ℕ) : Reading → Type 0 where
+  whole : {start end : ℕ} {w : BytePosition} → start ≤ end → end ≤ length s → cut s ≡ main start (take (end - start) (drop start s))
+      → MainWhole (take (end - start) (drop start s)) w tab over → SheetRead s tab over (reading.Whole start end w)
+  refused : {r : Reading} {x : Refusal} → said r ≡ some x → readSheet s ≡ some x → SheetRead s tab over r
 
 -- ---- a sheet that is refused here is refused so by the packer, whatever its room
 

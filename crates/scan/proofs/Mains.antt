@@ -3,7 +3,7 @@ use mathlib.Core.Path.{_≡_, refl, ap, _∙_}
 use Prim.Native.Nat.{ℕ, zero, suc, _+_, _≤_, _<_}
 use native.Mathlib.Omega.{arith}
 use mathlib.Core.List.{List, [], _∷_}
-use lib.ListN.{length, getD, set, length-set}
+use lib.ListN.{length, getD, set, replicate, length-set, length-replicate, getD-replicate}
 use lib.Seq.{getD-set-same, getD-set-other}
 use borrow.Author.Tests.{eq-eqb, ne-eqb}
 use Rattle.layout.specs.Lists.{pick}
@@ -66,13 +66,18 @@ module _ (over : List ℕ) (two : length over ≡ 2) (number n : ℕ) where
   kept-first : (es : List Event) → 0 < number → getD over 0 0 ≡ 0 → noteAll es (noted number n over) ≡ set (set over 0 number) 1 n
   kept-first es l e = ap (noteAll es) (noted-first e) ∙ all-kept es (set (set over 0 number) 1 n) (λ z. omega (arith, zeroth))
 
-first-held : (es : List Event) (over : List ℕ) → length over ≡ 2 → getD over 0 0 ≡ 0 → Holds (tooLong es) (noteAll es over)
+first-held : (es : List Event) (over : List ℕ) → length over ≡ 2 → (getD over 0 0 ≡ 0) × (getD over 1 0 ≡ 0) → Holds (tooLong es) (noteAll es over)
 unfolding noteAll tooLong refusalNumber refusalValue
 first-held [] over l e = e
 first-held (labelAt m s ∷ es) over l e = first-held es over l e
 first-held (branchAt m s ∷ es) over l e = first-held es over l e
-first-held (payloadTooLong n s ∷ es) over l e = rw (kept-first over l 8 n es (omega arith) e) (zeroth over l 8 n, ap pos (oneth over l 8 n))
-first-held (bodyTooLong n s ∷ es) over l e = rw (kept-first over l 9 n es (omega arith) e) (zeroth over l 9 n, ap pos (oneth over l 9 n))
+first-held (payloadTooLong n s ∷ es) over l e = rw (kept-first over l 8 n es (omega arith) (e .0)) (zeroth over l 8 n, ap pos (oneth over l 8 n))
+first-held (bodyTooLong n s ∷ es) over l e = rw (kept-first over l 9 n es (omega arith) (e .0)) (zeroth over l 9 n, ap pos (oneth over l 9 n))
+
+-- ---- what a caller lends: zeros
+
+pub lent-zeros : Empty (replicate 1024 0) (replicate 2 0)
+lent-zeros = record { full = length-replicate {A = ℕ} 1024 0; zeros = λ l h. getD-replicate {A = ℕ} 1024 l 0 0 h; two = refl; nothing = (refl, refl) }
 
 -- ---- what scan_main answers
 
@@ -119,7 +124,7 @@ module _ (b tab over : List ℕ) (small : Bytes b) (e : Empty tab over) where
                 slots = ap length a ∙ length-recordAll (bodyEvents t 0) tab ∙ e .full;
                 holds = λ l i. ap (λ v. getD v l 0) a ∙ table-holds l (bodyEvents t 0) tab (omega (arith, e .full)) (e .zeros l i);
               })
-              (rw c (first-held (bodyEvents t 0) over (e .two) (e .zero))))
+              (rw c (first-held (bodyEvents t 0) over (e .two) (e .nothing))))
 
 -- the place of a fault lies in the main body
 pub main-place : (b tab over : List ℕ) (r : Scan) → Bytes b → MainScanned tab over (readMain edition1 b deepest) r → (f : Fault) (p : ℕ) → r ≡ scan.Stops f p → p ≤ length b

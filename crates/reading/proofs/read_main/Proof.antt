@@ -1,46 +1,58 @@
-use Rattle.reading.proofs.Sheets.{main-whole, main-stops}
-use Rattle.scan.proofs.Mains.{all-bytes, main-place}
-use lib.ListN.{length-replicate, getD-replicate}
+-- `reading::read_main` meets its contract: the walk stops at a fault, or leaves what packing goes on with. Assumes nothing.
+use mathlib.Core.Path.{_∙_}
 use native.Mathlib.Omega.{arith}
-use Prim.Native.Nat.{ℕ}
-use mathlib.Core.Path.{refl}
+use Rattle.laws.specs.Fits.{Bytes}
+use Rattle.scan.proofs.Mains.{all-bytes, main-place}
+use Rattle.reading.proofs.Sheets as sheets
 use borrow.Author.Needs.{needs}
 use Rattle.reading.proofs.read_main.Statement.{statement}
 use Rattle.reading.proofs.read_main.Tie as tie
 
-slice-aggregate-scan-main : tie.Need-slice-aggregate-scan-main
-slice-aggregate-scan-main c = search needs
-
-slice-aggregate-scan-main-2 : tie.Need-slice-aggregate-scan-main-2
-slice-aggregate-scan-main-2 c = search needs
+-- the main body is made of bytes
+is-bytes : (c : tie.After-shared-slice-known) → Bytes (c .before .args .b .now)
+is-bytes c = all-bytes (c .before .args .b .now) (λ i l. omega (arith, c .shared-slice-known .given i))
 
 scan-main-requires : tie.Need-scan-main-requires
-scan-main-requires c κs = (c .before .before .before .pre .0, record { full = length-replicate {A = ℕ} 1024 0; zeros = λ l h. getD-replicate {A = ℕ} 1024 l 0 0 h; two = refl; zero = refl })
+scan-main-requires c κs = search needs
 
 enum-known-f : tie.Need-enum-known-f
 enum-known-f c = search needs
 
-add-t13 : tie.Need-add-t13
-add-t13 c = omega (arith, c .before .before .before .before .before .before .before .before .before .pre .0, c .before .before .before .before .before .before .before .before .before .pre .1, main-place _ _ _ _ (all-bytes (c .before .before .before .before .before .before .before .before .before .args .b .now) (λ i l. omega (arith, c .before .before .before .before .before .before .before .before .shared-slice-known .given i))) (c .before .before .before .before .before .scan-main .ensures) _ _ (c .before .f .given .1))
+add-place : tie.Need-add-place
+add-place c = omega (arith, c .before .before .before .before .before .before .before .before .before .before .before .before .before .pre .0, c .before .before .before .before .before .before .before .before .before .before .before .before .before .pre .1, main-place _ _ _ _ (is-bytes (c .before .before .before .before .before .before .before .before .before .before .before .before)) (c .before .before .before .before .before .before .before .scan-main .ensures) _ _ (c .before .f .given .1))
 
-enum-told : tie.Need-enum-told
-enum-told c = search needs
+enum-known-pos : tie.Need-enum-known-pos
+enum-known-pos c = search needs
+
+same-length : tie.Need-same-length
+same-length c = search needs
+
+same-length-2 : tie.Need-same-length-2
+same-length-2 c = search needs
 
 returns : tie.Need-returns
-returns c = main-stops _ _ _ _ _ (c .before .before .before .before .before .scan-main .ensures) _ _ (c .before .f .given .1)
+returns c = sheets.main-stops _ _ _ _ (c .before .before .before .before .before .before .before .scan-main .ensures) _ _ _ _ (c .before .f .given .1)
+
+same-length-3 : tie.Need-same-length-3
+same-length-3 c = search needs
+
+same-length-4 : tie.Need-same-length-4
+same-length-4 c = search needs
 
 returns-2 : tie.Need-returns-2
-returns-2 c = main-whole _ _ _ _ _ (c .before .before .before .before .scan-main .ensures) _ _ (c .enum-told .given .1)
+returns-2 c = sheets.main-whole _ _ _ _ (c .before .before .before .before .before .before .before .scan-main .ensures) _ _ _ _ (c .before .pos .given .1) (is-bytes (c .before .before .before .before .before .before .before .before .before .before .before .before)) (c .before .before .before .before .before .before .before .before .before .before .before .before .before .pre .0) (c .before .before .before .before .before .before .before .scan-main .kept .1 .1 .0 ∙ c .before .before .before .before .before .before .before .before .before .before .before .before .before .pre .2 .two)
 
 pub read-main-spec : {M : Type 1} → statement M
 read-main-spec =
     tie.close
     (tie.spec
-    slice-aggregate-scan-main
-    slice-aggregate-scan-main-2
     scan-main-requires
     enum-known-f
-    add-t13
-    enum-told
+    add-place
+    enum-known-pos
+    same-length
+    same-length-2
     returns
+    same-length-3
+    same-length-4
     returns-2)
