@@ -13,11 +13,11 @@ use borrow.Author.Tests.{ltb-true, ltb-false, le-ltb, eqb-true, eqb-false}
 use Rattle.layout.specs.Lists.{All, each, pick, firstWith}
 use Rattle.layout.specs.Numbers.{le16, le32, bit}
 use Rattle.layout.specs.OpCode.{OpCode, SmallOpCode, smallByte, byte, smallOpCodes, opcodes, opcodeOf}
-use Rattle.layout.specs.Answers.{Refusal, JumpOffsetOverflow, Done}
+use Rattle.layout.specs.Answers.{Done}
 use Rattle.layout.specs.Tree.{PushValue, String, Null, Undefined, Register, Boolean, Float, Integer, Constant, FunctionParam, functionParam, Flat, Small, GotoFrame, GetUrl, StoreRegister, ConstantPool, WaitForFrame, SetTarget, GotoLabel, WaitForFrame2, Push, GetUrl2, GotoFrame2, Owner, With, DefineFunction, DefineFunction2, Branch, Jump, If, Variable, ActionIndex, firstAction, nextAction, Entry, entry, Action, flat, branch, owner, Try, ActionList, empty, more, Actions, body, Catch, noCatch, catch, Finally, noFinally, finally}
 use Rattle.layout.specs.Payload.{zeroEnded, stringsBytes, constantBytes, doubleBytes, pushBytes, pushesBytes, opcode, gotoFrame2Bytes, getUrl2Bits, payload, paramsBytes, ownerOpCode, ownerFields, ownerPayload, branchOpCode, catchShape, finallyShape, catchName, tryPayload, framed}
 use Rattle.layout.specs.Write.{size, bodySize, catchSize, finallySize, Position, position, Event, labelAt, branchAt, payloadTooLong, bodyTooLong, moved, eventIf, payloadTest, bodyTest, labelsAt, trace, traces, traceBody, traceCatch, traceFinally, events, later, recordIf, lookup, distanceBits, branchBits, bytes, actionsBytes, bodyBytes, catchBytes, finallyBytes, blockBytes}
-use Rattle.layout.specs.Judge.{distance, isNear, farUnless, judged, orElse, tooFar}
+use Rattle.layout.specs.Judge.{judged, tooFar}
 use Rattle.layout.specs.Pack.{pack, ReadsAs}
 use Rattle.layout.specs.Lengths.{length-le16, length-tryPayload, framed-long, framed-short, length-framed, owner-long, length-bytes, length-body, length-catch, length-finally}
 use Rattle.laws.specs.Fits.{Bytes, Clean, ValueFits, ParamFits, Listed, FlatFits, OwnerFits, NameFits, Fits, ActionsFit, BodyFits, CatchFits, FinallyFits}

@@ -24,7 +24,7 @@ use Rattle.layout.specs.Lengths.{total}
 use Rattle.layout.specs.Pack.{spelling}
 use Rattle.laws.specs.ReadFits.{good-got, action-good, body-good}
 use Rattle.laws.specs.Packed.{spells}
-use Rattle.labels.specs.Table.{entriesAt, due, Rising, recordAll, indexOf, positionOf}
+use Rattle.labels.specs.Table.{entriesAt, due, Rising, recordAll}
 use Rattle.positions.specs.declared.BytePosition.{BytePosition}
 use Rattle.opcode.specs.Listed.{listed, isSome}
 use Rattle.positions.specs.declared.Scan.{Scan}

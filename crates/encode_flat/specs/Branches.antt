@@ -1,7 +1,6 @@
 -- What is written of a branch. Assumes nothing.
 use Prim.Native.Nat.{ℕ}
 use mathlib.Core.List.{List}
-use lib.ListN.{getD}
 use Rattle.layout.specs.Write.{distanceBits}
 use Rattle.labels.specs.Table.{recordAt}
 

@@ -22,7 +22,7 @@ use Rattle.layout.specs.Lengths.{total}
 use Rattle.layout.specs.Pack.{spelling}
 use Rattle.laws.specs.ReadFits.{good-got, action-good, body-good}
 use Rattle.laws.specs.Packed.{spells}
-use Rattle.labels.specs.Table.{recordOf, recordAt}
+use Rattle.labels.specs.Table.{recordAt}
 use Rattle.positions.specs.declared.BytePosition.{BytePosition}
 use Rattle.positions.specs.Scanned.{Roomy}
 use Rattle.positions.specs.declared.Fault.{Fault}

@@ -2,11 +2,11 @@
 use mathlib.Core.Path.{_≡_, refl, sym, ap, _∙_}
 use Prim.Native.Nat.{ℕ, _+_, _-_, _≤_, _<_}
 use native.Mathlib.Omega.{arith}
-use mathlib.Core.Option.{Option, none, some}
+use mathlib.Core.Option.{none, some}
 use mathlib.Core.List.{List, [], _∷_, _++_}
-use Rattle.layout.specs.Answers.{Refusal, JumpOffsetOverflow}
+use Rattle.layout.specs.Answers.{JumpOffsetOverflow}
 use Rattle.layout.specs.Read.{Place, placed, Read, got, bad, Reader, repeat}
-use Rattle.layout.specs.Write.{Event, labelAt, branchAt, payloadTooLong, bodyTooLong}
+use Rattle.layout.specs.Write.{Event}
 use Rattle.layout.specs.Order.{signed64}
 use Rattle.layout.specs.Judge.{orElse, farBy}
 use Rattle.layout.specs.Lengths.{total}

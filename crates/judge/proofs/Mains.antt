@@ -1,18 +1,17 @@
 -- From the label table to the definition of 10: every position lies within the block, and in a short block no branch is far.
 -- Assumes nothing.
 use mathlib.Core.Path.{_≡_, refl, sym, ap, _∙_, subst}
-use Prim.Native.Nat.{ℕ, _+_, _≤_, _<_}
+use Prim.Native.Nat.{ℕ, _+_, _≤_}
 use native.Mathlib.Omega.{arith}
 use mathlib.Core.Bool.{Bool, true, false}
 use mathlib.Core.Option.{Option, none, some}
-use mathlib.Core.List.{List, [], _∷_, _++_}
-use lib.ListN.{length, getD, List·getD-eq-default}
+use mathlib.Core.List.{List, [], _∷_}
+use lib.ListN.{getD, List·getD-eq-default}
 use lib.Dec.{ltb, eqb}
 use borrow.Author.Tests.{ltb-true, ltb-false, le-leb}
-use Rattle.layout.specs.Tree.{ActionIndex, firstAction, nextAction, Entry, entry, Action, flat, branch, owner, Try, ActionList, empty, more, Actions, body, Catch, noCatch, catch, Finally, noFinally, finally}
+use Rattle.layout.specs.Tree.{Actions}
 use Rattle.layout.specs.Read.{edition1, placed, got, readBody}
-use Rattle.layout.specs.Payload.{ownerFields, catchName}
-use Rattle.layout.specs.Write.{size, sizes, bodySize, catchSize, finallySize, Position, position, moved, Event, labelAt, branchAt, payloadTooLong, bodyTooLong, eventIf, payloadTest, bodyTest, labelsAt, trace, traces, traceBody, traceCatch, traceFinally, events, later, recordIf, lookup}
+use Rattle.layout.specs.Write.{bodySize, Position, position, Event, labelAt, branchAt, payloadTooLong, bodyTooLong, traceBody, events, later, recordIf, lookup}
 use Rattle.layout.specs.Judge.{isNear, farUnless, judged, orElse, farBy, tooFar}
 use Rattle.layout.specs.Pack.{spelling}
 use Rattle.laws.specs.ReadFits.{good-got, body-good}

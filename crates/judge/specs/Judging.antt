@@ -8,7 +8,7 @@ use Rattle.layout.specs.Answers.{Refusal, JumpOffsetOverflow}
 use Rattle.layout.specs.Order.{signed64}
 use Rattle.layout.specs.Tree.{Actions}
 use Rattle.layout.specs.Read.{Place, Read, got}
-use Rattle.layout.specs.Write.{Event, events}
+use Rattle.layout.specs.Write.{events}
 use Rattle.layout.specs.Judge.{judged, farBy, tooFar}
 use Rattle.laws.specs.Packed.{ReadsMain}
 use Rattle.labels.specs.Table.{recordAt}

@@ -2,20 +2,20 @@
 use mathlib.Core.Path.{_≡_, refl, sym, ap, ap₂, _∙_}
 use Prim.Native.Nat.{ℕ, suc, _+_, _-_, _*_, _%_, _≤_, _<_}
 use native.Mathlib.Omega.{arith}
-use mathlib.Core.Bool.{Bool, true, false, false≢true, _&&_}
-use mathlib.Core.Option.{Option, none, some, Option·none-ne-some}
+use mathlib.Core.Bool.{Bool, true, false, _&&_}
+use mathlib.Core.Option.{Option, none, some}
 use mathlib.Core.List.{List, [], _∷_, _++_}
 use lib.ListN.{length, take, drop, length-append}
 use lib.Seq.{take-at, drop-drop}
 use lib.IntN.{ℤ, pos, negsuc, subℕ}
 use lib.Dec.{leb, ltb}
-use borrow.Author.Tests.{ltb-true, ltb-false, leb-true, lt-ltb, le-ltb}
+use borrow.Author.Tests.{ltb-true, ltb-false, lt-ltb, le-ltb}
 use Rattle.layout.specs.Lists.{pick}
-use Rattle.layout.specs.Answers.{Refusal, JumpOffsetOverflow, SheetTooLong, Answer, Done}
+use Rattle.layout.specs.Answers.{SheetTooLong, Answer, Done}
 use Rattle.layout.specs.Tree.{ActionOf, ActionListOf, ActionsOf, CatchOf, FinallyOf, ActionIndex, firstAction, nextAction, Entry, Action, flat, branch, owner, Try, ActionList, empty, more, Actions, body, Catch, noCatch, catch, Finally, noFinally, finally}
 use Rattle.layout.specs.Payload.{ownerFields, catchName}
-use Rattle.layout.specs.Write.{size, bodySize, catchSize, finallySize, Position, position, Event, labelAt, branchAt, payloadTooLong, bodyTooLong, moved, payloadTest, bodyTest, labelsAt, trace, traces, traceBody, traceCatch, traceFinally, events, lookup, distanceBits, branchBits, bodyBytes, blockBytes, blockSize}
-use Rattle.layout.specs.Judge.{distance, isNear, farUnless, judged, orElse, tooFar}
+use Rattle.layout.specs.Write.{size, bodySize, catchSize, finallySize, Position, position, Event, moved, payloadTest, bodyTest, labelsAt, trace, traces, traceBody, traceCatch, traceFinally, events, lookup, distanceBits, branchBits, bodyBytes, blockBytes, blockSize}
+use Rattle.layout.specs.Judge.{distance, isNear, judged, tooFar}
 use Rattle.layout.specs.Cut.{Cut, main, uncut, sheetLimit, trailerDistance, isMarked, cutIf, cutAt, cutIfTrailer, cutIfShort, cut}
 use Rattle.layout.specs.Pack.{packCut, pack, output, ReadsAs}
 use Rattle.layout.specs.Lengths.{length-block}

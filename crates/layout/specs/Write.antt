@@ -132,7 +132,9 @@ lookup l (payloadTooLong n s ∷ es) = lookup l es
 lookup l (bodyTooLong n s ∷ es) = lookup l es
 
 -- "its label's final position minus the position just after its operand, or 0 if the label was never recorded":
--- the sixteen bits of that distance, in two's complement
+-- the sixteen bits of that distance, in two's complement. The difference is cut off at 0 for a label more than 65,536 bytes back.
+-- Such a branch goes too far, and Pack's `packTree` makes no block of its tree: where none does, a label is at most 32,768 bytes
+-- back (`near-both` in laws' Nears)
 unfoldable pub distanceBits : Option Position → ℕ → ℕ
 distanceBits none after = 0
 distanceBits (some s) after = (s .at + 65536 - after) % 65536

@@ -8,10 +8,8 @@ use lib.Dec.{ltb, eqb}
 use Rattle.layout.specs.Lists.{pick}
 use Rattle.layout.specs.Tree.{Branch, ActionOf, branch, ActionsOf}
 use Rattle.layout.specs.Read.{Text, placed, Read, got, bad, Reader, chain, repeat}
-use Rattle.layout.specs.Strings.{mapAction, mapBody}
-use Rattle.layout.specs.Write.{size, bodySize, Event, labelAt, branchAt, payloadTooLong, bodyTooLong, trace, traceBody, bodyTest, position}
+use Rattle.layout.specs.Write.{size, Event, labelAt, branchAt, payloadTooLong, bodyTooLong, trace, bodyTest, position}
 use Rattle.layout.specs.Lengths.{total}
-use Rattle.layout.specs.Pack.{spelling}
 use Rattle.laws.specs.Resolved.{actionSize, actionTrace, bodyLength, bodyEvents}
 use Rattle.labels.specs.Table.{recordAll}
 use Rattle.positions.specs.declared.BytePosition.{BytePosition}

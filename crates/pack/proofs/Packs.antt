@@ -1,6 +1,6 @@
 -- Laws of packing: from what the steps leave to the answer by the definitions. Assumes nothing.
-use mathlib.Core.Path.{_≡_, refl, sym, ap, ap₂, _∙_}
-use Prim.Native.Nat.{ℕ, _+_, _-_, _≤_}
+use mathlib.Core.Path.{_≡_, refl, sym, ap, _∙_}
+use Prim.Native.Nat.{ℕ, _-_, _≤_}
 use native.Mathlib.Omega.{arith}
 use mathlib.Core.Logic.{_⊎_, inl, inr, ⊎-elim}
 use mathlib.Core.Option.{Option, none, some}
@@ -9,15 +9,13 @@ use lib.IntN.{pos}
 use lib.ListN.{length, getD, take, drop}
 use Rattle.layout.specs.Answers.{Refusal, SheetTooLong, BadTrailer, ReadingFault, ActionLenOverflow, BlockLenOverflow, JumpOffsetOverflow, Refused, refusalNumber, refusalValue}
 use Rattle.layout.specs.Answers as answers
-use Rattle.layout.specs.Tree.{Actions, ActionsOf}
-use Rattle.layout.specs.Read.{Text, edition1, deepest, Place, Read, got, bad, readMain}
-use Rattle.layout.specs.Strings.{mapBody}
+use Rattle.layout.specs.Tree.{Actions}
+use Rattle.layout.specs.Read.{edition1, deepest, readMain}
 use Rattle.layout.specs.Write.{Event, labelAt, branchAt, payloadTooLong, bodyTooLong, events}
 use Rattle.layout.specs.Judge.{tooLong}
-use Rattle.layout.specs.Pack.{spelling, packTree, packRead, packCut, pack, Outcome}
+use Rattle.layout.specs.Pack.{packTree, packRead, packCut, pack, Outcome}
 use Rattle.layout.specs.Order.{signed64, long-first, far-next}
-use Rattle.layout.specs.Cut.{Cut, main, uncut, cut}
-use Rattle.laws.specs.Fits.{Bytes}
+use Rattle.layout.specs.Cut.{main, cut}
 use Rattle.laws.specs.Packed.{ReadsMain}
 use Rattle.positions.specs.declared.BytePosition.{BytePosition}
 use Rattle.positions.specs.declared.Fault.{Fault}

@@ -11,7 +11,7 @@ use lib.Dec.{ltb, eqb}
 use Rattle.layout.specs.Tree.{ActionIndex, firstAction, nextAction, Entry, entry, Action, flat, branch, owner, Try, ActionList, empty, more, Actions, body, Catch, noCatch, catch, Finally, noFinally, finally}
 use Rattle.layout.specs.Payload.{ownerFields, catchName}
 use Rattle.layout.specs.Write.{size, sizes, bodySize, catchSize, finallySize, Position, moved, Event, labelAt, branchAt, payloadTooLong, bodyTooLong, eventIf, payloadTest, bodyTest, labelsAt, trace, traces, traceBody, traceCatch, traceFinally}
-use Rattle.layout.specs.Judge.{judged, orElse, farBy}
+use Rattle.layout.specs.Judge.{farBy}
 use Rattle.pcode.proofs.Trees.{Under, UnderActions, UnderBody, UnderCatch, UnderFinally}
 
 -- ---- where events lie

@@ -4,7 +4,7 @@ use Prim.Native.Nat.{ℕ, _+_, _-_, _*_, _≤_}
 use mathlib.Core.List.{List}
 use lib.ListN.{length}
 use Rattle.layout.specs.Answers as answers
-use Rattle.layout.specs.Read.{Place, Read, got, bad}
+use Rattle.layout.specs.Read.{Read, got, bad}
 use Rattle.laws.specs.Fits.{Bytes}
 use Rattle.positions.specs.declared.BytePosition.{BytePosition}
 use Rattle.positions.specs.declared.Fault.{Fault}

@@ -2,15 +2,15 @@
 use mathlib.Core.Path.{_≡_, refl, sym, ap, _∙_}
 use Prim.Native.Nat.{ℕ, _+_, _-_, _≤_}
 use native.Mathlib.Omega.{arith}
-use mathlib.Core.Option.{Option, some}
+use mathlib.Core.Option.{some}
 use mathlib.Core.List.{List}
 use lib.ListN.{length, take, drop}
-use Rattle.layout.specs.Answers.{Refusal, SheetTooLong, BadTrailer, ReadingFault}
+use Rattle.layout.specs.Answers.{SheetTooLong, BadTrailer, ReadingFault}
 use Rattle.layout.specs.Tree.{ActionsOf}
 use Rattle.layout.specs.Read.{Text, edition1, deepest, Read, got, bad, readMain}
 use Rattle.layout.specs.Strings.{mapBody}
 use Rattle.layout.specs.Pack.{spelling}
-use Rattle.layout.specs.Cut.{main, uncut, cut}
+use Rattle.layout.specs.Cut.{cut}
 use Rattle.laws.specs.Fits.{Bytes}
 use Rattle.positions.specs.declared.BytePosition.{BytePosition}
 use Rattle.positions.specs.declared.Fault.{Fault}
@@ -18,7 +18,7 @@ use Rattle.positions.specs.declared.Scan.{Scan}
 use Rattle.positions.specs.declared.Scan.the-variants as scan
 use Rattle.positions.specs.Scanned.{faultOf, meant}
 use Rattle.operands.proofs.Scans.{meant-back}
-use Rattle.scan.specs.Mains.{MainScanned, whole, stopped, MainWhole}
+use Rattle.scan.specs.Mains.{MainScanned, whole, stopped}
 use Rattle.cut.specs.Cuts as cuts
 use Rattle.cut.proofs.Mains.{is-cut, cut-within}
 use Rattle.cut.specs.declared.CutMain.{CutMain}

@@ -4,15 +4,14 @@ use Prim.Native.Nat.{ℕ, _+_, _≤_}
 use mathlib.Core.Bool.{Bool, true, false}
 use mathlib.Core.Option.{Option, none, some}
 use mathlib.Core.List.{List}
-use lib.ListN.{length, getD}
+use lib.ListN.{length}
 use lib.Seq.{sets}
 use Rattle.layout.specs.Numbers.{le16}
-use Rattle.layout.specs.Tree.{Action, ActionOf, flat, branch, owner, Try, ActionList, empty, more, Actions, ActionsOf, body, Catch, noCatch, catch, Finally, noFinally, finally}
+use Rattle.layout.specs.Tree.{Action, ActionOf, Try, Actions, ActionsOf}
 use Rattle.layout.specs.Read.{Text, Place, placed, Reader, got, _>>=_, give, hasCatch, hasFinally}
 use Rattle.layout.specs.Strings.{mapAction, mapBody}
-use Rattle.layout.specs.Payload.{ownerFields, catchName}
-use Rattle.layout.specs.Write.{bytes, bodyBytes, size, bodySize, catchSize, events, blockBytes, blockSize}
-use Rattle.layout.specs.Judge.{judged, tooFar}
+use Rattle.layout.specs.Write.{bytes, bodyBytes, events, blockBytes, blockSize}
+use Rattle.layout.specs.Judge.{tooFar}
 use Rattle.layout.specs.Pack.{spelling}
 use Rattle.laws.specs.Fits.{Bytes}
 use Rattle.laws.specs.Packed.{ReadsMain}
