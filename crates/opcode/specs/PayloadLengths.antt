@@ -1,44 +1,56 @@
--- What the payload lengths of `OpCode` are: the lengths that the definitions give an action's payload, from the lengths of
--- what it holds. Assumes nothing.
+-- Document 01's formulas, which the length functions of `OpCode` give, are the lengths of the definitions' payloads: from the
+-- lengths of what a payload holds. Assumes nothing.
 use mathlib.Core.Path.{_≡_}
-use Prim.Native.Nat.{ℕ}
+use Prim.Native.Nat.{ℕ, _+_}
+use native.Mathlib.Omega.{arith}
 use mathlib.Core.Bool.{Bool}
 use mathlib.Core.List.{List, [], _∷_}
 use lib.ListN.{length}
-use Rattle.layout.specs.Tree.{FunctionParam, Small, GotoFrame, GetUrl, StoreRegister, ConstantPool, WaitForFrame, SetTarget, GotoLabel, WaitForFrame2, GetUrl2, GotoFrame2, With, DefineFunction, DefineFunction2, Catch}
+use Rattle.layout.specs.Tree.{FunctionParam, Small, GotoFrame, GetUrl, StoreRegister, ConstantPool, WaitForFrame, SetTarget, GotoLabel, WaitForFrame2, GetUrl2, GotoFrame2, With, DefineFunction, DefineFunction2}
 use Rattle.layout.specs.OpCode.{SmallOpCode}
 use Rattle.layout.specs.Numbers.{le16}
-use Rattle.layout.specs.Payload.{tryPayload, catchName}
-use Rattle.layout.specs.Lengths.{total, stringLength, paramLength, payloadLength, ownerLength, nameLength}
+use Rattle.layout.specs.Payload.{payload, ownerPayload, tryPayload}
+use Rattle.layout.specs.Lengths.{total, stringLength, paramLength, gotoFrame2Length, payloadLength, ownerLength, length-payload, length-ownerPayload, length-tryPayload}
 
--- r is the payload length of a GetUrl whose strings have these lengths
-pub record GetUrlLength (url target r : ℕ) : Type 0 where
-  pub is : (u t : List ℕ) → length u ≡ url → length t ≡ target → r ≡ payloadLength (GetUrl u t)
+-- "GetUrl |u|+|t|+2"
+pub get-url-payload : {url target : ℕ} (u t : List ℕ) → length u ≡ url → length t ≡ target → length (payload (GetUrl u t)) ≡ url + target + 2
+unfolding payloadLength
+get-url-payload u t h k = omega (arith, length-payload (GetUrl u t))
 
--- r is the payload length of a SetTarget and of a GotoLabel whose string has this length
-pub record StringLength (string r : ℕ) : Type 0 where
-  pub setTarget : (s : List ℕ) → length s ≡ string → r ≡ payloadLength (SetTarget s)
-  pub gotoLabel : (s : List ℕ) → length s ≡ string → r ≡ payloadLength (GotoLabel s)
+-- "SetTarget and GotoLabel |s|+1"
+pub set-target-payload : {string : ℕ} (s : List ℕ) → length s ≡ string → length (payload (SetTarget s)) ≡ string + 1
+unfolding payloadLength
+set-target-payload s h = omega (arith, length-payload (SetTarget s))
 
--- r is the payload length of a ConstantPool whose strings have this total length, a byte more for each
-pub record ConstantPoolLength (sum r : ℕ) : Type 0 where
-  pub is : (ss : List (List ℕ)) → total stringLength ss ≡ sum → r ≡ payloadLength (ConstantPool ss)
+pub goto-label-payload : {string : ℕ} (s : List ℕ) → length s ≡ string → length (payload (GotoLabel s)) ≡ string + 1
+unfolding payloadLength
+goto-label-payload s h = omega (arith, length-payload (GotoLabel s))
 
--- r is the payload length of a DefineFunction whose name has this length and whose parameters have this total length
-pub record DefineFunctionLength (name sum r : ℕ) : Type 0 where
-  pub is : (s : List ℕ) (ps : List (List ℕ)) → length s ≡ name → total stringLength ps ≡ sum → r ≡ ownerLength (DefineFunction s ps)
+-- "ConstantPool 2 + sum(|s|+1)"
+pub constant-pool-payload : {sum : ℕ} (ss : List (List ℕ)) → total stringLength ss ≡ sum → length (payload (ConstantPool ss)) ≡ 2 + sum
+unfolding payloadLength
+constant-pool-payload ss h = omega (arith, length-payload (ConstantPool ss))
 
--- the same for a DefineFunction2
-pub record DefineFunction2Length (name sum r : ℕ) : Type 0 where
-  pub is : (s : List ℕ) (ps : List FunctionParam) (registers flags : ℕ) → length s ≡ name → total paramLength ps ≡ sum → r ≡ ownerLength (DefineFunction2 s ps registers flags)
+-- "DefineFunction |name|+5+sum(|p|+1)", whatever the body's length
+pub define-function-payload : {name sum : ℕ} (s : List ℕ) (ps : List (List ℕ)) (body : ℕ) → length s ≡ name → total stringLength ps ≡ sum
+    → length (ownerPayload (DefineFunction s ps) body) ≡ name + 5 + sum
+unfolding ownerLength
+define-function-payload s ps body h k = omega (arith, length-ownerPayload (DefineFunction s ps) body)
 
--- r is the payload length of a Try whose catch target takes this many bytes, whatever its shape and the lengths of its bodies
-pub record TryLength (name r : ℕ) : Type 0 where
-  pub is : (c : Catch) (shape i j k : ℕ) → nameLength c ≡ name → r ≡ length (tryPayload shape i j k (catchName c))
+-- "DefineFunction2 |name|+8+sum(|p|+2)"
+pub define-function-2-payload : {name sum : ℕ} (s : List ℕ) (ps : List FunctionParam) (registers flags body : ℕ) → length s ≡ name → total paramLength ps ≡ sum
+    → length (ownerPayload (DefineFunction2 s ps registers flags) body) ≡ name + 8 + sum
+unfolding ownerLength
+define-function-2-payload s ps registers flags body h k = omega (arith, length-ownerPayload (DefineFunction2 s ps registers flags) body)
 
--- r is the payload length of a GotoFrame2 with this scene bias
-pub record GotoFrame2Length (bias r : ℕ) : Type 0 where
-  pub is : (play : Bool) → r ≡ payloadLength (GotoFrame2 bias play)
+-- "Try 7 + (|name|+1 for a variable, else 1)": what is added to 7 are the bytes of the catch target, layout's `catchName`
+pub try-payload : {n : ℕ} (shape i j k : ℕ) (name : List ℕ) → length name ≡ n → length (tryPayload shape i j k name) ≡ 7 + n
+try-payload shape i j k name h = omega (arith, length-tryPayload shape i j k name)
+
+-- "GotoFrame2 3, or 1 when bias is 0"
+pub goto-frame-2-payload : (bias : ℕ) (play : Bool) → length (payload (GotoFrame2 bias play)) ≡ gotoFrame2Length bias
+unfolding payloadLength
+goto-frame-2-payload bias play = length-payload (GotoFrame2 bias play)
 
 -- the payload lengths of the actions that have the same whatever they hold, in the order of the opcodes:
 -- GotoFrame, StoreRegister, WaitForFrame, WaitForFrame2, With, a branch (its distance), GetUrl2 and an action without a field, such as Call

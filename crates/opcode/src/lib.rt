@@ -1,12 +1,12 @@
 // The opcodes of source 000: their bytes, and the lengths of their payloads.
 ghost use mathlib.Core.Path.{_≡_};
-ghost use Prim.Native.Nat.{_<_};
+ghost use Prim.Native.Nat.{_+_, _<_};
 ghost use Rattle.layout.specs.Lists.{each};
 ghost use Rattle.layout.specs.OpCode.{byte, opcodes};
 ghost use Rattle.layout.specs.Tree.{Constant};
-ghost use Rattle.layout.specs.Lengths.{pushLength};
+ghost use Rattle.layout.specs.Lengths.{pushLength, gotoFrame2Length};
 ghost use Rattle.opcode.specs.Listed.{listed};
-ghost use Rattle.opcode.specs.PayloadLengths.{GetUrlLength, StringLength, ConstantPoolLength, DefineFunctionLength, DefineFunction2Length, TryLength, GotoFrame2Length, FixedLengths};
+ghost use Rattle.opcode.specs.PayloadLengths.{FixedLengths};
 
 // An opcode's byte. Its constants are those of OpCode of source 000, in that order.
 pub struct OpCode(pub u8);
@@ -655,10 +655,11 @@ impl OpCode {
         ]
     }
 
-    // A GetUrl's payload, from the lengths of its strings.
+    // A GetUrl's payload, from the lengths of its strings. PayloadLengths proves of this formula, and of those below, that it is the
+    // length of the definitions' payload.
     pub fn get_url_len(url: usize, target: usize) -> usize
         requires { ⌜ (url < 4294967296) × (target < 4294967296) ⌝ }
-        ensures { λ r. ⌜ GetUrlLength url target r ⌝ }
+        ensures { λ r. ⌜ r ≡ url + target + 2 ⌝ }
     {
         url + target + 2
     }
@@ -666,7 +667,7 @@ impl OpCode {
     // The payload of a SetTarget or a GotoLabel, from the length of its string.
     pub fn string_len(string: usize) -> usize
         requires { ⌜ string < 4294967296 ⌝ }
-        ensures { λ r. ⌜ StringLength string r ⌝ }
+        ensures { λ r. ⌜ r ≡ string + 1 ⌝ }
     {
         string + 1
     }
@@ -674,7 +675,7 @@ impl OpCode {
     // A ConstantPool's payload, from the total length of its strings, each with its zero byte.
     pub fn constant_pool_len(sum: usize) -> usize
         requires { ⌜ sum < 4294967296 ⌝ }
-        ensures { λ r. ⌜ ConstantPoolLength sum r ⌝ }
+        ensures { λ r. ⌜ r ≡ 2 + sum ⌝ }
     {
         2 + sum
     }
@@ -682,7 +683,7 @@ impl OpCode {
     // A DefineFunction's payload, from the length of its name and the total length of its parameters.
     pub fn define_function_len(name: usize, sum: usize) -> usize
         requires { ⌜ (name < 4294967296) × (sum < 4294967296) ⌝ }
-        ensures { λ r. ⌜ DefineFunctionLength name sum r ⌝ }
+        ensures { λ r. ⌜ r ≡ name + 5 + sum ⌝ }
     {
         name + 5 + sum
     }
@@ -690,7 +691,7 @@ impl OpCode {
     // The same for a DefineFunction2.
     pub fn define_function_2_len(name: usize, sum: usize) -> usize
         requires { ⌜ (name < 4294967296) × (sum < 4294967296) ⌝ }
-        ensures { λ r. ⌜ DefineFunction2Length name sum r ⌝ }
+        ensures { λ r. ⌜ r ≡ name + 8 + sum ⌝ }
     {
         name + 8 + sum
     }
@@ -698,14 +699,14 @@ impl OpCode {
     // A Try's payload, from the number of bytes of its catch target: a name with its zero byte, or one byte.
     pub fn try_len(name: usize) -> usize
         requires { ⌜ name < 4294967296 ⌝ }
-        ensures { λ r. ⌜ TryLength name r ⌝ }
+        ensures { λ r. ⌜ r ≡ 7 + name ⌝ }
     {
         7 + name
     }
 
     // A GotoFrame2's payload.
     pub fn goto_frame_2_len(bias: usize) -> usize
-        ensures { λ r. ⌜ GotoFrame2Length bias r ⌝ }
+        ensures { λ r. ⌜ r ≡ gotoFrame2Length bias ⌝ }
     {
         if bias == 0 { 1 } else { 3 }
     }
