@@ -12,7 +12,7 @@ use Rattle.layout.specs.Numbers.{bits64}
 use Rattle.layout.specs.Order.{zeroUp, below, signed64, bits-back}
 use Rattle.layout.specs.Judge.{distance, farUnless, judged}
 use Rattle.laws.specs.Demands.{sub-up, sub-down}
-use Rattle.labels.specs.Table.{recordOf, recordAt, IsFar}
+use Rattle.labels.specs.Table.{recordOf, recordAt, isFar}
 use Rattle.labels.proofs.Labels.{judged-by}
 use Rattle.positions.specs.declared.BytePosition.{BytePosition}
 use Rattle.judge.specs.declared.Judged.the-variants as code
@@ -34,7 +34,7 @@ signed-distance zero after h k = bits-back (pos 0) (zeroUp (omega arith))
 signed-distance (suc n) after h k = signed-sub n after (omega (arith, h)) k
 
 module _ (tab : List ℕ) (label : ℕ) (w : BytePosition) (next bits : ℕ) (far : Bool) (t : Table tab) (h : w .0 ≤ 1099511627776)
-    (e : bits ≡ bits64 (distance (recordAt tab label) (w .0))) (f : IsFar bits far) where
+    (e : bits ≡ bits64 (distance (recordAt tab label) (w .0))) (f : far ≡ isFar bits) where
   is-judged : judged (recordAt tab label) (w .0) ≡ farUnless (not far) (distance (recordAt tab label) (w .0))
   is-judged = judged-by (getD tab label 0) (w .0) (omega (arith, t .small label)) (omega (arith, h)) f e
 

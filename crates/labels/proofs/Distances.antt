@@ -1,14 +1,14 @@
 -- Laws of a branch's distance and its bits. Assumes nothing.
 use mathlib.Core.Path.{_≡_, refl}
-use mathlib.Core.Bool.{Bool, true, false, not}
+use mathlib.Core.Bool.{Bool, true, false, not, _&&_}
 use Prim.Native.Nat.{ℕ, zero, suc, _+_, _-_, _%_, _≤_, _<_}
 use native.Mathlib.Omega.{arith}
 use borrow.Author.Tests.{lt-ltb, le-ltb, ltb-true, ltb-false, le-leb, lt-leb}
-use lib.Dec.{ltb}
+use lib.Dec.{ltb, leb}
 use lib.IntN.{subℕ}
 use Rattle.layout.specs.Numbers.{bits64}
 use Rattle.layout.specs.Judge.{distance, isNear}
-use Rattle.labels.specs.Table.{recordOf}
+use Rattle.labels.specs.Table.{recordOf, isFar}
 
 -- ---- the bits
 
@@ -45,47 +45,36 @@ distance-back (suc n) after z k h = omega (arith, bits-back n after (omega arith
 
 -- ---- near and far
 
-module _ (to after : ℕ) where
-  -- within, and outside on either side
-  is-near : to ≤ after + 32767 → after ≤ to + 32768 → isNear to after ≡ true
-  unfolding isNear
-  is-near h k = rw (le-leb _ _ h, le-leb _ _ k)
+-- two tests of which the one passes where the other does not
+opposed : (m n o p : ℕ) → (m < n → p < o) → (n ≤ m → o ≤ p) → ltb m n ≡ not (leb o p)
+opposed m n o p f g = go (ltb m n) refl
+  where
+    go : (t : Bool) → ltb m n ≡ t → t ≡ not (leb o p)
+    go true e = rw (lt-leb o p (f (ltb-true m n e)))
+    go false e = rw (le-leb o p (g (ltb-false m n e)))
 
-  past-ahead : after + 32767 < to → isNear to after ≡ false
-  unfolding isNear
-  past-ahead h = rw (lt-leb _ _ h)
+-- of a test alone
+not-alone : (t : Bool) → (not t && true) ≡ not (t && true)
+not-alone true = refl
+not-alone false = refl
 
-  past-back : to + 32768 < after → isNear to after ≡ false
-  unfolding isNear
-  past-back h =
-      let k : to ≤ after + 32767 = omega arith in
-      rw (le-leb _ _ k, lt-leb _ _ h)
-
-module _ {bits : ℕ} (to after : ℕ) (h : to < 9223372036854775808) (k : after < 9223372036854775808) (e : bits ≡ bits64 (subℕ to after)) where
-  -- bits that are no far distance's
-  pub low-bits : bits < 32768 → false ≡ not (isNear to after)
-  low-bits l = go (ltb to after) refl
-    where
-      go : (t : Bool) → ltb to after ≡ t → false ≡ not (isNear to after)
-      go true d = absurd (omega (arith, ltb-true to after d, bits-back to after (ltb-true to after d)))
-      go false d =
-          let m : after ≤ to = ltb-false to after d in
-          rw (is-near to after (omega (arith, bits-ahead to after m)) (omega arith))
-
-  -- other bits are a far distance's up to those of -32,768
-  pub high-bits : 32768 ≤ bits → ltb bits 18446744073709518848 ≡ not (isNear to after)
-  high-bits l = go (ltb to after) (ltb bits 18446744073709518848) refl refl
-    where
-      go : (t u : Bool) → ltb to after ≡ t → ltb bits 18446744073709518848 ≡ u → u ≡ not (isNear to after)
-      go true true d f =
-          let m : to < after = ltb-true to after d in
-          rw (past-back to after (omega (arith, bits-back to after m, ltb-true bits 18446744073709518848 f)))
-      go true false d f =
-          let m : to < after = ltb-true to after d in
-          rw (is-near to after (omega arith) (omega (arith, bits-back to after m, ltb-false bits 18446744073709518848 f)))
-      go false true d f =
-          let m : after ≤ to = ltb-false to after d in
-          rw (past-ahead to after (omega (arith, bits-ahead to after m)))
-      go false false d f =
-          let m : after ≤ to = ltb-false to after d in
-          absurd (omega (arith, bits-ahead to after m, ltb-false bits 18446744073709518848 f))
+-- the bits of a distance between positions of 63 bits are far where the distance is not near
+pub far-unless-near : (to after : ℕ) → to < 9223372036854775808 → after < 9223372036854775808 → isFar (bits64 (subℕ to after)) ≡ not (isNear to after)
+unfolding isFar isNear
+far-unless-near to after h k = go (bits64 (subℕ to after)) refl (ltb to after) refl
+  where
+    go : (bits : ℕ) → bits64 (subℕ to after) ≡ bits → (t : Bool) → ltb to after ≡ t → isFar bits ≡ not (isNear to after)
+    go bits e true d =
+        let m : to < after = ltb-true to after d in
+        let b = bits-back to after m in
+        rw (lt-ltb 32767 bits (omega (arith, b)), le-leb to (after + 32767) (omega arith))
+        (opposed bits 18446744073709518848 after (to + 32768) (λ l. omega (arith, b)) (λ l. omega (arith, b)))
+    go bits e false d =
+        let m : after ≤ to = ltb-false to after d in
+        let b = bits-ahead to after m in
+        rw (
+          lt-ltb bits 18446744073709518848 (omega (arith, b)),
+          le-leb after (to + 32768) (omega arith),
+          opposed 32767 bits to (after + 32767) (λ l. omega (arith, b)) (λ l. omega (arith, b)),
+        )
+        (not-alone (leb to (after + 32767)))

@@ -16,7 +16,8 @@ use Rattle.layout.specs.Read.{Terms, Place, ahead, got, ifWhole, ifWithin, test
 use Rattle.layout.specs.Write.{Position, Event, labelAt, branchAt, payloadTooLong, bodyTooLong, later, recordIf, lookup}
 use Rattle.layout.specs.Judge.{distance, isNear, farUnless, judged}
 use Rattle.laws.specs.ReadFits.{Good, fine, refused, good-then, good-got}
-use Rattle.labels.specs.Table.{slot, recordOf, recordAll, TableHolds, IsFar, entriesAt, Rising, end, next}
+use Rattle.labels.specs.Table.{slot, recordOf, recordAll, TableHolds, isFar, entriesAt, Rising, end, next}
+use Rattle.labels.proofs.Distances.{far-unless-near}
 
 -- ---- the table
 
@@ -78,12 +79,12 @@ pub table-record : (bound : ℕ) (tab : List ℕ) (es : List Event) → TableHol
 table-record bound tab es h l k = ap recordOf (h .holds l k) ∙ record-of-slot (lookup l es)
 
 -- a branch is judged by its slot, its distance's bits and what is said of them
-pub judged-by : {bits : ℕ} {far : Bool} (slot after : ℕ) → slot < 9223372036854775808 → after < 9223372036854775808 → IsFar bits far
+pub judged-by : {bits : ℕ} {far : Bool} (slot after : ℕ) → slot < 9223372036854775808 → after < 9223372036854775808 → far ≡ isFar bits
     → bits ≡ bits64 (distance (recordOf slot) after)
     → judged (recordOf slot) after ≡ farUnless (not far) (distance (recordOf slot) after)
 unfolding recordOf distance judged farUnless isNear
-judged-by zero after h k f e = rw (f .unless-near 0 0 (omega arith) (omega arith) e)
-judged-by (suc n) after h k f e = rw (f .unless-near n after (omega arith) k e, Bool·not-not (isNear n after))
+judged-by zero after h k f e = rw (f, e, far-unless-near 0 0 (omega arith) (omega arith))
+judged-by (suc n) after h k f e = rw (f, e, far-unless-near n after (omega arith) k, Bool·not-not (isNear n after))
 
 -- ---- the entries
 

@@ -1,17 +1,15 @@
 -- The label table and a body's label entries, as the code holds them. Assumes nothing.
 use mathlib.Core.Path.{_≡_}
 use Prim.Native.Nat.{ℕ, zero, suc, min, _+_, _*_, _≤_, _<_}
-use mathlib.Core.Bool.{Bool, not}
+use mathlib.Core.Bool.{Bool, _&&_}
 use mathlib.Core.Option.{Option, none, some}
 use mathlib.Core.List.{List, [], _∷_}
 use lib.ListN.{length, getD, set}
 use lib.Dec.{ltb}
-use lib.IntN.{subℕ}
 use Rattle.layout.specs.Lists.{pick}
-use Rattle.layout.specs.Numbers.{u16At, bits64}
+use Rattle.layout.specs.Numbers.{u16At}
 use Rattle.layout.specs.Tree.{ActionIndex, Entry, entry}
 use Rattle.layout.specs.Write.{Position, Event, labelAt, branchAt, payloadTooLong, bodyTooLong, labelsAt, lookup}
-use Rattle.layout.specs.Judge.{isNear}
 
 -- ---- the table
 
@@ -96,6 +94,6 @@ pub record Recorded (es : List Entry) (i : ActionIndex) (s : Position) (old new 
 
 -- ---- a branch's distance
 
--- what `far` says of a distance with these bits, between positions of 63 bits: that it is outside -32,768 to 32,767
-pub record IsFar (bits : ℕ) (far : Bool) : Type 0 where
-  pub unless-near : (to after : ℕ) → to < 9223372036854775808 → after < 9223372036854775808 → bits ≡ bits64 (subℕ to after) → far ≡ not (isNear to after)
+-- whether the signed number of these 64 bits is outside -32,768 to 32,767; 18446744073709518848 are the bits of -32,768
+unfoldable pub isFar : ℕ → Bool
+isFar bits = ltb 32767 bits && ltb bits 18446744073709518848

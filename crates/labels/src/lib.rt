@@ -7,7 +7,7 @@ ghost use Prim.Native.Nat.{_+_, _*_, _<_, _≤_};
 ghost use lib.ListN.{length, getD};
 ghost use Rattle.layout.specs.Numbers.{bits64};
 ghost use Rattle.layout.specs.Judge.{distance};
-ghost use Rattle.labels.specs.Table.{recordOf, entriesAt, due, indexOf, positionOf, Recordable, Recorded, IsFar};
+ghost use Rattle.labels.specs.Table.{recordOf, entriesAt, due, indexOf, positionOf, Recordable, Recorded, isFar};
 use fields::u32_at;
 use positions::ActionIndex;
 use positions::BytePosition;
@@ -91,7 +91,7 @@ pub fn distance(tab: &[usize], label: usize, after: BytePosition) -> u64
 
 // Whether a distance of these bits is outside -32,768 to 32,767.
 pub fn is_far(bits: u64) -> bool
-    ensures { λ r. ⌜ IsFar bits r ⌝ }
+    ensures { λ r. ⌜ r ≡ isFar bits ⌝ }
 {
     if bits < 32768 {
         return false;
