@@ -10,14 +10,14 @@ use lib.Dec.{ltb, leb}
 use borrow.Author.Tests.{ltb-true}
 use Rattle.layout.specs.Lists.{firstWith, first-with, pick, each}
 use Rattle.layout.specs.Numbers.{u16At}
-use Rattle.layout.specs.OpCode.{OpCode, smallByte, byte, smallOpCodes, opcodes, opcodeOf}
+use Rattle.layout.specs.OpCode.{OpCode, SmallOpCode, smallByte, byte, smallOpCodes, opcodes, opcodeOf}
 use Rattle.layout.specs.Tree.{ActionOf, ActionsOf}
 use Rattle.layout.specs.Read.{Text, Terms, Place, placed, Reader, isShape, hasCatch, hasRegister, hasFinally, readU8, readU16, readString, readParam, readValue, readLabel, readCatchTarget, readCatch, readFinally, readTry, readFields, readFieldsIf, readAction}
 use Rattle.pcode.specs.declared.Action.{Action}
 use Rattle.pcode.specs.declared.Action.the-variants as code
-use Rattle.pcode.specs.Shown.{spanAt, after, functionAt, catchAt, afterCatch, afterTry, tryAt, isText, ShownTarget, nothing, variable, register, Shown, small, gotoFrame, getUrl, storeRegister, constantPool, waitForFrame, setTarget, gotoLabel, waitForFrame2, defineFunction2, try, with, push, jump, getUrl2, defineFunction, if, gotoFrame2, ActionReads, ShowsAction}
-use Rattle.pcode.proofs.Arms.{NoneOf, isOne, barred}
-use Rattle.pcode.proofs.Readings.{Gives, gives, refuses, Exactly, given, next, then, itself, weaker, first, u8, u16, passed, flag, counted, string}
+use Rattle.pcode.specs.Shown.{spanAt, after, functionAt, catchAt, afterCatch, afterTry, tryAt, actionAt, isText, ShownTarget, nothing, variable, register, Shown, small, gotoFrame, getUrl, storeRegister, constantPool, waitForFrame, setTarget, gotoLabel, waitForFrame2, defineFunction2, try, with, push, jump, getUrl2, defineFunction, if, gotoFrame2, ActionReads, ShowsAction}
+use Rattle.pcode.proofs.Arms.{Found, found, found-once, NoneOf, isOne, barred}
+use Rattle.pcode.proofs.Readings.{Gives, gives, refuses, Exactly, given, next, then, itself, anyway, weaker, first, u8, u16, passed, flag, counted, string}
 
 -- places, one after the other
 two : (p : ℕ) → p + 1 + 1 ≡ p + 2
@@ -29,28 +29,7 @@ three p = omega arith
 three' : (p : ℕ) → p + 1 + 2 ≡ p + 3
 three' p = omega arith
 
--- what the code takes at p for the fields of an opcode
-abbrev pub actionAt : List ℕ → OpCode → ℕ → Action
-actionAt b (OpCode.Small op) p = code.Small (smallByte op)
-actionAt b OpCode.GotoFrame p = code.GotoFrame (u16At b p)
-actionAt b OpCode.GetUrl p = code.GetUrl (spanAt b p) (spanAt b (after (spanAt b p)))
-actionAt b OpCode.StoreRegister p = code.StoreRegister (getD b p 0)
-actionAt b OpCode.ConstantPool p = code.ConstantPool (u16At b p) (p + 2)
-actionAt b OpCode.WaitForFrame p = code.WaitForFrame (u16At b p) (getD b (p + 2) 0)
-actionAt b OpCode.SetTarget p = code.SetTarget (spanAt b p)
-actionAt b OpCode.GotoLabel p = code.GotoLabel (spanAt b p)
-actionAt b OpCode.WaitForFrame2 p = code.WaitForFrame2 (getD b p 0)
-actionAt b OpCode.DefineFunction2 p = code.DefineFunction2 (functionAt b p)
-actionAt b OpCode.Try p = tryAt b p
-actionAt b OpCode.With p = code.With p
-actionAt b OpCode.Push p = code.Push (u16At b p) (p + 2)
-actionAt b OpCode.Jump p = code.Jump (u16At b p)
-actionAt b OpCode.GetUrl2 p = code.GetUrl2 (getD b p 0) (getD b (p + 1) 0) (getD b (p + 2) 0)
-actionAt b OpCode.DefineFunction p = code.DefineFunction (functionAt b p)
-actionAt b OpCode.If p = code.If (u16At b p)
-actionAt b OpCode.GotoFrame2 p = code.GotoFrame2 (u16At b p) (getD b (p + 2) 0)
-
--- the place behind the bytes that it looks at
+-- the place behind the bytes that the code looks at for an opcode
 abbrev pub taken : List ℕ → OpCode → ℕ → ℕ
 taken b (OpCode.Small op) p = p
 taken b OpCode.GotoFrame p = p + 2
@@ -184,7 +163,10 @@ action-taken b p {op = op} arm e terms inner = next _ (u8 b p) (λ l. rw (e, arm
 
 module _ {b : List ℕ} {p n : ℕ} {op : OpCode} where
   pub action-shown : Arm n op → getD b p 0 ≡ n → ShowsAction b p (actionAt b op (p + 1))
-  action-shown arm e = record { shows = λ terms inner a q r. given (action-taken b p arm e terms inner) r .0 }
+  action-shown arm e = record {
+    is = λ o h. ap (λ x. actionAt b x (p + 1)) (found-once (ap opcodeOf e ∙ arm-listed arm) h);
+    shows = λ terms inner a q r. given (action-taken b p arm e terms inner) r .0;
+  }
 
   -- what it takes lies within b
   pub action-room : Arm n op → getD b p 0 ≡ n → ActionReads b p → taken b op (p + 1) ≤ length b
@@ -195,41 +177,74 @@ pub opcode-room : {b : List ℕ} {p : ℕ} → ActionReads b p → p + 1 ≤ len
 unfolding readAction
 opcode-room {b} {p} reads = given (first _ (u8 b p)) (reads .reads)
 
+-- it is listed
+opcode-if : (terms : Terms) (b : List ℕ) (inner : Reader (ActionsOf Text ℕ)) (o : Option OpCode) (q r : Place)
+    → Gives (λ a s. Found o) (readFieldsIf terms b inner o q r)
+unfolding readFieldsIf
+opcode-if terms b inner (some op) q r = anyway _ (found op refl)
+opcode-if terms b inner none q r = refuses
+
+-- so there is just one result that shows the action at p
+pub same-action : {b : List ℕ} {p : ℕ} {r s : Action} → ActionReads b p → ShowsAction b p r → ShowsAction b p s → r ≡ s
+unfolding readAction
+same-action {b} {p} {r} {s} reads h j =
+    go (given (next _ (u8 b p) (λ l. opcode-if (reads .terms) b (reads .inner) (opcodeOf (getD b p 0)) _ _)) (reads .reads))
+  where
+    go : Found (opcodeOf (getD b p 0)) → r ≡ s
+    go (found op e) = h .is op e ∙ sym (j .is op e)
+
 -- ---- every other opcode
 
 -- the bytes of the opcodes with fields, the last first
 abbrev pub fieldBytes : List ℕ
 fieldBytes = 0x9F ∷ 0x9D ∷ 0x9B ∷ 0x9A ∷ 0x99 ∷ 0x96 ∷ 0x94 ∷ 0x8F ∷ 0x8E ∷ 0x8D ∷ 0x8C ∷ 0x8B ∷ 0x8A ∷ 0x88 ∷ 0x87 ∷ 0x83 ∷ 0x81 ∷ []
 
-module _ (terms : Terms) (b : List ℕ) (inner : Reader (ActionsOf Text ℕ)) (p n : ℕ) (none-of : NoneOf fieldBytes n) where
-  -- an opcode that has no fields is all that the code takes
-  small-shown : (op : OpCode) → byte op ≡ n → Gives (Shown terms b inner p (code.Small n)) (readFields terms b inner op (placed p))
-  unfolding readFields byte isOne pick
-  small-shown (OpCode.Small op) e = gives (small e)
-  small-shown OpCode.GotoFrame e = absurd (barred fieldBytes none-of e refl)
-  small-shown OpCode.GetUrl e = absurd (barred fieldBytes none-of e refl)
-  small-shown OpCode.StoreRegister e = absurd (barred fieldBytes none-of e refl)
-  small-shown OpCode.ConstantPool e = absurd (barred fieldBytes none-of e refl)
-  small-shown OpCode.WaitForFrame e = absurd (barred fieldBytes none-of e refl)
-  small-shown OpCode.SetTarget e = absurd (barred fieldBytes none-of e refl)
-  small-shown OpCode.GotoLabel e = absurd (barred fieldBytes none-of e refl)
-  small-shown OpCode.WaitForFrame2 e = absurd (barred fieldBytes none-of e refl)
-  small-shown OpCode.DefineFunction2 e = absurd (barred fieldBytes none-of e refl)
-  small-shown OpCode.Try e = absurd (barred fieldBytes none-of e refl)
-  small-shown OpCode.With e = absurd (barred fieldBytes none-of e refl)
-  small-shown OpCode.Push e = absurd (barred fieldBytes none-of e refl)
-  small-shown OpCode.Jump e = absurd (barred fieldBytes none-of e refl)
-  small-shown OpCode.GetUrl2 e = absurd (barred fieldBytes none-of e refl)
-  small-shown OpCode.DefineFunction e = absurd (barred fieldBytes none-of e refl)
-  small-shown OpCode.If e = absurd (barred fieldBytes none-of e refl)
-  small-shown OpCode.GotoFrame2 e = absurd (barred fieldBytes none-of e refl)
+-- an opcode of byte n that has no fields
+data IsSmall (n : ℕ) : OpCode → Type 0 where
+  isSmall : {op : SmallOpCode} → smallByte op ≡ n → IsSmall n (OpCode.Small op)
 
-  small-if : (o : Option OpCode) (q : Place) → opcodeOf n ≡ o → Gives (Shown terms b inner p (code.Small n)) (readFieldsIf terms b inner o q (placed p))
-  unfolding readFieldsIf
-  small-if (some op) q e = small-shown op (unfold opcodeOf in first-with byte n opcodes op e)
-  small-if none q e = refuses
+-- every opcode whose byte is none of these is such
+small-byte : {n : ℕ} → NoneOf fieldBytes n → (op : OpCode) → byte op ≡ n → IsSmall n op
+unfolding byte isOne pick
+small-byte h (OpCode.Small op) e = isSmall e
+small-byte h OpCode.GotoFrame e = absurd (barred fieldBytes h e refl)
+small-byte h OpCode.GetUrl e = absurd (barred fieldBytes h e refl)
+small-byte h OpCode.StoreRegister e = absurd (barred fieldBytes h e refl)
+small-byte h OpCode.ConstantPool e = absurd (barred fieldBytes h e refl)
+small-byte h OpCode.WaitForFrame e = absurd (barred fieldBytes h e refl)
+small-byte h OpCode.SetTarget e = absurd (barred fieldBytes h e refl)
+small-byte h OpCode.GotoLabel e = absurd (barred fieldBytes h e refl)
+small-byte h OpCode.WaitForFrame2 e = absurd (barred fieldBytes h e refl)
+small-byte h OpCode.DefineFunction2 e = absurd (barred fieldBytes h e refl)
+small-byte h OpCode.Try e = absurd (barred fieldBytes h e refl)
+small-byte h OpCode.With e = absurd (barred fieldBytes h e refl)
+small-byte h OpCode.Push e = absurd (barred fieldBytes h e refl)
+small-byte h OpCode.Jump e = absurd (barred fieldBytes h e refl)
+small-byte h OpCode.GetUrl2 e = absurd (barred fieldBytes h e refl)
+small-byte h OpCode.DefineFunction e = absurd (barred fieldBytes h e refl)
+small-byte h OpCode.If e = absurd (barred fieldBytes h e refl)
+small-byte h OpCode.GotoFrame2 e = absurd (barred fieldBytes h e refl)
+
+small-op : {n : ℕ} → NoneOf fieldBytes n → (op : OpCode) → opcodeOf n ≡ some op → IsSmall n op
+small-op {n} h op e = small-byte h op (unfold opcodeOf in first-with byte n opcodes op e)
+
+-- it is all that the code takes
+small-is : (b : List ℕ) (p : ℕ) {n : ℕ} {op : OpCode} → IsSmall n op → code.Small n ≡ actionAt b op p
+small-is b p (isSmall e) = ap (λ m. code.Small m) (sym e)
+
+small-shown : (terms : Terms) (b : List ℕ) (inner : Reader (ActionsOf Text ℕ)) (p n : ℕ) (o : Option OpCode) (q : Place) → ((op : OpCode) → o ≡ some op → IsSmall n op)
+    → Gives (Shown terms b inner p (code.Small n)) (readFieldsIf terms b inner o q (placed p))
+unfolding readFieldsIf readFields
+small-shown terms b inner p n (some op) q h = go (h op refl)
+  where
+    go : {o : OpCode} → IsSmall n o → Gives (Shown terms b inner p (code.Small n)) (readFields terms b inner o (placed p))
+    go (isSmall e) = gives (small e)
+small-shown terms b inner p n none q h = refuses
 
 -- the same by the byte that stands at p
 pub other-shown : {b : List ℕ} {p : ℕ} → NoneOf fieldBytes (getD b p 0) → ShowsAction b p (code.Small (getD b p 0))
 unfolding readAction
-other-shown {b} {p} h = record { shows = λ terms inner a q r. given (next _ (u8 b p) (λ l. small-if terms b inner (p + 1) (getD b p 0) h (opcodeOf (getD b p 0)) _ refl)) r }
+other-shown {b} {p} h = record {
+  is = λ op e. small-is b (p + 1) (small-op h op e);
+  shows = λ terms inner a q r. given (next _ (u8 b p) (λ l. small-shown terms b inner (p + 1) (getD b p 0) (opcodeOf (getD b p 0)) _ (small-op h))) r;
+}

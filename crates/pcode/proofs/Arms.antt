@@ -1,12 +1,23 @@
--- What the last arm of a match on a number knows of the number. Assumes nothing.
+-- What the arms of a match on a number know of the number. Assumes nothing.
 use mathlib.Core.Path.{_≡_, refl, sym, _∙_}
 use Prim.Native.Nat.{ℕ}
 use native.Mathlib.Omega.{arith}
 use mathlib.Core.Bool.{Bool, true, false}
+use mathlib.Core.Option.{Option, some, Option·some-injective}
 use mathlib.Core.List.{List, [], _∷_}
 use lib.Dec.{eqb}
 use borrow.Author.Tests.{eqb-true}
 use Rattle.layout.specs.Lists.{pick}
+
+-- a listed number stands for something
+pub data Found {A : Type 0} (o : Option A) : Type 0 where
+  found : (x : A) → o ≡ some x → Found o
+
+-- and for nothing else
+pub found-once : {A : Type 0} {o : Option A} {x y : A} → o ≡ some x → o ≡ some y → x ≡ y
+found-once {x = x} {y = y} e h = Option·some-injective x y (sym e ∙ h)
+
+-- ---- the last arm
 
 -- n is none of the other arms' numbers, of which the last comes first
 abbrev pub NoneOf : List ℕ → ℕ → Type 0

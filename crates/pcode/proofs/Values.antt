@@ -1,31 +1,18 @@
 -- Push values: what the code takes for each kind shows what the definitions read. Assumes nothing.
-use mathlib.Core.Path.{_≡_, refl, sym}
+use mathlib.Core.Path.{_≡_, refl, sym, ap, _∙_}
 use Prim.Native.Nat.{ℕ, _+_, _≤_}
 use mathlib.Core.Option.{Option, none, some}
 use mathlib.Core.List.{List, [], _∷_}
 use lib.ListN.{length, getD}
 use Rattle.layout.specs.Lists.{firstWith, first-with, pick}
-use Rattle.layout.specs.Numbers.{u16At, u32At, u64At}
 use Rattle.layout.specs.PushKind.{PushKind, kindByte, pushKinds, kindOf}
 use Rattle.layout.specs.Tree.{PushValueOf}
 use Rattle.layout.specs.Read.{Text, Terms, Place, placed, readValueOf, readValueIf, readValue}
 use Rattle.pcode.specs.declared.PushAt.{PushAt}
-use Rattle.pcode.specs.declared.PushValue.the-variants as value
-use Rattle.pcode.specs.Shown.{pushAt, spanAt, after, isText, ShownValue, string, null, undefined, register, boolean, float, integer, constant, ValueReads, ShowsValue}
+use Rattle.pcode.specs.Shown.{valueAt, isText, ShownValue, string, null, undefined, register, boolean, float, integer, constant, ValueReads, ShowsValue}
 use Rattle.pcode.proofs.Readings as reading
-use Rattle.pcode.proofs.Arms.{NoneOf, isOne, barred}
+use Rattle.pcode.proofs.Arms.{Found, found, found-once, NoneOf, isOne, barred}
 use Rattle.pcode.proofs.Readings.{Gives, gives, refuses, given, next, anyway, first, u8}
-
--- what the code takes at p for a value of a kind
-abbrev pub valueAt : List ℕ → PushKind → ℕ → PushAt
-valueAt b PushKind.String p = pushAt (value.String (spanAt b p)) (after (spanAt b p))
-valueAt b PushKind.Null p = pushAt value.Null p
-valueAt b PushKind.Undefined p = pushAt value.Undefined p
-valueAt b PushKind.Register p = pushAt (value.Register (getD b p 0)) (p + 1)
-valueAt b PushKind.Boolean p = pushAt (value.Boolean (getD b p 0)) (p + 1)
-valueAt b PushKind.Float p = pushAt (value.Float (u64At b p)) (p + 8)
-valueAt b PushKind.Integer p = pushAt (value.Integer (u32At b p)) (p + 4)
-valueAt b PushKind.Constant p = pushAt (value.Constant (u16At b p)) (p + 2)
 
 -- a value and the place after it are those that r shows, and the place lies within b
 abbrev Pushed : List ℕ → PushAt → PushValueOf Text → Place → Type 0
@@ -75,7 +62,10 @@ pushed b p {k = k} arm e terms = next _ (u8 b p) (λ l. rw (e, kind-listed arm) 
 
 module _ {b : List ℕ} {p n : ℕ} {k : PushKind} where
   pub value-shown : KindArm n k → getD b p 0 ≡ n → ShowsValue b p (valueAt b k (p + 1))
-  value-shown arm e = record { shows = λ terms x q r. let h = given (pushed b p arm e terms) r in (h .0, h .1) }
+  value-shown arm e = record {
+    is = λ kind h. ap (λ k. valueAt b k (p + 1)) (found-once (ap kindOf e ∙ kind-listed arm) h);
+    shows = λ terms x q r. let h = given (pushed b p arm e terms) r in (h .0, h .1);
+  }
 
   -- it ends within b
   pub value-room : KindArm n k → getD b p 0 ≡ n → ValueReads b p → valueAt b k (p + 1) .next ≤ length b
@@ -86,36 +76,44 @@ pub kind-room : {b : List ℕ} {p : ℕ} → ValueReads b p → p + 1 ≤ length
 unfolding readValue
 kind-room {b} {p} reads = given (first _ (u8 b p)) (reads .reads)
 
--- ---- the last kind
+-- where a value reads, a kind stands
+kind-if : (terms : Terms) (b : List ℕ) (o : Option PushKind) (q r : Place) → Gives (λ a s. Found o) (readValueIf terms b o q r)
+unfolding readValueIf
+kind-if terms b (some kind) q r = anyway _ (found kind refl)
+kind-if terms b none q r = refuses
 
--- a byte that stands for a kind
-data Kind (n : ℕ) : Type 0 where
-  kind : (k : PushKind) → kindByte k ≡ n → Kind n
+kind-at : {b : List ℕ} {p : ℕ} → ValueReads b p → Found (kindOf (getD b p 0))
+unfolding readValue
+kind-at {b} {p} reads = given (next _ (u8 b p) (λ l. kind-if (reads .terms) b (kindOf (getD b p 0)) _ _)) (reads .reads)
+
+-- so there is just one result that shows it
+pub same-value : {b : List ℕ} {p : ℕ} {r s : PushAt} → ValueReads b p → ShowsValue b p r → ShowsValue b p s → r ≡ s
+same-value {b} {p} {r} {s} reads h j = go (kind-at reads)
+  where
+    go : Found (kindOf (getD b p 0)) → r ≡ s
+    go (found kind e) = h .is kind e ∙ sym (j .is kind e)
+
+-- ---- the last kind
 
 -- the bytes of all kinds but a constant's, the last first
 abbrev pub otherKinds : List ℕ
 otherKinds = 7 ∷ 6 ∷ 5 ∷ 4 ∷ 3 ∷ 2 ∷ 0 ∷ []
 
--- such a byte is a constant's if it is no other kind's
-last-kind : {n : ℕ} → Kind n → NoneOf otherKinds n → n ≡ 8
+-- a kind's byte is a constant's if it is no other kind's
+last-kind : {n : ℕ} (kind : PushKind) → kindByte kind ≡ n → NoneOf otherKinds n → n ≡ 8
 unfolding kindByte isOne pick
-last-kind (kind PushKind.String e) h = absurd (barred otherKinds h e refl)
-last-kind (kind PushKind.Null e) h = absurd (barred otherKinds h e refl)
-last-kind (kind PushKind.Undefined e) h = absurd (barred otherKinds h e refl)
-last-kind (kind PushKind.Register e) h = absurd (barred otherKinds h e refl)
-last-kind (kind PushKind.Boolean e) h = absurd (barred otherKinds h e refl)
-last-kind (kind PushKind.Float e) h = absurd (barred otherKinds h e refl)
-last-kind (kind PushKind.Integer e) h = absurd (barred otherKinds h e refl)
-last-kind (kind PushKind.Constant e) h = sym e
-
--- where a value reads, a kind stands
-kind-if : (terms : Terms) (b : List ℕ) (n : ℕ) (o : Option PushKind) (q r : Place) → kindOf n ≡ o → Gives (λ a r. Kind n) (readValueIf terms b o q r)
-unfolding readValueIf
-kind-if terms b n (some k) q r e = anyway _ (kind k (unfold kindOf in first-with kindByte n pushKinds k e))
-kind-if terms b n none q r e = refuses
+last-kind PushKind.String e h = absurd (barred otherKinds h e refl)
+last-kind PushKind.Null e h = absurd (barred otherKinds h e refl)
+last-kind PushKind.Undefined e h = absurd (barred otherKinds h e refl)
+last-kind PushKind.Register e h = absurd (barred otherKinds h e refl)
+last-kind PushKind.Boolean e h = absurd (barred otherKinds h e refl)
+last-kind PushKind.Float e h = absurd (barred otherKinds h e refl)
+last-kind PushKind.Integer e h = absurd (barred otherKinds h e refl)
+last-kind PushKind.Constant e h = sym e
 
 -- the kind at p is a constant's if it is no other
 pub constant-kind : {b : List ℕ} {p : ℕ} → ValueReads b p → NoneOf otherKinds (getD b p 0) → getD b p 0 ≡ 8
-unfolding readValue
-constant-kind {b} {p} reads h =
-    last-kind (given (next _ (u8 b p) (λ l. kind-if (reads .terms) b (getD b p 0) (kindOf (getD b p 0)) _ _ refl)) (reads .reads)) h
+constant-kind {b} {p} reads h = go (kind-at reads)
+  where
+    go : Found (kindOf (getD b p 0)) → getD b p 0 ≡ 8
+    go (found kind e) = last-kind kind (unfold kindOf in first-with kindByte (getD b p 0) pushKinds kind e) h

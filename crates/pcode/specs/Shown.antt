@@ -3,11 +3,13 @@
 use mathlib.Core.Path.{_≡_}
 use Prim.Native.Nat.{ℕ, _+_, _≤_, _<_}
 use mathlib.Core.Bool.{Bool, true, false}
+use mathlib.Core.Option.{some}
 use mathlib.Core.List.{List}
 use lib.ListN.{length, getD}
 use lib.Dec.{eqb}
-use Rattle.layout.specs.Numbers.{u16At}
-use Rattle.layout.specs.OpCode.{SmallOpCode, smallByte}
+use Rattle.layout.specs.Numbers.{u16At, u32At, u64At}
+use Rattle.layout.specs.OpCode.{OpCode, SmallOpCode, smallByte, opcodeOf}
+use Rattle.layout.specs.PushKind.{PushKind, kindOf}
 use Rattle.layout.specs.Tree.{PushValueOf, String, Null, Undefined, Register, Boolean, Float, Integer, Constant, FunctionParamOf, Small, GotoFrame, GetUrl, StoreRegister, ConstantPool, WaitForFrame, SetTarget, GotoLabel, WaitForFrame2, Push, GetUrl2, GotoFrame2, With, DefineFunction, DefineFunction2, Jump, If, CatchTargetOf, Variable, ActionOf, flat, branch, owner, Try, ActionsOf, CatchOf, FinallyOf}
 use Rattle.layout.specs.Read.{Text, plain, Terms, Place, placed, got, Reader, repeat, hasCatch, hasFinally, hasRegister, isShape, readString, readValue, readParam, readCatch, readFinally, readAction}
 use Rattle.fields.specs.Runs.{part}
@@ -45,6 +47,17 @@ pub data IsText (b : List ℕ) : Span → Text → Type 0 where
 abbrev pub pushAt : PushValue → ℕ → PushAt
 pushAt x q = record { value = x; next = q }
 
+-- what stands at p behind a kind, and the place after it
+abbrev pub valueAt : List ℕ → PushKind → ℕ → PushAt
+valueAt b PushKind.String p = pushAt (value.String (spanAt b p)) (after (spanAt b p))
+valueAt b PushKind.Null p = pushAt value.Null p
+valueAt b PushKind.Undefined p = pushAt value.Undefined p
+valueAt b PushKind.Register p = pushAt (value.Register (getD b p 0)) (p + 1)
+valueAt b PushKind.Boolean p = pushAt (value.Boolean (getD b p 0)) (p + 1)
+valueAt b PushKind.Float p = pushAt (value.Float (u64At b p)) (p + 8)
+valueAt b PushKind.Integer p = pushAt (value.Integer (u32At b p)) (p + 4)
+valueAt b PushKind.Constant p = pushAt (value.Constant (u16At b p)) (p + 2)
+
 -- a case of the code, and the push value that it shows
 pub data ShownValue (b : List ℕ) : PushValue → PushValueOf Text → Type 0 where
   -- the string behind the kind
@@ -71,8 +84,9 @@ pub record ValueReads (b : List ℕ) (p : ℕ) : Type 0 where
   pub next : Place
   pub reads : readValue terms b (placed p) ≡ got value next
 
--- r shows the push value that the definitions read at p, and holds the place after it
+-- r is what stands behind the kind at p. It shows the push value that the definitions read at p, and holds the place after it
 pub record ShowsValue (b : List ℕ) (p : ℕ) (r : PushAt) : Type 0 where
+  pub is : (kind : PushKind) → kindOf (getD b p 0) ≡ some kind → r ≡ valueAt b kind (p + 1)
   pub shows : (terms : Terms) (x : PushValueOf Text) (q : Place) → readValue terms b (placed p) ≡ got x q → ShownValue b (r .value) x × (q ≡ placed (r .next))
 
 -- ---- actions
@@ -96,6 +110,27 @@ afterTry b p = afterCatch (hasCatch (getD b p 0)) (hasRegister (getD b p 0)) b (
 -- a Try's shape at p, its target and its first body's place
 abbrev pub tryAt : List ℕ → ℕ → Action
 tryAt b p = code.Try (getD b p 0) (catchAt (hasCatch (getD b p 0)) (hasRegister (getD b p 0)) b (p + 1)) (afterTry b p)
+
+-- what stands at p behind an opcode
+abbrev pub actionAt : List ℕ → OpCode → ℕ → Action
+actionAt b (OpCode.Small op) p = code.Small (smallByte op)
+actionAt b OpCode.GotoFrame p = code.GotoFrame (u16At b p)
+actionAt b OpCode.GetUrl p = code.GetUrl (spanAt b p) (spanAt b (after (spanAt b p)))
+actionAt b OpCode.StoreRegister p = code.StoreRegister (getD b p 0)
+actionAt b OpCode.ConstantPool p = code.ConstantPool (u16At b p) (p + 2)
+actionAt b OpCode.WaitForFrame p = code.WaitForFrame (u16At b p) (getD b (p + 2) 0)
+actionAt b OpCode.SetTarget p = code.SetTarget (spanAt b p)
+actionAt b OpCode.GotoLabel p = code.GotoLabel (spanAt b p)
+actionAt b OpCode.WaitForFrame2 p = code.WaitForFrame2 (getD b p 0)
+actionAt b OpCode.DefineFunction2 p = code.DefineFunction2 (functionAt b p)
+actionAt b OpCode.Try p = tryAt b p
+actionAt b OpCode.With p = code.With p
+actionAt b OpCode.Push p = code.Push (u16At b p) (p + 2)
+actionAt b OpCode.Jump p = code.Jump (u16At b p)
+actionAt b OpCode.GetUrl2 p = code.GetUrl2 (getD b p 0) (getD b (p + 1) 0) (getD b (p + 2) 0)
+actionAt b OpCode.DefineFunction p = code.DefineFunction (functionAt b p)
+actionAt b OpCode.If p = code.If (u16At b p)
+actionAt b OpCode.GotoFrame2 p = code.GotoFrame2 (u16At b p) (getD b (p + 2) 0)
 
 -- a case of the code, and the catch target that it shows in a Try of this shape
 pub data ShownTarget (b : List ℕ) (shape : ℕ) : CatchTarget → CatchTargetOf Text → Type 0 where
@@ -163,6 +198,8 @@ pub record ActionReads (b : List ℕ) (p : ℕ) : Type 0 where
   pub next : Place
   pub reads : readAction terms b inner (placed p) ≡ got action next
 
--- r shows the action that the definitions read at p, whatever the terms and the reader of bodies
+-- r is what stands behind the opcode at p. It shows the action that the definitions read at p, whatever the terms and the reader
+-- of bodies
 pub record ShowsAction (b : List ℕ) (p : ℕ) (r : Action) : Type 0 where
+  pub is : (op : OpCode) → opcodeOf (getD b p 0) ≡ some op → r ≡ actionAt b op (p + 1)
   pub shows : (terms : Terms) (inner : Reader (ActionsOf Text ℕ)) (a : ActionOf Text ℕ) (q : Place) → readAction terms b inner (placed p) ≡ got a q → Shown terms b inner (p + 1) r a q

@@ -99,8 +99,14 @@ pub fn push_value_at(b: &[u8], at: usize) -> PushAt
         }
         2 => pushed(PushValue::Null, p),
         3 => pushed(PushValue::Undefined, p),
-        4 => pushed(PushValue::Register(b[p]), p + 1),
-        5 => pushed(PushValue::Boolean(b[p]), p + 1),
+        4 => {
+            let register = b[p];
+            pushed(PushValue::Register(register), p + 1)
+        }
+        5 => {
+            let flag = b[p];
+            pushed(PushValue::Boolean(flag), p + 1)
+        }
         6 => pushed(PushValue::Float(u64_at(b, p)), p + 8),
         7 => pushed(PushValue::Integer(u32_at(b, p)), p + 4),
         _ => pushed(PushValue::Constant(u16_at(b, p)), p + 2),

@@ -28,8 +28,8 @@ pushed-requires-2 c κs = search needs
 pushed-requires-3 : tie.Need-pushed-requires-3
 pushed-requires-3 c κs = search needs
 
-shared-slice-read-t14 : tie.Need-shared-slice-read-t14
-shared-slice-read-t14 c = omega (arith, value-room isRegister (c .before .match .keys4) (c .before .before .before .before .pre))
+shared-slice-read-register : tie.Need-shared-slice-read-register
+shared-slice-read-register c = omega (arith, value-room isRegister (c .before .match .keys4) (c .before .before .before .before .pre))
 
 add-pushed-2 : tie.Need-add-pushed-2
 add-pushed-2 c = omega (arith, value-room isRegister (c .before .match .keys4) (c .before .before .before .before .pre))
@@ -37,8 +37,8 @@ add-pushed-2 c = omega (arith, value-room isRegister (c .before .match .keys4) (
 pushed-requires-4 : tie.Need-pushed-requires-4
 pushed-requires-4 c κs = search needs
 
-shared-slice-read-t18 : tie.Need-shared-slice-read-t18
-shared-slice-read-t18 c = omega (arith, value-room isBoolean (c .before .match .keys5) (c .before .before .before .before .pre))
+shared-slice-read-flag : tie.Need-shared-slice-read-flag
+shared-slice-read-flag c = omega (arith, value-room isBoolean (c .before .match .keys5) (c .before .before .before .before .pre))
 
 add-pushed-3 : tie.Need-add-pushed-3
 add-pushed-3 c = omega (arith, value-room isBoolean (c .before .match .keys5) (c .before .before .before .before .pre))
@@ -108,10 +108,10 @@ push-value-at-spec =
     pushed-requires
     pushed-requires-2
     pushed-requires-3
-    shared-slice-read-t14
+    shared-slice-read-register
     add-pushed-2
     pushed-requires-4
-    shared-slice-read-t18
+    shared-slice-read-flag
     add-pushed-3
     pushed-requires-5
     u64-at-requires
