@@ -12,6 +12,7 @@ pub mod Judge
 pub mod Cut
 pub mod Pack
 pub mod Step
+pub mod Stepping
 pub mod Sums
 pub mod Lengths
 pub mod Order
