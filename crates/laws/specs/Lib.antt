@@ -7,3 +7,4 @@ pub mod ReadFits
 pub mod Packed
 pub mod Resolved
 pub mod Demands
+pub mod Values

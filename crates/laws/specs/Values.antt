@@ -1,0 +1,260 @@
+-- An i64 holds the value of every answer: its lengths, distances and places are bounded by the bytes of the input. Assumes nothing.
+use mathlib.Core.Path.{_≡_, refl, sym, subst}
+use Prim.Native.Nat.{ℕ, suc, _+_, _-_, _*_, _≤_, _<_}
+use native.Mathlib.Omega.{arith}
+use mathlib.Core.Bool.{Bool, true, false, _&&_}
+use mathlib.Core.Option.{Option, none, some}
+use mathlib.Core.List.{List, [], _∷_, _++_}
+use lib.ListN.{length, drop}
+use lib.IntN.{pos, subℕ}
+use lib.Dec.{leb, ltb, eqb}
+use borrow.Author.Tests.{ltb-true, ltb-false}
+use Rattle.layout.specs.Lists.{All}
+use Rattle.layout.specs.Answers.{Refusal, refusalValue, Answer, value, lengthOf}
+use Rattle.layout.specs.OpCode.{OpCode, byte}
+use Rattle.layout.specs.Tree.{Flat, Small, GotoFrame, GetUrl, StoreRegister, ConstantPool, WaitForFrame, SetTarget, GotoLabel, WaitForFrame2, Push, GetUrl2, GotoFrame2, ActionIndex, firstAction, nextAction, Entry, entry, Action, flat, branch, owner, Try, ActionList, empty, more, Actions, ActionsOf, body, Catch, noCatch, catch, Finally, noFinally, finally}
+use Rattle.layout.specs.Read.{Text, edition1, deepest, Read}
+use Rattle.layout.specs.Strings.{mapBody}
+use Rattle.layout.specs.Payload.{opcode, payload, ownerFields, catchName, framed}
+use Rattle.layout.specs.Write.{size, sizes, bodySize, catchSize, finallySize, Position, position, moved, Event, labelAt, branchAt, payloadTooLong, bodyTooLong, eventIf, payloadTest, bodyTest, labelsAt, trace, traces, traceBody, traceCatch, traceFinally, events, later, recordIf, lookup, blockBytes, blockSize}
+use Rattle.layout.specs.Judge.{tooLong, distance, isNear, farUnless, judged, orElse, farBy, judge}
+use Rattle.layout.specs.Cut.{Cut, main, uncut, sheetLimit, trailerDistance, isMarked, cutIf, cutAt, cutIfTrailer, cutIfShort, cut}
+use Rattle.layout.specs.Pack.{unless, ifRoom, packTree, spelling, packRead, packCut, pack}
+use Rattle.layout.specs.Step.{step}
+use Rattle.layout.specs.Stepping.{AtMost, made, unclean, step-most}
+use Rattle.layout.specs.Lengths.{length-framed, length-block}
+use Rattle.layout.specs.Order.{IsI64, zeroUp, below}
+use Rattle.laws.specs.Fits.{Bytes, WellBody}
+use Rattle.laws.specs.ReadFits.{Good, fine, refused, main-good}
+use Rattle.laws.specs.Packed.{IsMain, is-main, main-bytes, spells}
+use Rattle.laws.specs.Demands.{sub-up, sub-down}
+
+-- ---- a payload is no longer than its action
+
+payload-most : (op : OpCode) (q : List ℕ) → ltb (byte op) 128 ≡ false → length q ≤ length (framed op q)
+payload-most op q e = omega (arith, length-framed op q e)
+
+flat-most : (f : Flat) → length (payload f) ≤ size (flat f)
+unfolding size opcode byte
+flat-most (Small op) = unfold payload in omega arith
+flat-most (GotoFrame n) = payload-most OpCode.GotoFrame (payload (GotoFrame n)) refl
+flat-most (GetUrl u t) = payload-most OpCode.GetUrl (payload (GetUrl u t)) refl
+flat-most (StoreRegister r) = payload-most OpCode.StoreRegister (payload (StoreRegister r)) refl
+flat-most (ConstantPool ss) = payload-most OpCode.ConstantPool (payload (ConstantPool ss)) refl
+flat-most (WaitForFrame n k) = payload-most OpCode.WaitForFrame (payload (WaitForFrame n k)) refl
+flat-most (SetTarget s) = payload-most OpCode.SetTarget (payload (SetTarget s)) refl
+flat-most (GotoLabel s) = payload-most OpCode.GotoLabel (payload (GotoLabel s)) refl
+flat-most (WaitForFrame2 k) = payload-most OpCode.WaitForFrame2 (payload (WaitForFrame2 k)) refl
+flat-most (Push vs) = payload-most OpCode.Push (payload (Push vs)) refl
+flat-most (GetUrl2 v t m) = payload-most OpCode.GetUrl2 (payload (GetUrl2 v t m)) refl
+flat-most (GotoFrame2 n p) = payload-most OpCode.GotoFrame2 (payload (GotoFrame2 n p)) refl
+
+-- ---- where the events of a tree lie
+
+module _ (end : ℕ) where
+  -- a label, the end of a branch's operand, a length: at most `end`
+  abbrev Within : Event → Type 0
+  Within (labelAt l s) = s .at ≤ end
+  Within (branchAt l s) = s .at + 2 ≤ end
+  Within (payloadTooLong n s) = n ≤ end
+  Within (bodyTooLong n s) = n ≤ end
+
+  abbrev AllWithin : List Event → Type 0
+  AllWithin es = All Within es
+
+  both : (xs ys : List Event) → AllWithin xs → AllWithin ys → AllWithin (xs ++ ys)
+  both [] ys h k = k
+  both (x ∷ xs) ys h k = (h .0, both xs ys (h .1) k)
+
+  if-within : (t : Bool) (e : Event) → Within e → AllWithin (eventIf t e)
+  unfolding eventIf
+  if-within true e h = (h, tt)
+  if-within false e h = tt
+
+  payload-within : (n : ℕ) (s : Position) → n ≤ end → AllWithin (payloadTest n s)
+  unfolding payloadTest
+  payload-within n s h = if-within (ltb 65535 n) (payloadTooLong n s) h
+
+  length-within : (n : ℕ) (s : Position) → n ≤ end → AllWithin (bodyTest n s)
+  unfolding bodyTest
+  length-within n s h = if-within (ltb 65535 n) (bodyTooLong n s) h
+
+  labels-within : (es : List Entry) (i : ActionIndex) (s : Position) → s .at ≤ end → AllWithin (labelsAt es i s)
+  unfolding labelsAt
+  labels-within [] i s h = tt
+  labels-within (entry l j ∷ es) i s h = both (eventIf (eqb (i .index) (j .index)) (labelAt l s)) _ (if-within (eqb (i .index) (j .index)) (labelAt l s) h) (labels-within es i s h)
+
+  -- of a tree whose bytes end there or before
+  mutual
+    unfolding trace size moved
+
+    action-within : (a : Action) (s : Position) → s .at + size a ≤ end → AllWithin (trace a s)
+    action-within (flat f) s h = payload-within _ s (omega (arith, flat-most f))
+    action-within (branch k l) s h = (omega (arith, h), tt)
+    action-within (owner o b) s h =
+        both (payloadTest _ s) _ (payload-within _ s (omega (arith, h)))
+        (both (traceBody b _) _ (body-within b (moved (5 + length (ownerFields o)) s) (omega (arith, h))) (length-within _ s (omega (arith, h))))
+    action-within (Try b c f) s h =
+        let t : Position = moved (10 + length (catchName c)) s in
+        both (payloadTest _ s) _ (payload-within _ s (omega (arith, h)))
+        (both (traceBody b t) _ (body-within b t (omega (arith, h)))
+        (both (traceCatch c (moved (bodySize b) t)) _ (catch-within c (moved (bodySize b) t) (omega (arith, h)))
+        (both (traceFinally f (moved (bodySize b + catchSize c) t)) _ (finally-within f (moved (bodySize b + catchSize c) t) (omega (arith, h)))
+        (both (bodyTest _ s) _ (length-within _ s (omega (arith, h))) (both (bodyTest _ s) _ (length-within _ s (omega (arith, h))) (length-within _ s (omega (arith, h))))))))
+
+    actions-within : (xs : ActionList) (es : List Entry) (i : ActionIndex) (s : Position) → s .at + sizes xs ≤ end → AllWithin (traces xs es i s)
+    actions-within empty es i s h = labels-within es i s (omega (arith, h))
+    actions-within (more a xs) es i s h =
+        both (labelsAt es i s) _ (labels-within es i s (omega (arith, h)))
+        (both (trace a s) _ (action-within a s (omega (arith, h))) (actions-within xs es (nextAction i) (moved (size a) s) (omega (arith, h))))
+
+    body-within : (b : Actions) (s : Position) → s .at + bodySize b ≤ end → AllWithin (traceBody b s)
+    body-within (body es xs) s h = actions-within xs es firstAction s h
+
+    catch-within : (c : Catch) (s : Position) → s .at + catchSize c ≤ end → AllWithin (traceCatch c s)
+    catch-within noCatch s h = tt
+    catch-within (catch t b) s h = body-within b s h
+
+    finally-within : (f : Finally) (s : Position) → s .at + finallySize f ≤ end → AllWithin (traceFinally f s)
+    finally-within noFinally s h = tt
+    finally-within (finally b) s h = body-within b s h
+
+  -- a label's final record, if it has one, is at most `end`
+  abbrev Recorded : Option Position → Type 0
+  Recorded none = Unit {0}
+  Recorded (some s) = s .at ≤ end
+
+  later-within : (o p : Option Position) → Recorded o → Recorded p → Recorded (later o p)
+  unfolding later
+  later-within o none h k = h
+  later-within o (some s) h k = k
+
+  record-within : (t : Bool) (s : Position) → s .at ≤ end → Recorded (recordIf t s)
+  unfolding recordIf
+  record-within true s h = h
+  record-within false s h = tt
+
+  lookup-within : (l : ℕ) (es : List Event) → AllWithin es → Recorded (lookup l es)
+  unfolding lookup
+  lookup-within l [] h = tt
+  lookup-within l (labelAt k s ∷ es) h = later-within (recordIf (eqb l k) s) (lookup l es) (record-within (eqb l k) s (h .0)) (lookup-within l es (h .1))
+  lookup-within l (branchAt k s ∷ es) h = lookup-within l es (h .1)
+  lookup-within l (payloadTooLong n s ∷ es) h = lookup-within l es (h .1)
+  lookup-within l (bodyTooLong n s ∷ es) h = lookup-within l es (h .1)
+
+-- ---- the answer of a tree
+
+-- an i64 holds the refusal's value, if there is one
+abbrev Held : Option Refusal → Type 0
+Held none = Unit {0}
+Held (some r) = IsI64 (refusalValue r)
+
+or-held : (x y : Option Refusal) → Held x → Held y → Held (orElse x y)
+unfolding orElse
+or-held none y h k = k
+or-held (some r) y h k = h
+
+-- it holds the difference of two natural numbers that it holds
+sub-held : (a b : ℕ) → a < 9223372036854775808 → b < 9223372036854775808 → IsI64 (subℕ a b)
+sub-held a b h k = go (ltb a b) refl
+  where
+    go : (t : Bool) → ltb a b ≡ t → IsI64 (subℕ a b)
+    go true e = subst IsI64 (sym (sub-down a b (ltb-true a b e))) (below {n = b - suc a} (omega arith))
+    go false e = subst IsI64 (sym (sub-up a b (ltb-false a b e))) (zeroUp {n = a - b} (omega arith))
+
+module _ (end : ℕ) (small : end < 9223372036854775808) where
+  long-held : (es : List Event) → AllWithin end es → Held (tooLong es)
+  unfolding tooLong refusalValue
+  long-held [] h = tt
+  long-held (labelAt l s ∷ es) h = long-held es (h .1)
+  long-held (branchAt l s ∷ es) h = long-held es (h .1)
+  long-held (payloadTooLong n s ∷ es) h = zeroUp {n = n} (omega (arith, h .0))
+  long-held (bodyTooLong n s ∷ es) h = zeroUp {n = n} (omega (arith, h .0))
+
+  judged-held : (o : Option Position) (after : ℕ) → Recorded end o → after ≤ end → Held (judged o after)
+  unfolding judged
+  judged-held none after h k = tt
+  judged-held (some s) after h k = go (isNear (s .at) after)
+    where
+      go : (t : Bool) → Held (farUnless t (distance (some s) after))
+      go true = unfold farUnless in tt
+      go false = unfold farUnless refusalValue distance in sub-held (s .at) after (omega arith) (omega arith)
+
+  far-held : (final : ℕ → Option Position) → ((l : ℕ) → Recorded end (final l)) → (es : List Event) → AllWithin end es → Held (farBy final es)
+  unfolding farBy
+  far-held final f [] h = tt
+  far-held final f (labelAt l s ∷ es) h = far-held final f es (h .1)
+  far-held final f (branchAt l s ∷ es) h =
+      or-held (judged (final l) (s .at + 2)) (farBy final es) (judged-held (final l) (s .at + 2) (f l) (h .0)) (far-held final f es (h .1))
+  far-held final f (payloadTooLong n s ∷ es) h = far-held final f es (h .1)
+  far-held final f (bodyTooLong n s ∷ es) h = far-held final f es (h .1)
+
+-- whatever the room
+tree-i64 : (t : Actions) (room : ℕ) → bodySize t + 1 < 9223372036854775808 → IsI64 (value lengthOf (packTree t room))
+unfolding packTree
+tree-i64 t room small = go (judge t) (leb (blockSize t) room) judge-held
+  where
+    all : AllWithin (bodySize t) (events t)
+    all = unfold events in body-within (bodySize t) t (position 0) (omega arith)
+
+    judge-held : Held (judge t)
+    judge-held =
+        unfold judge in
+        or-held (tooLong (events t)) (farBy (λ l. lookup l (events t)) (events t)) (long-held (bodySize t) (omega arith) (events t) all)
+        (far-held (bodySize t) (omega arith) (λ l. lookup l (events t)) (λ l. lookup-within (bodySize t) l (events t) all) (events t) all)
+
+    go : (o : Option Refusal) (z : Bool) → Held o → IsI64 (value lengthOf (unless o (ifRoom z (blockBytes t) (blockSize t))))
+    go (some r) z h = unfold unless value in h
+    go none true h = unfold unless ifRoom value in zeroUp {n = length (blockBytes t)} (unfold blockSize in omega (arith, length-block t))
+    go none false h = unfold unless ifRoom value refusalValue in zeroUp {n = blockSize t} (unfold blockSize in omega arith)
+
+-- ---- the answer of a sheet
+
+abbrev CutHeld : Cut → Type 0
+CutHeld (main start b) = Unit {0}
+CutHeld (uncut r) = IsI64 (refusalValue r)
+
+cut-held : (s : List ℕ) → length s < 9223372036854775808 → CutHeld (cut s)
+unfolding cut cutIfShort cutIfTrailer cutAt cutIf refusalValue
+cut-held s h = short (leb (length s) sheetLimit)
+  where
+    marked : (z : Bool) (n d : ℕ) → CutHeld (cutIf z s n d)
+    marked true n d = tt
+    marked false n d = zeroUp {n = 0} (omega arith)
+
+    trailer : (y : Bool) → CutHeld (cutIfTrailer y s)
+    trailer true = marked (isMarked (drop (length s - 8) s) && leb (trailerDistance (drop (length s - 8) s)) (length s - 8)) (length s - 8) (trailerDistance (drop (length s - 8) s))
+    trailer false = zeroUp {n = 0} (omega arith)
+
+    short : (x : Bool) → CutHeld (cutIfShort x s)
+    short true = trailer (leb 8 (length s))
+    short false = zeroUp {n = length s} h
+
+-- what is read of a main body of at most 1,048,576 bytes
+read-i64 : (start n room : ℕ) {r : Read (ActionsOf Text ℕ)} → start + n ≤ sheetLimit
+    → Good n (λ x q. WellBody (mapBody spelling x) × (Unit {0} → bodySize (mapBody spelling x) + 12 ≤ 3 * n)) r → IsI64 (value lengthOf (packRead start r room))
+unfolding packRead value refusalValue
+read-i64 start n room l (fine {a} {p} h k) = tree-i64 (mapBody spelling a) room (omega (arith, h .1 tt))
+read-i64 start n room l (refused {f} {p} k) = zeroUp {n = start + p .at} (omega arith)
+
+-- Every lent sheet is so short: a slice in Rust and an object in C have at most 2^63 - 1 bytes. Only answer 1 uses it, whose value is
+-- the sheet's length
+pub pack-i64 : (s : List ℕ) (room : ℕ) → Bytes s → length s < 9223372036854775808 → IsI64 (value lengthOf (pack s room))
+unfolding pack packCut
+pack-i64 s room small h = go (cut s) refl (cut-held s h)
+  where
+    go : (c : Cut) → cut s ≡ c → CutHeld c → IsI64 (value lengthOf (packCut c room))
+    go (main start b) e k =
+        let m : IsMain s start b = is-main s start b e in
+        let bytes : Bytes b = main-bytes s start b small e in
+        read-i64 start (length b) room (omega (arith, m .is-long, m .is-limited)) (main-good edition1 b bytes spelling (Unit {0}) (spells b bytes edition1) deepest)
+    go (uncut r) e k = unfold value in k
+
+-- ---- the stepping check, of a byte string that is as short
+
+pub step-i64 : (s : List ℕ) → length s < 9223372036854775808 → IsI64 (value pos (step s))
+step-i64 s h = go (step-most s)
+  where
+    go : {a : Answer ℕ} → AtMost (length s) a → IsI64 (value pos a)
+    go (made {k} l) = unfold value in zeroUp {n = k} (omega arith)
+    go (unclean {p} l) = unfold value refusalValue in zeroUp {n = p} (omega arith)
