@@ -2,19 +2,24 @@
 # native-lib.sh [CRATE [OUT]]: proves CRATE (merinovault) and builds its static library, as `rt staticlib` does, and writes to OUT
 # (target/native/libCRATE.a) an archive that can be linked on this machine. On x86-64 that is the archive itself. On Arm the very
 # module that the compiler made for x86-64 is compiled a second time, with only its target lines changed: it is for tests
-# (docs/LINKING.md says what it shows and what not).
+# (docs/LINKING.md says what it shows and what not). What it is doing it tells on standard error.
 set -euo pipefail
 cd "$(dirname "${BASH_SOURCE[0]}")/.."
+. tools/prove.sh
 crate=${1:-merinovault} out=${2:-target/native/lib${1:-merinovault}.a}
 machine=$(uname -m)
-mkdir -p target "$(dirname "$out")"
+case $machine in x86_64 | aarch64) ;; *) say "only x86-64 and Arm (aarch64) are known here, not $machine"; exit 2 ;; esac
+mkdir -p "$(dirname "$out")"
 
+# `rt staticlib` proves what is not proved yet one crate after another, so `rt check` comes first, which proves several at a time.
+prove "$crate"
+say "builds the archive, which proves $crate itself once more"
 if [ "$machine" = x86_64 ]; then
-  rt staticlib "$crate"
+  logged target/staticlib.log rt staticlib "$crate"
   cp "target/staticlib/lib$crate.a" "$out"
+  say "$out is written"
   exit
 fi
-[ "$machine" = aarch64 ] || { echo "native-lib.sh: only x86-64 and Arm (aarch64) are known here, not $machine" >&2; exit 2; }
 
 # A kit of links to the installed one, but for its clang: that one keeps a copy of the module it is given.
 kit=$(dirname "$(dirname "$(rt doc)")")
@@ -38,8 +43,8 @@ case " \$* " in *" - "*) cat >"$work/module" && exec "$clang" "\$@" <"$work/modu
 exec "$clang" "\$@"
 EOS
 chmod +x "$work/kit/$tools/bin/clang"
-RATTLE_HOME=$work/kit rt staticlib "$crate"
-[ -s "$work/module" ] || { echo "native-lib.sh: the kit's clang was given no module" >&2; exit 2; }
+logged target/staticlib.log env RATTLE_HOME="$work/kit" rt staticlib "$crate"
+[ -s "$work/module" ] || { say "the kit's clang was given no module"; exit 2; }
 
 # The module as text, unchanged; its target lines and its two x86-64 attributes for this machine; and compiled as the kit does.
 "$clang" --no-default-config --target=x86_64-unknown-linux-gnu -x ir "$work/module" -S -emit-llvm -O3 -Xclang -disable-llvm-passes -o "$work/x86_64.ll"
@@ -49,4 +54,4 @@ sed -e 's/^target datalayout = .*/target datalayout = "e-m:e-p270:32:32-p271:32:
 "$clang" --no-default-config --target=aarch64-unknown-linux-gnu -ffunction-sections -fPIC -O3 -c -x ir "$work/aarch64.ll" -o "$work/$crate.o"
 rm -f "$out"
 ar rcs "$out" "$work/$crate.o"
-echo "native-lib.sh: $out has the same functions for $machine, for tests"
+say "$out is written: the same functions for $machine, for tests"

@@ -16,7 +16,7 @@ say() { echo "test-native.sh: $*"; }
 try() { # WHAT EXAMPLE DRIVER
   run "$2" | cmp - c/example.stdout
   run "$3" <crates/replay/stdin | cmp - crates/replay/stdout
-  say "$1: the example, and the driver on the list of crates/replay"
+  say "$1: the example, and the driver on the list of crates/replay, write what they must"
 }
 
 tools/native-lib.sh merinovault "$native"
@@ -27,9 +27,11 @@ echo '#include "merinovault.h"' >"$made/header.c"
 "$cxx" -x c++ -std=c++17 "${strict[@]}" -c "$made/header.c" -o "$made/header.o"
 say "the header compiles as C11 and as C++17"
 
+say "the Rust crate's tests:"
 MERINOVAULT_LIB_DIR=$PWD/target/native cargo test --offline --manifest-path rust/Cargo.toml
 say "the Rust crate's tests pass"
 
+say "the C example and the driver, plain and under the sanitizers:"
 run() { "$@"; }
 for name in example driver; do
   "$cc" -std=c11 "${strict[@]}" -O2 "c/$name.c" "$native" -o "$made/$name"
@@ -39,6 +41,7 @@ try "for $(uname -m)" "$made/example" "$made/driver"
 try "for $(uname -m), sanitized" "$made/example-sanitized" "$made/driver-sanitized"
 
 if [ "$(uname -m)" != x86_64 ]; then
+  say "the same for x86-64:"
   kit=$(dirname "$(dirname "$(rt doc)")")/on/$(uname -m)
   # The C library's headers of this machine serve here: of what is used, nothing differs on x86-64.
   headers=/usr/include/$("$cc" -print-multiarch 2>/dev/null || true)
