@@ -1,4 +1,4 @@
-# prove.sh, sourced by scripts that stand in the top folder of the checkout: how they prove, and what they say while they work.
+# prove.sh, sourced by the scripts beside it, which work in the checkout's top folder: how they prove and say what they do.
 # All of it goes to standard error, so that standard output has a script's answer alone.
 # shellcheck shell=bash
 

@@ -7,6 +7,9 @@
 set -euo pipefail
 cd "$(dirname "${BASH_SOURCE[0]}")/.."
 cc=${CC:-cc} cxx=${CXX:-c++}
+. tools/prove.sh
+needs rt cargo "$cc" "$cxx"
+[ "$(uname -m)" = x86_64 ] || needs clang
 strict=(-Wall -Wextra -Wpedantic -Wconversion -Wshadow -Werror -Iinclude)
 shipped=target/staticlib/libmerinovault.a native=target/native/libmerinovault.a
 made=target/native/c
