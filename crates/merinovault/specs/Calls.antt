@@ -1,10 +1,35 @@
--- What a C-callable entry does with a value slice of another length. Assumes nothing.
-use Prim.Native.Nat.{ℕ}
+-- What a call of a C-callable entry leaves: the number that it returns, and what the lent slices then hold. Assumes nothing.
+use mathlib.Core.Path.{_≡_}
+use Prim.Native.Nat.{ℕ, _<_}
 use mathlib.Core.List.{List}
 use lib.ListN.{length}
+use lib.IntN.{pos}
 use lib.Dec.{eqb}
 use Rattle.layout.specs.Lists.{pick}
+use Rattle.layout.specs.Answers.{number, lengthOf, valueBytes}
+use Rattle.layout.specs.Pack.{pack, output}
+use Rattle.layout.specs.Step.{step}
+use Rattle.laws.specs.Fits.{Bytes}
 
 -- "any other length of that slice returns 11 with nothing written, tested before everything else": the first if it is 8
 unfoldable pub ifEight : {A : Type 0} → List ℕ → A → A → A
 ifEight value a b = pick (eqb (length value) 8) a b
+
+-- what every lent slice is: bytes, and under 2 to the 63rd of them, since no object in memory has more
+pub record Lent (s : List ℕ) : Type 0 where
+  pub bytes : Bytes s
+  pub short : length s < 9223372036854775808
+
+-- merinovault_pack, on a sheet s, with an output that held o and a value slice that held v: it returns n, and the value slice then
+-- holds v′ and the output `after`
+pub record PackCalled (s o v : List ℕ) (n : ℕ) (v′ after : List ℕ) : Type 0 where
+  pub is-lent : Lent s
+  pub is-number : n ≡ ifEight v (number (pack s (length o))) 11
+  pub is-value : v′ ≡ ifEight v (valueBytes lengthOf (pack s (length o))) v
+  pub is-output : after ≡ ifEight v (output (pack s (length o)) o) o
+
+-- merinovault_step, on a byte string s, with a value slice that held v: it returns n, and the value slice then holds v′
+pub record StepCalled (s v : List ℕ) (n : ℕ) (v′ : List ℕ) : Type 0 where
+  pub is-lent : Lent s
+  pub is-number : n ≡ ifEight v (number (step s)) 11
+  pub is-value : v′ ≡ ifEight v (valueBytes pos (step s)) v

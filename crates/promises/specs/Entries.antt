@@ -1,18 +1,17 @@
--- What a C-callable entry promises, from the equations that are its contract in crates/merinovault/src/lib.rt: its value is read
--- back from eight bytes, and so every theorem of Calls holds of the packer's entry. Assumes nothing.
+-- What a C-callable entry promises, from its contract, `PackCalled` or `StepCalled`: its value is read back from eight bytes, and so
+-- every theorem of Calls holds of the packer's entry. Assumes nothing.
 use mathlib.Core.Path.{_≡_, ap, _∙_}
-use Prim.Native.Nat.{ℕ, _<_}
+use Prim.Native.Nat.{ℕ}
 use mathlib.Core.List.{List}
 use lib.ListN.{length}
 use lib.IntN.{ℤ, pos}
 use Rattle.layout.specs.Numbers.{u64At}
-use Rattle.layout.specs.Answers.{Answer, number, value, lengthOf, Told, valueBytes}
-use Rattle.layout.specs.Pack.{pack, output, Outcome}
+use Rattle.layout.specs.Answers.{Answer, value, lengthOf, Told, valueBytes}
+use Rattle.layout.specs.Pack.{pack, Outcome}
 use Rattle.layout.specs.Step.{step}
 use Rattle.layout.specs.Order.{IsI64, signed64, value-back}
-use Rattle.laws.specs.Fits.{Bytes}
 use Rattle.laws.specs.Values.{pack-i64, step-i64}
-use Rattle.merinovault.specs.Calls.{ifEight}
+use Rattle.merinovault.specs.Calls.{ifEight, PackCalled, StepCalled}
 use Rattle.merinovault.proofs.Values.{eight, other}
 
 -- ---- the value slice
@@ -31,19 +30,12 @@ read-back done a v v′ e i h =
 
 -- ---- merinovault_pack
 
--- its contract: on a sheet s, with an output that held o and a value slice that held v, it returns n, and the value slice then holds
--- v′ and the output `after`
-pub record PackCalled (s o v : List ℕ) (n : ℕ) (v′ after : List ℕ) : Type 0 where
-  pub is-number : n ≡ ifEight v (number (pack s (length o))) 11
-  pub is-value : v′ ≡ ifEight v (valueBytes lengthOf (pack s (length o))) v
-  pub is-output : after ≡ ifEight v (output (pack s (length o)) o) o
-
 module _ {s o v : List ℕ} {n : ℕ} {v′ after : List ℕ} (h : PackCalled s o v n v′ after) where
-  -- with a value slice of eight bytes; laws' Values says why every lent sheet is so short
-  module _ (small : Bytes s) (short : length s < 9223372036854775808) (is-eight : length v ≡ 8) where
+  -- with a value slice of eight bytes
+  module _ (is-eight : length v ≡ 8) where
     -- the slice then tells the answer's value
     pub pack-value : valueIn v′ ≡ value lengthOf (pack s (length o))
-    pack-value = read-back lengthOf (pack s (length o)) v v′ is-eight (pack-i64 s (length o) small short) (h .is-value)
+    pack-value = read-back lengthOf (pack s (length o)) v v′ is-eight (pack-i64 s (length o) (h .is-lent .bytes) (h .is-lent .short)) (h .is-value)
 
     -- and the call leaves what a call of the packer leaves
     pub pack-outcome : Outcome s o n (valueIn v′) after
@@ -59,15 +51,10 @@ module _ {s o v : List ℕ} {n : ℕ} {v′ after : List ℕ} (h : PackCalled s 
 
 -- ---- merinovault_step
 
--- its contract: on a byte string s, with a value slice that held v, it returns n, and the value slice then holds v′
-pub record StepCalled (s v : List ℕ) (n : ℕ) (v′ : List ℕ) : Type 0 where
-  pub is-number : n ≡ ifEight v (number (step s)) 11
-  pub is-value : v′ ≡ ifEight v (valueBytes pos (step s)) v
-
 module _ {s v : List ℕ} {n : ℕ} {v′ : List ℕ} (h : StepCalled s v n v′) where
-  module _ (short : length s < 9223372036854775808) (is-eight : length v ≡ 8) where
+  module _ (is-eight : length v ≡ 8) where
     pub step-value : valueIn v′ ≡ value pos (step s)
-    step-value = read-back pos (step s) v v′ is-eight (step-i64 s short) (h .is-value)
+    step-value = read-back pos (step s) v v′ is-eight (step-i64 s (h .is-lent .short)) (h .is-value)
 
     -- number and value are those of the stepping check
     pub step-told : Told pos (step s) n (valueIn v′)

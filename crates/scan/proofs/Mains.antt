@@ -1,6 +1,6 @@
 -- Laws of a whole main body: from what the walk leaves to the final table and the first overflow. Assumes nothing.
 use mathlib.Core.Path.{_≡_, refl, ap, _∙_}
-use Prim.Native.Nat.{ℕ, suc, _+_, _≤_, _<_}
+use Prim.Native.Nat.{ℕ, _+_, _≤_, _<_}
 use native.Mathlib.Omega.{arith}
 use mathlib.Core.List.{List, [], _∷_}
 use lib.ListN.{length, getD, set, replicate, length-set, length-replicate, getD-replicate}
@@ -30,12 +30,6 @@ use Rattle.measure.specs.Walk.{State, state, noted, noteAll, run, fault, outcom
 use Rattle.bodies.specs.Ready.{Ready}
 use Rattle.scan.specs.Mains.{Empty, Holds, MainScanned, whole, stopped}
 use Rattle.bodies.proofs.Walks.{ran-is, ran-bad, outcome-is}
-
--- ---- every element of a slice of bytes is one
-
-pub all-bytes : (b : List ℕ) → ((i : ℕ) → i < length b → getD b i 0 < 256) → Bytes b
-all-bytes [] h = tt
-all-bytes (x ∷ b) h = (h 0 (omega arith), all-bytes b (λ i l. h (suc i) (omega arith)))
 
 -- ---- the first overflow is kept
 

@@ -1,16 +1,17 @@
 -- Laws of the stepping check's definition, a turn of the loop at a time. Assumes nothing.
 use mathlib.Core.Path.{_≡_, refl, sym, ap, _∙_}
-use Prim.Native.Nat.{ℕ, zero, suc, _+_, _-_, _≤_, _<_}
+use Prim.Native.Nat.{ℕ, suc, _+_, _-_, _≤_, _<_}
 use native.Mathlib.Omega.{arith}
 use mathlib.Core.Bool.{Bool, true, false, false≢true}
 use mathlib.Core.List.{List}
 use lib.ListN.{length, getD}
 use lib.Dec.{leb, ltb, eqb}
-use borrow.Author.Tests.{eq-eqb, ne-eqb, lt-ltb, le-ltb, le-leb, lt-leb, leb-true, ltb-true, ltb-false}
+use borrow.Author.Tests.{eq-eqb, ne-eqb, lt-ltb, le-ltb, le-leb, lt-leb, leb-true}
 use Rattle.layout.specs.Lists.{pick}
 use Rattle.layout.specs.Numbers.{u16At}
 use Rattle.layout.specs.Answers as answers
 use Rattle.layout.specs.Step.{reach, ended, walk, step}
+use Rattle.layout.specs.Stepping.{used-up, any-allowance}
 use Rattle.step.specs.Steps.{lookAt, told}
 use Rattle.step.specs.declared.Look.{Look}
 use Rattle.step.specs.declared.Look.the-variants.{End, Next, Cut}
@@ -65,23 +66,6 @@ module _ (s : List ℕ) where
       go true e false false = unfold pick in refl
       go false e x y = absurd (false≢true e)
 
-  pub used-up : (left p k : ℕ) → length s ≤ p → walk s left p k ≡ answers.Refused (answers.Unclean p)
-  unfolding walk
-  used-up zero p k h = refl
-  used-up (suc left) p k h = go (ltb p (length s)) (le-ltb p (length s) h)
-    where
-      go : (t : Bool) → t ≡ false
-          → _≡_ {A = answers.Answer ℕ} (elim t [
-            | false ↦ answers.Refused (answers.Unclean p)
-            | true ↦ elim (eqb (getD s p 0) 0) [
-              | true ↦ ended (eqb (p + 1) (length s)) p k
-              | false ↦ elim (leb (p + reach (ltb (getD s p 0) 128) s p) (length s))
-                  [ false ↦ answers.Refused (answers.Unclean p) | true ↦ walk s left (p + reach (ltb (getD s p 0) 128) s p) (k + 1) ]
-            ]
-          ]) (answers.Refused (answers.Unclean p))
-      go true e = absurd (false≢true (sym e))
-      go false e = refl
-
   -- a step goes forward, and stays within the block
   pub ahead : (p q : ℕ) → lookAt s p ≡ Next q → (p < q) × (q ≤ length s)
   unfolding lookAt
@@ -104,27 +88,6 @@ module _ (s : List ℕ) where
           unfold pick in
           let z : _≡_ {A = ℕ} 0 1 = cc in
           absurd (omega arith)
-
-  -- as many steps as there are bytes left suffice: more change nothing
-  enough : (f g p k : ℕ) → length s - p ≤ f → length s - p ≤ g → walk s f p k ≡ walk s g p k
-  enough zero g p k hf hg = used-up zero p k (omega (arith, hf)) ∙ sym (used-up g p k (omega (arith, hf)))
-  enough (suc f) zero p k hf hg = used-up (suc f) p k (omega (arith, hg)) ∙ sym (used-up zero p k (omega (arith, hg)))
-  enough (suc f) (suc g) p k hf hg = go (ltb p (length s)) refl (λ q h i. enough f g q (k + 1) h i)
-    where
-      same : (l : Look) → lookAt s p ≡ l → p < length s → ((q : ℕ) → length s - q ≤ f → length s - q ≤ g → walk s f q (k + 1) ≡ walk s g q (k + 1))
-          → on-look l (ended (eqb (p + 1) (length s)) p k) (λ q. walk s f q (k + 1)) (answers.Refused (answers.Unclean p))
-          ≡ on-look l (ended (eqb (p + 1) (length s)) p k) (λ q. walk s g q (k + 1)) (answers.Refused (answers.Unclean p))
-      same End e h again = unfold on-look in refl
-      same (Next q) e h again =
-          let a = ahead p q e in
-          unfold on-look in again q (omega (arith, a .0, hf)) (omega (arith, a .0, hg))
-      same Cut e h again = unfold on-look in refl
-
-      go : (t : Bool) → ltb p (length s) ≡ t → ((q : ℕ) → length s - q ≤ f → length s - q ≤ g → walk s f q (k + 1) ≡ walk s g q (k + 1)) → walk s (suc f) p k ≡ walk s (suc g) p k
-      go true e again =
-          let h = ltb-true p (length s) e in
-          one-step f p k h ∙ same (lookAt s p) refl h again ∙ sym (one-step g p k h)
-      go false e again = used-up (suc f) p k (ltb-false p (length s) e) ∙ sym (used-up (suc g) p k (ltb-false p (length s) e))
 
 -- ---- the loop
 
@@ -174,7 +137,7 @@ module _ (s : List ℕ) (p k : ℕ) (g : Going s p k) where
         record {
           inside = a .1;
           counted = omega (arith, a .0, g .counted);
-          same = enough s (suc (length s - q)) (length s - p) q (k + 1) (omega arith) (omega (arith, a .0)) ∙ last (rw f at here);
+          same = any-allowance s (suc (length s - q)) (length s - p) q (k + 1) (omega arith) (omega (arith, a .0)) ∙ last (rw f at here);
         }
       where
         last : on-look s (Next q) (ended (eqb (p + 1) (length s)) p k) (λ q. walk s (length s - p) q (k + 1)) (answers.Refused (answers.Unclean p)) ≡ step s → walk s (length s - p) q (k + 1) ≡ step s

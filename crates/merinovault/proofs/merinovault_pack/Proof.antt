@@ -1,12 +1,22 @@
-use Rattle.merinovault.proofs.Values.{eight, other, told-bytes}
-use Rattle.layout.specs.Answers.{lengthOf}
+-- `merinovault_pack` meets its contract: it tells and leaves what `pack` does, or nothing with a value slice of another length.
+-- Assumes nothing.
 use mathlib.Core.Path.{sym, _∙_}
+use native.Mathlib.Omega.{arith}
+use Rattle.layout.specs.Answers.{lengthOf}
+use Rattle.laws.specs.Fits.{all-bytes}
+use Rattle.merinovault.specs.Calls.{Lent}
+use Rattle.merinovault.proofs.Values.{eight, other, told-bytes}
 use borrow.Author.Needs.{needs}
 use Rattle.merinovault.proofs.merinovault_pack.Statement.{statement}
 use Rattle.merinovault.proofs.merinovault_pack.Tie as tie
 
+is-lent : (c : tie.After-shared-slice-known) → Lent (c .before .args .sheet .now)
+is-lent c = record { bytes = all-bytes (c .before .args .sheet .now) (λ i l. omega (arith, c .shared-slice-known .given i)); short = search needs }
+
 returns : tie.Need-returns
-returns c = (sym (other _ _ _ (c .if1 .taken)), (sym (other _ _ _ (c .if1 .taken)), sym (other _ _ _ (c .if1 .taken))))
+returns c =
+    let e = c .if1 .taken in
+    record { is-lent = is-lent (c .before .before .before); is-number = sym (other _ _ _ e); is-value = sym (other _ _ _ e); is-output = sym (other _ _ _ e) }
 
 pack-requires : tie.Need-pack-requires
 pack-requires c κs = search needs
@@ -27,7 +37,15 @@ same-length-2 : tie.Need-same-length-2
 same-length-2 c = search needs
 
 returns-2 : tie.Need-returns-2
-returns-2 c = let e = c .before .before .before .before .before .before .before .before .before .before .if1 .left in let o = c .before .before .before .before .before .before .before .before .pack .ensures in (c .number-of .ensures ∙ o .told .is-number ∙ sym (eight _ _ _ e), (told-bytes lengthOf _ (c .before .before .before .fill-u64 .ensures) (c .before .before .before .before .value-of .ensures .0) (o .told .is-value) ∙ sym (eight _ _ _ e), o .holds ∙ sym (eight _ _ _ e)))
+returns-2 c =
+    let e = c .before .before .before .before .before .before .before .before .before .before .if1 .left in
+    let o = c .before .before .before .before .before .before .before .before .pack .ensures in
+    record {
+      is-lent = is-lent (c .before .before .before .before .before .before .before .before .before .before .before .before .before);
+      is-number = c .number-of .ensures ∙ o .told .is-number ∙ sym (eight _ _ _ e);
+      is-value = told-bytes lengthOf _ (c .before .before .before .fill-u64 .ensures) (c .before .before .before .before .value-of .ensures .0) (o .told .is-value) ∙ sym (eight _ _ _ e);
+      is-output = o .holds ∙ sym (eight _ _ _ e);
+    }
 
 pub merinovault-pack-spec : {M : Type 1} → statement M
 merinovault-pack-spec =

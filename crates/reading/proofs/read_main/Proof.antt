@@ -1,8 +1,8 @@
 -- `reading::read_main` meets its contract: the walk stops at a fault, or leaves what packing goes on with. Assumes nothing.
 use mathlib.Core.Path.{_∙_}
 use native.Mathlib.Omega.{arith}
-use Rattle.laws.specs.Fits.{Bytes}
-use Rattle.scan.proofs.Mains.{all-bytes, main-place}
+use Rattle.laws.specs.Fits.{Bytes, all-bytes}
+use Rattle.scan.proofs.Mains.{main-place}
 use Rattle.reading.proofs.Sheets as sheets
 use borrow.Author.Needs.{needs}
 use Rattle.reading.proofs.read_main.Statement.{statement}

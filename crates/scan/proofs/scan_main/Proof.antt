@@ -1,4 +1,5 @@
-use Rattle.scan.proofs.Mains.{all-bytes, ready, main-stops, main-left, main-whole}
+use Rattle.laws.specs.Fits.{all-bytes}
+use Rattle.scan.proofs.Mains.{ready, main-stops, main-left, main-whole}
 use Rattle.positions.specs.Scanned.{faultOf}
 use native.Mathlib.Omega.{arith}
 use borrow.Author.Needs.{needs}
