@@ -29,7 +29,8 @@ pub fn u64_at(b: &[u8], at: usize) -> u64
     (u32_at(b, at) as u64) + 4294967296 * (u32_at(b, at + 4) as u64)
 }
 
-// The least of n bytes, or 255. (The loop has no way out and chooses a value, so that it runs on many bytes at a time.)
+// The least of n bytes, or 255. The loop always runs to its end and only chooses values, so that it is compiled to work on many
+// bytes at a time.
 fn least_byte(b: &[u8], at: usize, n: usize) -> u8
     requires { ⌜ at + n ≤ length (now b) ⌝ }
     ensures { λ r. ⌜ ((k : ℕ) → k < n → r ≤ getD (now (b .entry)) (at + k) 0) ⌝ }

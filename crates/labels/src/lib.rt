@@ -12,7 +12,8 @@ use fields::u32_at;
 use positions::ActionIndex;
 use positions::BytePosition;
 
-// The least of n entries at or above `from`. (The loop has no way out and chooses values, so that it runs on several at a time.)
+// The least of n entries at or above `from`. The loop always runs to its end and only chooses values, so that it is compiled to
+// work on several entries at a time.
 pub fn due_entry(b: &[u8], at: usize, n: usize, from: u32) -> u32
     requires { ⌜ at + 4 * n ≤ length (now b) ⌝ }
     ensures { λ r. ⌜ r ≡ due (entriesAt (now (b .entry)) n at) from ⌝ }

@@ -111,8 +111,8 @@ fn write_try_blocks(
     }
 }
 
-// An action within which `depth` bodies may stand one in another. (A callee's result is taken apart and made anew in each
-// arm: handed on as it is, it would lie in memory on every way.)
+// An action within which `depth` bodies may stand one in another. Each arm makes its result anew from a callee's: handed on as it
+// is, a callee's result would be kept in memory, also for actions without a body.
 fn write_action(
     b: &[u8],
     at: usize,
