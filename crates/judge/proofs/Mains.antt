@@ -7,15 +7,16 @@ use mathlib.Core.Bool.{Bool, true, false}
 use mathlib.Core.Option.{Option, none, some}
 use mathlib.Core.List.{List, [], _∷_}
 use lib.ListN.{getD, List·getD-eq-default}
-use lib.Dec.{ltb, eqb}
+use lib.Dec.{ltb}
 use borrow.Author.Tests.{ltb-true, ltb-false, le-leb}
 use Rattle.layout.specs.Tree.{Actions}
 use Rattle.layout.specs.Read.{edition1, placed, got, readBody}
-use Rattle.layout.specs.Write.{bodySize, Position, position, Event, labelAt, branchAt, payloadTooLong, bodyTooLong, traceBody, events, later, recordIf, lookup}
+use Rattle.layout.specs.Write.{bodySize, Position, position, Event, labelAt, branchAt, payloadTooLong, bodyTooLong, traceBody, events, lookup}
 use Rattle.layout.specs.Judge.{isNear, farUnless, judged, orElse, farBy, tooFar}
 use Rattle.layout.specs.Pack.{spelling}
 use Rattle.laws.specs.ReadFits.{good-got, body-good}
 use Rattle.laws.specs.Packed.{spells, same-tree}
+use Rattle.laws.specs.Within.{AllWithin, body-within, Recorded, lookup-within}
 use Rattle.labels.specs.Table.{slot, recordAt, TableHolds}
 use Rattle.positions.specs.declared.BytePosition.{BytePosition}
 use Rattle.labels.proofs.Labels.{table-record}
@@ -23,7 +24,8 @@ use Rattle.laws.specs.Resolved.{bodyLength, bodyEvents}
 use Rattle.measure.specs.Walk.{measure, branches, measured}
 use Rattle.pcode.proofs.Readings.{given}
 use Rattle.pcode.proofs.Trees.{UnderBody, main-body, body-under}
-use Rattle.pcode.proofs.Within.{Within, body-within, far-same}
+use Rattle.pcode.proofs.Labels as labels
+use Rattle.pcode.proofs.Labels.{BranchesUnder, far-same}
 use Rattle.judge.specs.declared.Judged.{Judged}
 use Rattle.judge.specs.declared.Judged.the-variants as code
 use Rattle.judge.specs.declared.Verdict.{Verdict}
@@ -32,53 +34,24 @@ use Rattle.labels.specs.Mains.{MainMeasured}
 use Rattle.judge.specs.Judging.{Judgeable, Judging, Says, MainJudged}
 use Rattle.judge.proofs.Loops.{found, found-far}
 
--- ---- records
+-- ---- a short block
 
-module _ (n end : ℕ) where
-  -- a record lies there too
-  Lies : Option Position → Type 0
-  Lies none = Unit {0}
-  Lies (some s) = s .at ≤ end
-
-  later-lies : (o p : Option Position) → Lies o → Lies p → Lies (later o p)
-  unfolding Lies later
-  later-lies o none h k = h
-  later-lies o (some s) h k = k
-
-  lookup-lies : (l : ℕ) (es : List Event) → Within n end es → Lies (lookup l es)
-  unfolding Lies lookup
-  lookup-lies l [] h = tt
-  lookup-lies l (labelAt m s ∷ es) h = later-lies (recordIf (eqb l m) s) (lookup l es) (one (eqb l m)) (lookup-lies l es (h .1))
-    where
-      one : (t : Bool) → Lies (recordIf t s)
-      one true = unfold recordIf in h .0
-      one false = unfold recordIf in tt
-  lookup-lies l (branchAt m s ∷ es) h = lookup-lies l es (h .1)
-  lookup-lies l (payloadTooLong m s ∷ es) h = lookup-lies l es h
-  lookup-lies l (bodyTooLong m s ∷ es) h = lookup-lies l es h
-
-  slot-lies : (o : Option Position) → Lies o → slot o ≤ end + 1
-  unfolding Lies slot
-  slot-lies none h = omega arith
-  slot-lies (some s) h = omega (arith, h)
-
-  -- ---- a short block
-
-  near-short : (o : Option Position) (p : ℕ) → Lies o → p + 2 ≤ end → end ≤ 32768 → judged o (p + 2) ≡ none
-  unfolding Lies judged farUnless isNear
+module _ (end : ℕ) where
+  near-short : (o : Option Position) (p : ℕ) → Recorded end o → p + 2 ≤ end → end ≤ 32768 → judged o (p + 2) ≡ none
+  unfolding judged farUnless isNear
   near-short none p h k l = refl
   near-short (some s) p h k l =
       let i : s .at ≤ p + 2 + 32767 = omega (arith, h, l) in
       let j : p + 2 ≤ s .at + 32768 = omega (arith, k, l) in
       rw (le-leb (s .at) (p + 2 + 32767) i, le-leb (p + 2) (s .at + 32768) j)
 
-  none-far : (all es : List Event) → Within n end all → Within n end es → end ≤ 32768 → tooFar all es ≡ none
+  none-far : (all es : List Event) → AllWithin end all → AllWithin end es → end ≤ 32768 → tooFar all es ≡ none
   unfolding farBy orElse
   none-far all [] h k l = refl
   none-far all (labelAt m s ∷ es) h k l = none-far all es h (k .1) l
-  none-far all (branchAt m s ∷ es) h k l = rw (near-short (lookup m all) (s .at) (lookup-lies m all h) (k .0 .1) l) (none-far all es h (k .1) l)
-  none-far all (payloadTooLong m s ∷ es) h k l = none-far all es h k l
-  none-far all (bodyTooLong m s ∷ es) h k l = none-far all es h k l
+  none-far all (branchAt m s ∷ es) h k l = rw (near-short (lookup m all) (s .at) (lookup-within end m all h) (k .0) l) (none-far all es h (k .1) l)
+  none-far all (payloadTooLong m s ∷ es) h k l = none-far all es h (k .1) l
+  none-far all (bodyTooLong m s ∷ es) h k l = none-far all es h (k .1) l
 
 -- ---- by the table as by the events
 
@@ -91,11 +64,15 @@ far-branches final (payloadTooLong n s ∷ es) = far-branches final es
 far-branches final (bodyTooLong n s ∷ es) = far-branches final es
 
 -- every slot of a table that holds such events is small
-slots-small : (end : ℕ) (tab : List ℕ) (es : List Event) → end ≤ 1099511627776 → TableHolds 1024 tab es → Within 1024 end es → (l : ℕ) → getD tab l 0 ≤ 1099511627777
+slots-small : (end : ℕ) (tab : List ℕ) (es : List Event) → end ≤ 1099511627776 → TableHolds 1024 tab es → AllWithin end es → (l : ℕ) → getD tab l 0 ≤ 1099511627777
 slots-small end tab es m h k l = go (ltb l 1024) refl
   where
+    slot-within : (o : Option Position) → Recorded end o → slot o ≤ end + 1
+    slot-within none h = unfold slot in omega arith
+    slot-within (some s) h = unfold slot in omega (arith, h)
+
     go : (t : Bool) → ltb l 1024 ≡ t → getD tab l 0 ≤ 1099511627777
-    go true e = omega (arith, m, h .holds l (ltb-true l 1024 e), slot-lies 1024 end (lookup l es) (lookup-lies 1024 end l es k))
+    go true e = omega (arith, m, h .holds l (ltb-true l 1024 e), slot-within (lookup l es) (lookup-within end l es k))
     go false e =
         let z : getD tab l 0 ≡ 0 = List·getD-eq-default tab 0 (omega (arith, ltb-false l 1024 e, h .slots)) in
         omega (arith, z)
@@ -106,11 +83,13 @@ module _ (b : List ℕ) (end : BytePosition) (tab : List ℕ) (m : MainMeasured 
   is-body : readBody edition1 b 16 (placed 0) ≡ got (m .reads .read) (m .reads .next)
   is-body = main-body b (m .reads .read) (m .reads .next) (m .reads .is-read)
 
-  within : Within 1024 (end .0) (events (m .tree))
+  within : AllWithin (end .0) (events (m .tree))
   unfolding events
-  within =
-      body-within 1024 (end .0) (m .tree) (position 0)
-      (subst (UnderBody 1024) (m .reads .is-tree) (given (body-under b 16 (placed 0)) is-body)) (omega (arith, m .is-end))
+  within = body-within (end .0) (m .tree) (position 0) (omega (arith, m .is-end))
+
+  under : BranchesUnder 1024 (events (m .tree))
+  unfolding events
+  under = labels.body-under 1024 (m .tree) (position 0) (subst (UnderBody 1024) (m .reads .is-tree) (given (body-under b 16 (placed 0)) is-body))
 
   -- it is written in at most three bytes for each byte read
   end-small : end .0 ≤ 1099511627776
@@ -131,13 +110,13 @@ module _ (b : List ℕ) (end : BytePosition) (tab : List ℕ) (m : MainMeasured 
   judged-main r s = record { says = λ t h. subst (λ (u : Actions). Says (tooFar (events u) (events u)) r) (same-tree b (m .tree) t (m .reads) h) s }
 
   pub main-short : end .0 ≤ 32768 → MainJudged b verdict.Near
-  main-short h = judged-main verdict.Near (rw (none-far 1024 (end .0) (events (m .tree)) (events (m .tree)) within within h) Says.near)
+  main-short h = judged-main verdict.Near (rw (none-far (end .0) (events (m .tree)) (events (m .tree)) within within h) Says.near)
 
   far-main : farBy (recordAt tab) (branches (bodyEvents (m .reads .read) 0)) ≡ tooFar (events (m .tree)) (events (m .tree))
   far-main =
       far-branches (recordAt tab) (bodyEvents (m .reads .read) 0)
       ∙ ap (λ (t : Actions). farBy (recordAt tab) (traceBody t (position 0))) (m .reads .is-tree)
-      ∙ (unfold events in far-same 1024 (end .0) (recordAt tab) (λ l. lookup l (events (m .tree))) (table-record 1024 tab (events (m .tree)) (m .holds)) (events (m .tree)) within)
+      ∙ (unfold events in far-same 1024 (recordAt tab) (λ l. lookup l (events (m .tree))) (table-record 1024 tab (events (m .tree)) (m .holds)) (events (m .tree)) under)
 
   module _ (r : Judged) (j : Judging tab (measured bodyLength bodyEvents 0 (readBody edition1 b 16 (placed 0))) r) where
     here : Judging tab (got (measure (0 + bodyLength (m .reads .read)) (branches (bodyEvents (m .reads .read) 0))) (m .reads .next)) r
