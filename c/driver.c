@@ -3,9 +3,10 @@
  *
  *   driver < crates/replay/stdin
  *
- * A record is as crates/replay/src/main.rt tells: lengths, the room, the oracle's number and value, and the patterns of the sheet
- * and of the block, which are as crates/patterns/src/lib.rt tells. Number, value and block must be the oracle's. It writes what
- * crates/replay writes: a line for each number that was met, with its count; then how many answers differ, and the first that does.
+ * A record is as crates/replay/src/main.rt tells: lengths, the room, the mode, the oracle's number and value, and the patterns of
+ * the sheet and of the block, which are as crates/patterns/src/lib.rt tells. Number, value and block must be the oracle's. It
+ * writes what crates/replay writes: a line for each number that was met, with its count; then how many answers differ, and the
+ * first that does.
  *
  * Each sheet and block ends where memory ends, so a byte read past it stops the program. Each sheet and block is also stepped
  * through, and the answer held to a stepper written here. Status 0: all is well; 1: a fault, told on standard error; 2: a bad
@@ -25,8 +26,9 @@
 enum {
     GUARD = 64,             /* bytes on both sides of the output and of the value that must keep theirs */
     SPACE = 4 * 1024 * 1024, /* the longest sheet and block, and the largest room, of a record */
-    HEAD = 21,              /* the bytes of a record before its patterns */
-    NUMBERS = 14            /* document 01's answers */
+    HEAD = 22,              /* the bytes of a record before its patterns */
+    STRICT = 1,             /* the bit of strict mode; no other is in use */
+    NUMBERS = 15            /* the answers of documents 01 and 02 */
 };
 
 static int status = 0;
@@ -77,13 +79,13 @@ struct answer {
 };
 
 /* Packs into `room` bytes at `out`, after GUARD bytes and before GUARD more, all of them `fill` before the call. */
-static struct answer pack(const uint8_t *sheet, size_t len, uint8_t *out, size_t room, uint8_t fill)
+static struct answer pack(const uint8_t *sheet, size_t len, bool strict, uint8_t *out, size_t room, uint8_t fill)
 {
     uint8_t value[GUARD + MERINOVAULT_VALUE_LEN + GUARD];
     memset(value, fill, sizeof value);
     memset(out - GUARD, fill, GUARD + room + GUARD);
     struct answer a;
-    a.number = merinovault_pack(sheet, len, out, room, value + GUARD, MERINOVAULT_VALUE_LEN);
+    a.number = merinovault_pack(sheet, len, strict, out, room, value + GUARD, MERINOVAULT_VALUE_LEN);
     a.value = number_in(value + GUARD);
     a.changed = changed(value, GUARD, fill) + changed(value + GUARD + MERINOVAULT_VALUE_LEN, GUARD, fill);
     size_t written = a.number == MERINOVAULT_DONE ? (size_t)a.value : 0;
@@ -135,8 +137,8 @@ static void step_all(const uint8_t *block, size_t len, uint8_t *end, size_t line
     }
 }
 
-/* A value slice that has not 8 bytes, and runs without a byte. */
-static void edges(void)
+/* A value slice that has not 8 bytes, and runs without a byte, in one mode. */
+static void edges(bool strict)
 {
     const uint8_t empty[12] = {0, 0, 0, 0, 4, 0, 0, 0, 1, 0, 0x41, 0x31}, one[1] = {0};
     uint8_t out[4], value[16];
@@ -144,19 +146,19 @@ static void edges(void)
     memset(value, 0xA5, sizeof value);
     for (size_t n = 0; n <= sizeof value; n++)
         if (n != MERINOVAULT_VALUE_LEN) {
-            if (merinovault_pack(empty, sizeof empty, out, sizeof out, value, n) != MERINOVAULT_NO_ROOM ||
-                merinovault_pack(NULL, 0, out, sizeof out, value, n) != MERINOVAULT_NO_ROOM ||
+            if (merinovault_pack(empty, sizeof empty, strict, out, sizeof out, value, n) != MERINOVAULT_NO_ROOM ||
+                merinovault_pack(NULL, 0, strict, out, sizeof out, value, n) != MERINOVAULT_NO_ROOM ||
                 merinovault_step(one, sizeof one, value, n) != MERINOVAULT_NO_ROOM)
                 fault(0, "a value slice of another length than 8 is not answered 11");
         }
-    if (merinovault_pack(empty, sizeof empty, out, sizeof out, NULL, 0) != MERINOVAULT_NO_ROOM ||
+    if (merinovault_pack(empty, sizeof empty, strict, out, sizeof out, NULL, 0) != MERINOVAULT_NO_ROOM ||
         merinovault_step(one, sizeof one, NULL, 0) != MERINOVAULT_NO_ROOM)
         fault(0, "no value slice is not answered 11");
     if (changed(out, sizeof out, 0xA5) + changed(value, sizeof value, 0xA5) != 0)
         fault(0, "a byte changed beside a value slice of another length than 8");
-    if (merinovault_pack(NULL, 0, out, sizeof out, value, 8) != MERINOVAULT_BAD_TRAILER || number_in(value) != 0)
+    if (merinovault_pack(NULL, 0, strict, out, sizeof out, value, 8) != MERINOVAULT_BAD_TRAILER || number_in(value) != 0)
         fault(0, "the empty sheet is not answered 2 with 0");
-    if (merinovault_pack(empty, sizeof empty, NULL, 0, value, 8) != MERINOVAULT_NO_ROOM || number_in(value) != 1)
+    if (merinovault_pack(empty, sizeof empty, strict, NULL, 0, value, 8) != MERINOVAULT_NO_ROOM || number_in(value) != 1)
         fault(0, "an empty output is not answered 11 with 1");
     if (merinovault_step(NULL, 0, value, 8) != MERINOVAULT_UNCLEAN || number_in(value) != 0)
         fault(0, "the empty block is not answered 13 with 0");
@@ -205,7 +207,8 @@ int main(int argc, char **argv)
     if (argc > 1)
         stop("usage: driver < LIST");
     (void)argv;
-    edges();
+    edges(false);
+    edges(true);
 
     uint8_t *sheet_end = memory_end(SPACE), *out_end = memory_end(GUARD + SPACE + GUARD), *block_end = memory_end(SPACE);
     uint8_t *copy = malloc(SPACE), *block = malloc(SPACE), head[HEAD];
@@ -214,12 +217,14 @@ int main(int argc, char **argv)
     size_t counts[NUMBERS] = {0}, differ = 0, first_to_differ = 0;
     for (size_t line = 1; take(head, HEAD); line++) {
         size_t room = u32_at(head + 8), n = unroll(u32_at(head), copy), m = unroll(u32_at(head + 4), block);
-        if (room > SPACE || head[12] >= NUMBERS)
-            stop("a record with a room of more than 4 MiB, or an answer that is none");
+        uint8_t mode = head[12], number = head[13];
+        if (room > SPACE || mode > STRICT || number >= NUMBERS)
+            stop("a record with a room of more than 4 MiB, or with a mode or an answer that is none");
+        bool strict = mode == STRICT;
         uint8_t *sheet = memcpy(sheet_end - n, copy, n), *out = out_end - GUARD - room;
 
         /* A byte that is written with what it holds already shows in the other of two fills. */
-        struct answer first = pack(sheet, n, out, room, 0x5A), a = pack(sheet, n, out, room, 0xA5);
+        struct answer first = pack(sheet, n, strict, out, room, 0x5A), a = pack(sheet, n, strict, out, room, 0xA5);
         if (first.number != a.number || first.value != a.value)
             fault(line, "a second call tells something else");
         if (first.changed + a.changed != 0)
@@ -228,8 +233,8 @@ int main(int argc, char **argv)
             fault(line, "the sheet changed");
 
         size_t written = a.number == MERINOVAULT_DONE ? (size_t)a.value : 0;
-        bool agrees = a.number == head[12] && a.value == number_in(head + 13) && written == m && memcmp(out, block, m) == 0;
-        counts[head[12]]++;
+        bool agrees = a.number == number && a.value == number_in(head + 14) && written == m && memcmp(out, block, m) == 0;
+        counts[number]++;
         differ += !agrees;
         if (!agrees && first_to_differ == 0)
             first_to_differ = line;

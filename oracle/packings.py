@@ -1,5 +1,5 @@
 #!/usr/bin/env python3
-"""Writes stdin and stdout of crates/replay: sheets with rooms, and what the oracle answers to each.
+"""Writes stdin and stdout of crates/replay: sheets with rooms, and what the oracle answers to each in plain and in strict mode.
 
 Run in the checkout after the oracle is built: python3 oracle/packings.py
 """
@@ -15,6 +15,7 @@ GENERATE = "oracle/target/release/generate"
 # The rooms that are called ample: of small sheets, and of long ones all that the program can lend.
 SHEETS_SPACE, LONG_SPACE = 4096, 1048514
 POP, PLAY, STOP, CALL = b"\x17", b"\x06", b"\x07", b"\x9e"
+PLAIN, STRICT = 0, 1
 
 
 def jump(label):
@@ -142,10 +143,10 @@ def every_opcode():
 
 
 def small_questions():
-    """Of each sheet that is taken: ample room, the exact one, one less and none."""
+    """Of each sheet that plain mode takes: ample room, the exact one, one less and none."""
     mains = [main for main, _ in HAND] + [*labels_and_branches(), *strings_and_values()]
     sheets = [sheet(main) for main in mains] + [sheet(mains[11], note=b"a note"), sheet(mains[11], note=bytes(9))]
-    for s, (number, n, _) in zip(sheets, answers((s, SHEETS_SPACE) for s in sheets)):
+    for s, (number, n, _) in zip(sheets, answers((s, SHEETS_SPACE, PLAIN) for s in sheets)):
         yield s, SHEETS_SPACE
         if number == 0:
             yield from ((s, room) for room in (n, n - 1, 0))
@@ -162,7 +163,7 @@ def small_questions():
         yield from generated(*kind, SHEETS_SPACE)
 
 
-# The sums that document 01 runs: a main body, and the answer's number and value; document 01 gives 0 no value here.
+# The sums that document 01 runs: a main body, and the answer's number and value in both modes; document 01 gives 0 no value here.
 RUN = [
     (body(target(65534)), 0, None),
     (body(target(65535)), 8, 65536),
@@ -182,7 +183,7 @@ def of_length(n):
 
 
 def orders():
-    """Which of two overflows is met first: a main body, and the answer's number and value."""
+    """Which of two overflows is met first: a main body, and the answer's number and value in both modes."""
     bad_payload = body(target(65535))
     # of the bodies of a Try that are too long, try before catch before finally
     for long in range(1, 8):
@@ -214,6 +215,53 @@ def orders():
     yield body(jump(1), jump(0), *[POP] * 32768, labels=[(0, 32770), (1, 32769)]), 10, 32772
     yield body(branch(2), with_(jump(1)), *[POP] * 40000, jump(0), labels=[(0, 0), (1, 40002), (2, 1)]), 10, 40000
     yield body(*[POP] * 40000, jump(0), jump(1), labels=[(0, 0), (1, 0)]), 10, -40005
+
+
+def unrecorded():
+    """Document 02's item 1: a main body, and the answer's number and value in plain mode and in strict mode."""
+    # P7 and P6; no entry at all; a record right behind the branch, in main and in a body
+    yield HAND[6][0], (0, 6), (14, 3)
+    yield HAND[5][0], (0, 6), (0, 6)
+    yield body(POP, branch(1023)), (0, 7), (14, 4)
+    yield body(jump(0), labels=[(0, 1)]), (0, 6), (0, 6)
+    yield body(branch(0), branch(0), labels=[(0, 1)]), (0, 11), (0, 11)
+    yield body(with_(jump(0), labels=[(0, 1)])), (0, 11), (0, 11)
+    # a record only later, in another body; beside it, before or behind, an entry past its body's count
+    past, records = with_(labels=[(0, 1)]), with_(POP, labels=[(0, 1)])
+    yield body(jump(0), records), (0, 12), (0, 12)
+    yield body(jump(0), past), (0, 11), (14, 3)
+    yield body(jump(0), past, records), (0, 17), (0, 17)
+    yield body(jump(0), records, past), (0, 17), (0, 17)
+    yield body(jump(0), records, labels=[(0, 3)]), (0, 12), (0, 12)
+    yield body(jump(0), past, labels=[(0, 3), (1, 0)]), (0, 11), (14, 3)
+    # the first in writing order: inside a body before main, behind a recorded one, in each body of a Try
+    yield body(with_(branch(0)), jump(1)), (0, 16), (14, 8)
+    yield body(jump(0), with_(branch(1), jump(2)), labels=[(0, 0), (2, 0)]), (0, 21), (14, 13)
+    yield body(branch(0), jump(0), with_(jump(1)), labels=[(0, 3)]), (0, 21), (14, 18)
+    for k in range(3):
+        bodies = [body(POP, jump(0 if i == k else 1), labels=[(1, 0)]) for i in range(3)]
+        yield body(attempt(*bodies)), (0, 31), (14, 16 + 6 * k)
+    yield body(function(b"f", [b"xy"], body(jump(0)))), (0, 18), (14, 15)
+    yield body(function2(1)[:-4] + body(jump(0))), (0, 21), (14, 18)
+    yield at_depth_16(body(jump(0), labels=[(0, 2)])), (0, 81), (14, 78)
+    # before 10 and behind it, forward and backward, in one body and in two
+    far = [POP] * 32768
+    yield body(jump(1), jump(0), *far, labels=[(0, 32770)]), (10, 32768), (14, 3)
+    yield body(jump(0), *far, jump(1), labels=[(0, 32769)]), (10, 32768), (10, 32768)
+    yield body(branch(1), *far, jump(0), labels=[(0, 0)]), (10, -32778), (14, 3)
+    yield body(*far, jump(0), branch(1), labels=[(0, 0)]), (10, -32773), (10, -32773)
+    yield body(with_(branch(1), jump(0)), *far, labels=[(0, 32769)]), (10, 32768), (14, 8)
+    yield body(with_(jump(0), branch(1)), *far, labels=[(0, 32769)]), (10, 32773), (10, 32773)
+    yield body(with_(branch(1)), jump(0), *far, labels=[(0, 32770)]), (10, 32768), (14, 8)
+    yield body(with_(jump(0)), jump(1), *far, labels=[(0, 32770)]), (10, 32773), (10, 32773)
+    # behind a branch that just reaches, and far into the block
+    yield body(jump(0), *far[1:], branch(1), labels=[(0, 32768)]), (0, 32778), (14, 32775)
+    yield body(*[target(65534)] * 15, jump(0)), (0, 983076), (14, 983073)
+    # 8 and 9 come first, wherever they stand
+    for long, answer in ((target(65535), (8, 65536)), (b"\x94" + of_length(65536), (9, 65536))):
+        yield body(jump(0), long), answer, answer
+        yield body(long, jump(0)), answer, answer
+    yield body(with_(jump(0), *[POP] * 65531)), (9, 65536), (9, 65536)
 
 
 def payloads():
@@ -268,23 +316,31 @@ def long_sheets():
 
 
 def long_questions():
-    for main, number, value in [*RUN, *orders()]:
-        yield sheet(main), LONG_SPACE, (number, value)
-        # 8 to 10 come before 11
-        if number != 0:
-            yield sheet(main), 0, (number, value)
+    """Sheets with rooms, and the answers in both modes where documents 01 and 02 give them."""
+    dues = [(main, (number, value), (number, value)) for main, number, value in [*RUN, *orders()]]
+    for main, plain, strict in [*dues, *unrecorded()]:
+        yield sheet(main), LONG_SPACE, plain, strict
+        # 8 to 10 and 14 come before 11
+        if plain[0] != 0 or strict[0] != 0:
+            yield sheet(main), 0, without_room(plain), without_room(strict)
     for n, main in payloads():
-        yield sheet(main), LONG_SPACE, (0, None) if n < 65536 else (8, n)
+        due = (0, None) if n < 65536 else (8, n)
+        yield sheet(main), LONG_SPACE, due, due
     for main in [*longest_branches(), *tables()]:
-        yield sheet(main), LONG_SPACE, None
+        yield sheet(main), LONG_SPACE, None, None
     sheets = [sheet(main) for main, number, _ in RUN if number == 0] + list(long_sheets())
-    for s, (number, n, _) in zip(sheets, answers((s, LONG_SPACE) for s in sheets)):
-        yield s, LONG_SPACE, None
+    for s, (number, n, _) in zip(sheets, answers((s, LONG_SPACE, PLAIN) for s in sheets)):
+        yield s, LONG_SPACE, None, None
         if number == 0:
-            yield from ((s, room, (0, n) if room == n else (11, n)) for room in (n, n - 1, 0))
+            yield from ((s, room, (0, n) if room == n else (11, n), None) for room in (n, n - 1, 0))
     for family, step in (("distances", 11), ("limits", 13)):
         for s, room in generated(family, LONG_SPACE, step, 1, LONG_SPACE):
-            yield s, room, None
+            yield s, room, None, None
+
+
+def without_room(due):
+    number, value = due
+    return (11, value) if number == 0 else due
 
 
 def generated(family, longest, step, seed, space):
@@ -295,20 +351,20 @@ def generated(family, longest, step, seed, space):
     while at < len(stream):
         (n,) = struct.unpack_from("<I", stream, at)
         s, (room,) = stream[at + 4 : at + 4 + n], struct.unpack_from("<I", stream, at + 4 + n)
-        at += 8 + n
+        at += 9 + n
         if n <= longest:
             if seen % step == 0:
                 yield s, min(room, space)
             seen += 1
 
 
-def question(s, room):
-    return struct.pack("<I", len(s)) + s + struct.pack("<I", room)
+def question(s, room, mode):
+    return struct.pack("<I", len(s)) + s + struct.pack("<IB", room, mode)
 
 
 def answers(questions):
     """Number, value and block of each answer of the oracle."""
-    stream = b"".join(question(s, room) for s, room in questions)
+    stream = b"".join(question(*asked) for asked in questions)
     told = subprocess.run([ORACLE, "stream"], input=stream, stdout=subprocess.PIPE, check=True).stdout
     found, at = [], 0
     while at < len(told):
@@ -333,27 +389,39 @@ def pattern(s):
     return b"".join(struct.pack("<IH", len(part) * times, len(part)) + part for part, times in runs)
 
 
-def record(s, room, number, value, block):
+def record(s, room, mode, number, value, block):
     sheet, block = pattern(s), pattern(block)
-    return struct.pack("<IIIBq", len(sheet), len(block), room, number, value) + sheet + block
+    return struct.pack("<IIIBBq", len(sheet), len(block), room, mode, number, value) + sheet + block
+
+
+def check(due, answer):
+    """Holds the oracle's answer against what the documents say, as far as they do."""
+    number, value, _ = answer
+    assert due is None or due == (number, value) or due == (number, None), (due, number, value)
 
 
 def main():
-    for (_, text), answer in zip(HAND, answers((sheet(main), 16) for main, _ in HAND)):
+    for (_, text), answer in zip(HAND, answers((sheet(main), 16, PLAIN) for main, _ in HAND)):
         block = bytes.fromhex(text)
         assert answer == (0, len(block), block), answer
 
-    asked = [(s, room, None) for s, room in small_questions()] + list(long_questions())
-    told = answers((s, room) for s, room, _ in asked)
-    for (_, _, due), (number, value, _) in zip(asked, told):
-        assert due is None or due == (number, value) or due == (number, None), (due, number, value)
-    stdin = b"".join(record(s, room, *answer) for (s, room, _), answer in zip(asked, told))
+    sheets = [(s, room, None, None) for s, room in small_questions()] + list(long_questions())
+    asked = [(s, room, mode) for s, room, *_ in sheets for mode in (PLAIN, STRICT)]
+    told = answers(asked)
+    for due, answer in zip([due for _, _, *dues in sheets for due in dues], told):
+        check(due, answer)
+    # all else is as in plain mode
+    for plain, strict in zip(told[::2], told[1::2]):
+        assert strict == plain or strict[0] == 14 and plain[0] in (0, 10, 11), (plain, strict)
+    stdin = b"".join(record(*question, *answer) for question, answer in zip(asked, told))
     assert len(stdin) < 1048576, len(stdin)
     numbers = Counter(number for number, _, _ in told)
     lines = [f"{number} {count}\n" for number, count in sorted(numbers.items())] + ["differ 0, first 0\n"]
     open("crates/replay/stdin", "wb").write(stdin)
     open("crates/replay/stdout", "w").write("".join(lines))
-    print(len(asked), "sheets", len(stdin), "bytes", dict(sorted(numbers.items())))
+    print(len(sheets), "sheets, each in both modes,", len(stdin), "bytes")
+    for mode, found in (("plain", told[::2]), ("strict", told[1::2])):
+        print(mode, dict(sorted(Counter(number for number, _, _ in found).items())))
 
 
 if __name__ == "__main__":

@@ -83,8 +83,8 @@ def replayed():
         records = file.read()
     at = 0
     while at < len(records):
-        sheet, block, _, number, _ = struct.unpack_from("<IIIBq", records, at)
-        at += 21 + sheet + block
+        sheet, block, _, _, number, _ = struct.unpack_from("<IIIBBq", records, at)
+        at += 22 + sheet + block
         if number == 0:
             yield unrolled(records[at - block : at])
 

@@ -109,7 +109,9 @@ def main():
     questions = [struct.pack("<I", len(s)) + s + struct.pack("<I", 1 << 20) for s in sheets()]
     stream = b"".join(questions)
     assert len(stream) <= 65536, len(stream)
-    answers = subprocess.run([ORACLE, "stream"], input=stream, stdout=subprocess.PIPE, check=True).stdout
+    # a question to the oracle ends in the mode, which has no part in reading
+    asked = b"".join(question + b"\x00" for question in questions)
+    answers = subprocess.run([ORACLE, "stream"], input=asked, stdout=subprocess.PIPE, check=True).stdout
     lines, at = [], 0
     while at < len(answers):
         number, value, length = struct.unpack_from("<BqI", answers, at)

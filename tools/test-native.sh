@@ -1,14 +1,14 @@
 #!/usr/bin/env bash
 # test-native.sh: proves and builds the archive, and calls it from C and Rust on this machine: the header as C11 and C++17, the
-# Rust crate's tests, the C example, and the C driver on the oracle's answers of crates/replay, plain and under the address and
-# undefined-behaviour sanitizers. On Arm all this is done with the native archive of native-lib.sh; then the
-# example and the driver are also compiled for x86-64, linked with the archive that is shipped, and run by the kit's emulator.
-# Needs rt, a C and a C++ compiler (CC, CXX) and cargo; on Arm clang too. Its last line is 'test-native.sh: all is well'.
+# Rust crate's tests, its example on two samples, the C example, and the C driver on the oracle's answers of crates/replay, plain
+# and under the address and undefined-behaviour sanitizers. On Arm all this is done with the native archive of native-lib.sh; then
+# the C example and the driver are also compiled for x86-64, linked with the archive that is shipped, and run by the kit's emulator.
+# Needs rt, a C and a C++ compiler (CC, CXX), cargo and xxd; on Arm clang too. Its last line is 'test-native.sh: all is well'.
 set -euo pipefail
 cd "$(dirname "${BASH_SOURCE[0]}")/.."
 cc=${CC:-cc} cxx=${CXX:-c++}
 . tools/prove.sh
-needs rt cargo "$cc" "$cxx"
+needs rt cargo xxd "$cc" "$cxx"
 [ "$(uname -m)" = x86_64 ] || needs clang
 strict=(-Wall -Wextra -Wpedantic -Wconversion -Wshadow -Werror -Iinclude)
 shipped=target/staticlib/libmerinovault.a native=target/native/libmerinovault.a
@@ -31,8 +31,26 @@ echo '#include "merinovault.h"' >"$made/header.c"
 say "the header compiles as C11 and as C++17"
 
 say "the Rust crate's tests:"
-MERINOVAULT_LIB_DIR=$PWD/target/native cargo test --offline --manifest-path rust/Cargo.toml
+export MERINOVAULT_LIB_DIR=$PWD/target/native
+cargo test --offline --manifest-path rust/Cargo.toml
 say "the Rust crate's tests pass"
+
+# The Rust example, given a sample, prints this text and ends with this status.
+tells() { # TEXT STATUS NAME [WORD ..]
+  local status=0
+  samples/hex.sh "samples/$3.hex" |
+    cargo run --quiet --offline --manifest-path rust/Cargo.toml --example pack -- "${@:4}" - >"$made/told" || status=$?
+  cmp "$made/told" "$1"
+  [ "$status" -eq "$2" ] || { say "the Rust example ends with status $status, not $2: $3 ${*:4}"; exit 1; }
+}
+for name in reject_falls_into_accept reject_is_rejected; do
+  sed '1s/^0 \(.*\)/Done: a block of \1 bytes/' "samples/$name.out" >"$made/$name"
+  tells "$made/$name" 0 "$name"
+done
+tells "$made/reject_is_rejected" 0 reject_is_rejected --strict
+tells samples/reject_falls_into_accept.strict.out 1 reject_falls_into_accept --strict
+tells /dev/null 2 reject_is_rejected --other 2>/dev/null
+say "the Rust example tells of two samples what it must, in both modes"
 
 say "the C example and the driver, plain and under the sanitizers:"
 run() { "$@"; }

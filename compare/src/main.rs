@@ -1,11 +1,18 @@
-//! `compare [SHEETS]` packs generated sheets by the C entry and by the oracle, a million unless told otherwise: number, value,
-//! block, and every byte that must keep its value. It prints counts by answer, and the smallest sheet of each difference.
+//! `compare [SHEETS]` packs generated sheets by the C entry and by the oracle, a million unless told otherwise, each in both
+//! modes: number, value, block, and every byte that must keep its value. It prints counts by answer and mode, and the smallest
+//! sheet that is answered differently.
 
-use merinovault::pack;
-use oracle::answer::{Answer, number, value};
+use merinovault::{Mode, pack};
+use oracle::answer::{self, Answer, number, value};
 use oracle::generate::{Family, questions};
 use oracle::stream::Question;
 use std::process::ExitCode;
+
+/// The modes: their names, ours and the oracle's.
+const MODES: [(&str, Mode, answer::Mode); 2] = [
+    ("plain", Mode::PLAIN, answer::Mode::PLAIN),
+    ("strict", Mode::STRICT, answer::Mode::STRICT),
+];
 
 /// What the output holds before a call, and the bytes before and behind it.
 const FRESH: u8 = 0xA5;
@@ -16,7 +23,10 @@ const SEED: u64 = 20_261_115;
 
 #[derive(Default)]
 struct Counts {
-    answers: [u64; 12],
+    sheets: u64,
+    /// By number, in each of the modes.
+    answers: [[u64; MODES.len()]; 15],
+    /// Answers that differ.
     differences: u64,
     /// The smallest sheet that is answered differently, its room and what differs.
     smallest: Option<(Vec<u8>, usize, String)>,
@@ -24,33 +34,41 @@ struct Counts {
 }
 
 impl Counts {
-    fn sheets(&self) -> u64 {
-        self.answers.iter().sum()
-    }
-
     /// A room over what any block can take is cut to that, so that the output can be looked through.
     fn compare(&mut self, question: &Question) {
         let sheet = &question.sheet;
         let room = (question.room as usize).min(3 * sheet.len() + 64);
-        let theirs = oracle::pack::pack(sheet, room);
-        self.answers[usize::from(number(&theirs))] += 1;
-        let Some(what) = self.difference(sheet, room, &theirs) else {
-            return;
-        };
+        self.sheets += 1;
+        for (column, (name, ours, theirs)) in MODES.into_iter().enumerate() {
+            let theirs = oracle::pack::pack(sheet, theirs, room);
+            self.answers[usize::from(number(&theirs))][column] += 1;
+            if let Some(what) = self.difference(sheet, ours, room, &theirs) {
+                self.differs(sheet, room, format!("{name}: {what}"));
+            }
+        }
+    }
+
+    fn differs(&mut self, sheet: &[u8], room: usize, what: String) {
         self.differences += 1;
         if self
             .smallest
             .as_ref()
             .is_none_or(|(least, ..)| sheet.len() < least.len())
         {
-            self.smallest = Some((sheet.clone(), room, what));
+            self.smallest = Some((sheet.to_vec(), room, what));
         }
     }
 
-    fn difference(&mut self, sheet: &[u8], room: usize, theirs: &Answer) -> Option<String> {
+    fn difference(
+        &mut self,
+        sheet: &[u8],
+        mode: Mode,
+        room: usize,
+        theirs: &Answer,
+    ) -> Option<String> {
         self.output.clear();
         self.output.resize(room + 2 * GUARD, FRESH);
-        let ours = pack(sheet, &mut self.output[GUARD..GUARD + room]);
+        let ours = pack(sheet, mode, &mut self.output[GUARD..GUARD + room]);
         let (n, v) = match &ours {
             Ok(length) => (0, *length as i64),
             Err(refusal) => (refusal.number(), refusal.value()),
@@ -84,20 +102,17 @@ fn main() -> ExitCode {
         run(&mut counts, family, SEED, 0);
     }
     let mut seed = SEED;
-    while counts.sheets() < wanted {
+    while counts.sheets < wanted {
         run(&mut counts, Family::Mixed, seed, 2_000);
         run(&mut counts, Family::Damaged, seed, 40);
         seed += 1;
     }
     println!("random families: seeds {SEED} to {}", seed - 1);
-    println!("{:<8} {:>9}", "answer", "sheets");
-    for (number, count) in counts.answers.iter().enumerate() {
-        println!("{number:<8} {count:>9}");
-    }
+    print_answers(&counts.answers);
+    println!("each sheet was packed in both modes; a difference is an answer that differs");
     println!(
         "{} sheets, {} differences",
-        counts.sheets(),
-        counts.differences
+        counts.sheets, counts.differences
     );
     let Some((sheet, room, what)) = counts.smallest else {
         return ExitCode::SUCCESS;
@@ -107,14 +122,21 @@ fn main() -> ExitCode {
     ExitCode::FAILURE
 }
 
+/// A line for each number that was met.
+fn print_answers(answers: &[[u64; MODES.len()]]) {
+    let [plain, strict] = MODES.map(|(name, ..)| name);
+    println!("{:<8} {plain:>9} {strict:>9}", "answer");
+    for (number, [plain, strict]) in answers.iter().enumerate() {
+        if plain + strict > 0 {
+            println!("{number:<8} {plain:>9} {strict:>9}");
+        }
+    }
+}
+
 fn run(counts: &mut Counts, family: Family, seed: u64, count: usize) {
-    let before = counts.sheets();
+    let before = counts.sheets;
     questions(family, seed, count, &mut |question| {
         counts.compare(&question)
     });
-    eprintln!(
-        "{:<9} {:>9} sheets",
-        family.name(),
-        counts.sheets() - before
-    );
+    eprintln!("{:<9} {:>9} sheets", family.name(), counts.sheets - before);
 }

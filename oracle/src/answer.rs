@@ -1,4 +1,29 @@
-//! Document 01's answers: number and value of each.
+//! The answers of documents 01 and 02: number and value of each; and the modes in which a sheet is packed.
+
+/// Document 02's modes of packing.
+#[derive(Clone, Copy, Debug, Eq, PartialEq)]
+pub struct Mode {
+    /// A branch whose label has no record is refused.
+    pub strict: bool,
+}
+
+impl Mode {
+    pub const PLAIN: Mode = Mode { strict: false };
+    pub const STRICT: Mode = Mode { strict: true };
+
+    /// The mode of a byte: bit 0 is strict, and no other is set.
+    pub fn from_byte(byte: u8) -> Option<Mode> {
+        match byte {
+            0 => Some(Mode::PLAIN),
+            1 => Some(Mode::STRICT),
+            _ => None,
+        }
+    }
+
+    pub fn byte(self) -> u8 {
+        u8::from(self.strict)
+    }
+}
 
 /// 3 to 7: what reading can meet, each at a place.
 #[derive(Clone, Copy, Debug, Eq, PartialEq)]
@@ -10,7 +35,7 @@ pub enum Fault {
     LeftOver,
 }
 
-/// 1 to 12, with what their values are made of.
+/// 1 to 12 and 14, with what their values are made of.
 #[derive(Clone, Copy, Debug, Eq, PartialEq)]
 pub enum Refusal {
     SheetTooLong(usize),
@@ -21,6 +46,7 @@ pub enum Refusal {
     JumpOffsetOverflow(isize),
     NoRoom(usize),
     InputFull(usize),
+    NeverRecorded(usize),
 }
 
 /// Done with the block, or a refusal.
@@ -41,6 +67,7 @@ impl Refusal {
             Refusal::JumpOffsetOverflow(_) => 10,
             Refusal::NoRoom(_) => 11,
             Refusal::InputFull(_) => 12,
+            Refusal::NeverRecorded(_) => 14,
         }
     }
 
@@ -53,7 +80,8 @@ impl Refusal {
             | Refusal::ActionLenOverflow(n)
             | Refusal::BlockLenOverflow(n)
             | Refusal::NoRoom(n)
-            | Refusal::InputFull(n) => n as i64,
+            | Refusal::InputFull(n)
+            | Refusal::NeverRecorded(n) => n as i64,
         }
     }
 }

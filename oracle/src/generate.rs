@@ -1,4 +1,4 @@
-//! A seeded generator of sheets, by families; each sheet comes with a room for its block.
+//! A seeded generator of sheets, by families; each sheet comes with a room for its block, and in plain mode.
 
 pub mod write;
 
@@ -9,6 +9,7 @@ mod mixed;
 mod random;
 mod small;
 
+use crate::answer::Mode;
 use crate::pack::pack;
 use crate::stream::Question;
 use random::Random;
@@ -56,7 +57,8 @@ pub fn questions(family: Family, seed: u64, count: usize, give: &mut dyn FnMut(Q
     let mut random = Random::new(seed);
     let give_sheet = &mut |sheet: Vec<u8>| {
         let room = room_for(&sheet, &mut rooms);
-        give(Question { sheet, room });
+        let mode = Mode::PLAIN;
+        give(Question { sheet, room, mode });
     };
     match family {
         Family::Mixed => {
@@ -81,7 +83,7 @@ pub fn questions(family: Family, seed: u64, count: usize, give: &mut dyn FnMut(Q
 
 /// Exact, one less, one more, none or ample.
 fn room_for(sheet: &[u8], random: &mut Random) -> u32 {
-    let needed = match pack(sheet, AMPLE as usize) {
+    let needed = match pack(sheet, Mode::PLAIN, AMPLE as usize) {
         Ok(block) => block.len() as u32,
         Err(_) => 1 + random.below(64) as u32,
     };
@@ -98,30 +100,37 @@ fn room_for(sheet: &[u8], random: &mut Random) -> u32 {
 mod tests {
     use super::*;
     use crate::answer::number;
+    use std::collections::BTreeSet;
 
-    fn numbers(family: Family) -> [usize; 12] {
-        let mut numbers = [0; 12];
+    /// The numbers that a family meets, in plain mode and in strict mode.
+    fn numbers(family: Family) -> BTreeSet<(u8, u8)> {
+        let mut numbers = BTreeSet::new();
         questions(family, 1, 40, &mut |question| {
-            let answer = pack(&question.sheet, question.room as usize);
-            numbers[usize::from(number(&answer))] += 1;
+            let number = |mode| number(&pack(&question.sheet, mode, question.room as usize));
+            numbers.insert((number(Mode::PLAIN), number(Mode::STRICT)));
         });
         numbers
     }
 
-    /// What each family is made to meet.
+    /// What each family is made to meet: in both modes, and in plain mode where strict mode answers 14.
     #[test]
     fn families_meet_their_answers() {
-        let due: [(Family, &[usize]); 5] = [
-            (Family::Mixed, &[0, 11]),
-            (Family::Damaged, &[0, 2, 3, 4, 5, 7, 11]),
-            (Family::Limits, &[0, 1, 2, 3, 5, 6, 7, 8, 9, 10, 11]),
-            (Family::Distances, &[0, 10, 11]),
-            (Family::Small, &[0, 2, 3, 4, 5, 7, 11]),
+        let due: [(Family, &[u8], &[u8]); 5] = [
+            (Family::Mixed, &[0, 11], &[0, 11]),
+            (Family::Damaged, &[0, 2, 3, 4, 5, 7, 11], &[0, 11]),
+            (
+                Family::Limits,
+                &[0, 1, 2, 3, 5, 6, 7, 8, 9, 10, 11],
+                &[0, 11],
+            ),
+            (Family::Distances, &[0, 10, 11], &[0, 10, 11]),
+            (Family::Small, &[0, 2, 3, 4, 5, 7, 11], &[0, 11]),
         ];
-        for (family, due) in due {
+        for (family, same, unrecorded) in due {
             let numbers = numbers(family);
-            for number in due {
-                assert!(numbers[*number] > 0, "{family:?} {number}: {numbers:?}");
+            let same = same.iter().map(|number| (*number, *number));
+            for due in same.chain(unrecorded.iter().map(|number| (*number, 14))) {
+                assert!(numbers.contains(&due), "{family:?} {due:?}: {numbers:?}");
             }
         }
     }

@@ -1,5 +1,6 @@
 //! The Rust ActionEncoder, as it stands, behind a reader of sheets of its own; and a generator of sheets.
-//! Document 01 gives the sheet, the answers and their order. Nothing here leans on anything in `crates/`.
+//! Document 01 gives the sheet, the answers and their order, document 02 strict mode. Nothing here leans on anything in
+//! `crates/`.
 
 pub mod answer;
 pub mod generate;
@@ -7,6 +8,7 @@ pub mod pack;
 pub mod sheet;
 pub mod stream;
 
+mod branches;
 mod source;
 mod swf;
 

@@ -1,6 +1,7 @@
-//! `oracle` answers one sheet as document 01's block program does; `oracle stream` answers a stream of questions.
+//! `oracle` answers one sheet as document 01's block program does, `oracle --strict` in strict mode; `oracle stream` answers a
+//! stream of questions.
 
-use oracle::answer::{Answer, Refusal, number, value};
+use oracle::answer::{Answer, Mode, Refusal, number, value};
 use oracle::pack::pack;
 use oracle::stream::{Question, write_answer};
 use std::io::{self, BufReader, BufWriter, Read, Write};
@@ -13,10 +14,11 @@ fn main() -> ExitCode {
     let words: Vec<String> = std::env::args().skip(1).collect();
     let words: Vec<&str> = words.iter().map(String::as_str).collect();
     let done = match words[..] {
-        [] => one_sheet(),
+        [] => one_sheet(Mode::PLAIN),
+        ["--strict"] => one_sheet(Mode::STRICT),
         ["stream"] => all_questions(),
         _ => {
-            eprintln!("usage: oracle [stream] < INPUT");
+            eprintln!("usage: oracle [--strict | stream] < INPUT");
             return ExitCode::from(2);
         }
     };
@@ -29,13 +31,13 @@ fn main() -> ExitCode {
     }
 }
 
-fn one_sheet() -> io::Result<()> {
+fn one_sheet(mode: Mode) -> io::Result<()> {
     let mut sheet = Vec::new();
     io::stdin().take(BUFFER as u64).read_to_end(&mut sheet)?;
     let answer = if sheet.len() == BUFFER {
         Err(Refusal::InputFull(BUFFER))
     } else {
-        pack(&sheet, BUFFER)
+        pack(&sheet, mode, BUFFER)
     };
     io::stdout().write_all(print(&answer).as_bytes())
 }
@@ -55,7 +57,7 @@ fn all_questions() -> io::Result<()> {
     let mut questions = BufReader::new(io::stdin().lock());
     let mut answers = BufWriter::new(io::stdout().lock());
     while let Some(question) = Question::read(&mut questions)? {
-        let answer = pack(&question.sheet, question.room as usize);
+        let answer = pack(&question.sheet, question.mode, question.room as usize);
         write_answer(&answer, &mut answers)?;
     }
     answers.flush()
@@ -67,12 +69,16 @@ mod tests {
 
     #[test]
     fn prints_as_the_block_program() {
-        let sheet = [
+        let mut sheet = [
             0x01, 0x00, 0x00, 0x00, 0x00, 0x00, 0x01, 0x00, 0x99, 0x00, 0x00, 0x0B, 0x00, 0x00,
             0x00, 0x01, 0x00, 0x41, 0x31,
         ];
-        assert_eq!(print(&pack(&sheet, BUFFER)), "0 6\n99 02 00 FB FF 00\n");
-        assert_eq!(print(&pack(&[], BUFFER)), "2 0\n");
+        let text = |sheet: &[u8], mode| print(&pack(sheet, mode, BUFFER));
+        assert_eq!(text(&sheet, Mode::PLAIN), "0 6\n99 02 00 FB FF 00\n");
+        assert_eq!(text(&[], Mode::PLAIN), "2 0\n");
+        // P7
+        sheet[4] = 2;
+        assert_eq!(text(&sheet, Mode::STRICT), "14 3\n");
         let whole_lines = vec![0x0A; 32];
         let line = ["0A"; 16].join(" ");
         assert_eq!(print(&Ok(whole_lines)), format!("0 32\n{line}\n{line}\n"));

@@ -1,17 +1,18 @@
-//! The whole: a sheet and the output's room to an answer.
+//! The whole: a sheet, the mode and the output's room to an answer.
 
-use crate::answer::{Answer, Refusal};
+use crate::answer::{Answer, Mode, Refusal};
+use crate::branches::Walk;
 use crate::sheet;
 use crate::source::encoder::entry::{self, Overflow};
 
-/// Packs a sheet: 1 to 7 by our reader, 8 to 10 and the block by the encoder, 11 by the room.
+/// Packs a sheet: 1 to 7 by our reader, 8 to 10 and the block by the encoder, 14 by our walk, 11 by the room.
 ///
 /// The encoder takes strings of UTF-8 only, measures them and copies them. A sheet with others is packed twice, with
 /// the letter y and with the letter z for each of their bytes: the places where the two blocks differ are theirs, and
 /// they are put back there in order. No Rust stands behind those bytes, as document 01 says.
-pub fn pack(sheet: &[u8], room: usize) -> Answer {
+pub fn pack(sheet: &[u8], mode: Mode, room: usize) -> Answer {
     let with_y = sheet::read(sheet, b'y')?;
-    let mut block = encode(&with_y)?;
+    let mut block = judged(&with_y, mode, encode(&with_y))?;
     if !with_y.foreign.is_empty() {
         let marked = encode(&sheet::read(sheet, b'z')?)?;
         put_back(&mut block, &marked, &with_y.foreign);
@@ -30,6 +31,21 @@ pub fn encode(sheet: &sheet::Whole) -> Answer {
         Overflow::BlockLen(n) => Refusal::BlockLenOverflow(n),
         Overflow::JumpOffset(n) => Refusal::JumpOffsetOverflow(n),
     })
+}
+
+/// What the encoder gave, or 14 if a branch without a record comes before any that the encoder refused. The walk is first held
+/// against the encoder, so that strict mode rests on a walk that agrees with it.
+fn judged(sheet: &sheet::Whole, mode: Mode, encoded: Answer) -> Answer {
+    if let Err(Refusal::ActionLenOverflow(_) | Refusal::BlockLenOverflow(_)) = encoded {
+        return encoded;
+    }
+    let walk = Walk::over(&sheet.actions);
+    match &encoded {
+        Ok(block) => walk.assert_wrote(block),
+        Err(refusal) => assert_eq!(walk.judge(Mode::PLAIN), Err(*refusal)),
+    }
+    walk.judge(mode)?;
+    encoded
 }
 
 /// Puts the bytes back where the two blocks differ.

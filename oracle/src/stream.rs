@@ -1,12 +1,14 @@
 //! Sheets and answers as streams of records; numbers are little-endian.
-//! A question: u32 length, the sheet, u32 room. An answer: u8 number, i64 value, u32 length, the block (empty unless Done).
+//! A question: u32 length, the sheet, u32 room, u8 mode (bit 0 is strict, the others are zero). An answer: u8 number, i64 value,
+//! u32 length, the block (empty unless Done).
 
-use crate::answer::{Answer, number, value};
+use crate::answer::{Answer, Mode, number, value};
 use std::io::{self, Read, Write};
 
 pub struct Question {
     pub sheet: Vec<u8>,
     pub room: u32,
+    pub mode: Mode,
 }
 
 impl Question {
@@ -24,13 +26,18 @@ impl Question {
         let mut room = [0; 4];
         from.read_exact(&mut room)?;
         let room = u32::from_le_bytes(room);
-        Ok(Some(Self { sheet, room }))
+        let mut mode = [0];
+        from.read_exact(&mut mode)?;
+        let mode = Mode::from_byte(mode[0])
+            .ok_or_else(|| io::Error::new(io::ErrorKind::InvalidData, "unknown mode"))?;
+        Ok(Some(Self { sheet, room, mode }))
     }
 
     pub fn write(&self, to: &mut impl Write) -> io::Result<()> {
         to.write_all(&length_of(&self.sheet))?;
         to.write_all(&self.sheet)?;
-        to.write_all(&self.room.to_le_bytes())
+        to.write_all(&self.room.to_le_bytes())?;
+        to.write_all(&[self.mode.byte()])
     }
 }
 
@@ -56,16 +63,23 @@ mod tests {
     #[test]
     fn questions_are_read_as_they_were_written() {
         let mut bytes = vec![];
-        for (sheet, room) in [(vec![], 7), (vec![1, 2, 3], u32::MAX)] {
-            let question = Question { sheet, room };
+        let asked = [
+            (vec![], 7, Mode::PLAIN),
+            (vec![1, 2, 3], u32::MAX, Mode::STRICT),
+        ];
+        for (sheet, room, mode) in asked.clone() {
+            let question = Question { sheet, room, mode };
             question.write(&mut bytes).expect("a Vec takes all");
         }
         let mut from = &bytes[..];
-        let mut next = || Question::read(&mut from).map(|q| q.map(|q| (q.sheet, q.room)));
-        assert_eq!(next().expect("whole"), Some((vec![], 7)));
-        assert_eq!(next().expect("whole"), Some((vec![1, 2, 3], u32::MAX)));
+        let mut next = || Question::read(&mut from).map(|q| q.map(|q| (q.sheet, q.room, q.mode)));
+        for question in asked {
+            assert_eq!(next().expect("whole"), Some(question));
+        }
         assert_eq!(next().expect("the end"), None);
-        assert!(Question::read(&mut &bytes[..bytes.len() - 1][8..]).is_err());
+        assert!(Question::read(&mut &bytes[..bytes.len() - 1][9..]).is_err());
+        bytes[8] = 2;
+        assert!(Question::read(&mut &bytes[..]).is_err());
     }
 
     #[test]

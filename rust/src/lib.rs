@@ -1,20 +1,22 @@
 //! Packs sheets of ActionScript 2 actions into the blocks of bytes that a player reads, and steps through blocks.
 //!
 //! The work is done by the proved archive `libmerinovault.a`; this crate only calls it. Answers have the names, numbers and values
-//! of document 01.
+//! of documents 01 and 02.
 //!
 //! ```
-//! use merinovault::{Refusal, pack, step};
+//! use merinovault::{Mode, Refusal, pack, step};
 //!
 //! // Label 0 before action 0; one action, Jump to label 0; the trailer.
 //! let mut sheet = *b"\x01\0\0\0\0\0\x01\0\x99\0\0\x0B\0\0\0\x01\0A1";
 //! let mut out = [0; 64];
-//! let length = pack(&sheet, &mut out)?;
+//! let length = pack(&sheet, Mode::PLAIN, &mut out)?;
 //! assert_eq!(out[..length], [0x99, 2, 0, 0xFB, 0xFF, 0]);
 //! assert_eq!(step(&out[..length]), Ok(2));
 //!
-//! sheet[8] = 0x98;
-//! assert_eq!(pack(&sheet, &mut out), Err(Refusal::UnknownCode { place: 8 }));
+//! // Label 0 past the body's end, which is no record: the Jump goes on with what stands after it, or is refused.
+//! sheet[4] = 2;
+//! assert_eq!(pack(&sheet, Mode::PLAIN, &mut out), Ok(6));
+//! assert_eq!(pack(&sheet, Mode::STRICT, &mut out), Err(Refusal::NeverRecorded { operand: 3 }));
 //! # Ok::<(), Refusal>(())
 //! ```
 #![deny(unsafe_code, missing_docs)]
@@ -29,12 +31,28 @@ pub const VALUE_LEN: usize = 8;
 
 const DONE: u32 = 0;
 
+/// How branches are judged. More fields may come, so a mode begins as one of the constants.
+#[derive(Clone, Copy, Debug, Default, PartialEq, Eq, Hash)]
+#[non_exhaustive]
+pub struct Mode {
+    /// Whether a branch whose label no body records is refused.
+    pub strict: bool,
+}
+
+impl Mode {
+    /// A branch whose label no body records has distance 0, so it goes on with what stands after it. This is the default.
+    pub const PLAIN: Self = Self { strict: false };
+
+    /// Such a branch is [`Refusal::NeverRecorded`]. All else is as in plain mode, the bytes of a block too.
+    pub const STRICT: Self = Self { strict: true };
+}
+
 /// Packs a sheet into the front of `out` and returns the length of the block.
 ///
 /// Bytes of `out` past that length keep their values; on a refusal all do. A block is never longer than three times the sheet.
-pub fn pack(sheet: &[u8], out: &mut [u8]) -> Result<usize, Refusal> {
+pub fn pack(sheet: &[u8], mode: Mode, out: &mut [u8]) -> Result<usize, Refusal> {
     let mut value = [0; VALUE_LEN];
-    let number = raw::pack(sheet, out, &mut value);
+    let number = raw::pack(sheet, mode.strict, out, &mut value);
     let value = i64::from_le_bytes(value);
     match number {
         DONE => Ok(length(value)),

@@ -8,6 +8,7 @@ mod entries {
         pub fn merinovault_pack(
             sheet: *const u8,
             sheet_len: usize,
+            strict: bool,
             out: *mut u8,
             out_len: usize,
             value: *mut u8,
@@ -24,15 +25,16 @@ mod entries {
 
 // SAFETY of both calls: an entry asks of its caller what the types of the slices say already. Each pointer and its length are one
 // slice, so they are at most isize::MAX bytes that may be read; `&mut` lets the entry write `out` and `value`, keeps them apart
-// from each other and from the rest, and keeps other threads off; `&` keeps writers off `sheet` and `block`. The entries have no
-// other demand, always return, do not unwind and keep no pointer.
+// from each other and from the rest, and keeps other threads off; `&` keeps writers off `sheet` and `block`. A `bool` is C's, true
+// or false. The entries have no other demand, always return, do not unwind and keep no pointer.
 
-/// Packs a sheet into `out`.
-pub fn pack(sheet: &[u8], out: &mut [u8], value: &mut [u8]) -> u32 {
+/// Packs a sheet into `out`, in plain mode or in strict mode.
+pub fn pack(sheet: &[u8], strict: bool, out: &mut [u8], value: &mut [u8]) -> u32 {
     unsafe {
         entries::merinovault_pack(
             sheet.as_ptr(),
             sheet.len(),
+            strict,
             out.as_mut_ptr(),
             out.len(),
             value.as_mut_ptr(),

@@ -3,7 +3,8 @@ use crate::length;
 use std::error::Error;
 use std::fmt;
 
-/// Why a sheet was not packed: document 01's answers 1 to 11. A place counts bytes from 0, the sheet's first.
+/// Why a sheet was not packed: answers 1 to 11 of document 01, and 14 of document 02. A place counts bytes from 0, the sheet's
+/// first.
 #[derive(Clone, Copy, Debug, PartialEq, Eq, Hash)]
 #[non_exhaustive]
 pub enum Refusal {
@@ -59,6 +60,11 @@ pub enum Refusal {
         /// The length that the block needs.
         needed: usize,
     },
+    /// 14: no body records a branch's label. Only strict mode refuses this.
+    NeverRecorded {
+        /// The byte position in the block at which the branch's operand would begin.
+        operand: usize,
+    },
 }
 
 use Refusal::*;
@@ -96,11 +102,32 @@ impl Refusal {
             11 => NoRoom {
                 needed: length(value),
             },
-            _ => unreachable!("packing answers 0 to 11, not {number}"),
+            14 => NeverRecorded {
+                operand: length(value),
+            },
+            _ => unreachable!("packing answers 0 to 11 or 14, not {number}"),
         }
     }
 
-    /// The answer's number in document 01.
+    /// The answer's name, as `NoRoom`.
+    pub fn name(&self) -> &'static str {
+        match self {
+            SheetTooLong { .. } => "SheetTooLong",
+            BadTrailer => "BadTrailer",
+            CutShort { .. } => "CutShort",
+            UnknownCode { .. } => "UnknownCode",
+            BadField { .. } => "BadField",
+            TooDeep { .. } => "TooDeep",
+            LeftOver { .. } => "LeftOver",
+            ActionLenOverflow { .. } => "ActionLenOverflow",
+            BlockLenOverflow { .. } => "BlockLenOverflow",
+            JumpOffsetOverflow { .. } => "JumpOffsetOverflow",
+            NoRoom { .. } => "NoRoom",
+            NeverRecorded { .. } => "NeverRecorded",
+        }
+    }
+
+    /// The answer's number.
     pub fn number(&self) -> u32 {
         match self {
             SheetTooLong { .. } => 1,
@@ -114,10 +141,11 @@ impl Refusal {
             BlockLenOverflow { .. } => 9,
             JumpOffsetOverflow { .. } => 10,
             NoRoom { .. } => 11,
+            NeverRecorded { .. } => 14,
         }
     }
 
-    /// The answer's value in document 01.
+    /// The answer's value.
     pub fn value(&self) -> i64 {
         match *self {
             BadTrailer => 0,
@@ -131,6 +159,7 @@ impl Refusal {
             | BlockLenOverflow { length } => length as i64,
             JumpOffsetOverflow { distance } => distance,
             NoRoom { needed } => needed as i64,
+            NeverRecorded { operand } => operand as i64,
         }
     }
 }
@@ -182,6 +211,10 @@ impl fmt::Display for Refusal {
             NoRoom { needed } => write!(
                 f,
                 "the block needs {needed} bytes, more than the output has"
+            ),
+            NeverRecorded { operand } => write!(
+                f,
+                "byte {operand} of the block: no body records the label of the branch whose operand begins here"
             ),
         }
     }

@@ -1,43 +1,65 @@
 //! Every answer, through the safe functions. Each packing looks at the bytes that must keep their values (`packed`).
 mod common;
 use common::*;
-use merinovault::{Refusal, Unclean, pack, step};
+use merinovault::{Mode, Refusal, Unclean, pack, step};
 
 const ROOM: usize = 200_000;
 
-/// The refusal, with its number and value held to document 01's.
-fn refused(sheet: &[u8], number: u32, value: i64) -> Refusal {
-    let refusal = packed(sheet, ROOM).expect_err("a refusal");
+/// The refusal in this mode, with its number and value held to the documents'.
+fn refused_in(mode: Mode, sheet: &[u8], number: u32, value: i64) -> Refusal {
+    let refusal = packed(sheet, mode, ROOM).expect_err("a refusal");
     assert_eq!(
         (refusal.number(), refusal.value()),
         (number, value),
         "{refusal:?}"
     );
     // What is wrong with a sheet comes before the room.
-    assert_eq!(packed(sheet, 0), Err(refusal));
+    assert_eq!(packed(sheet, mode, 0), Err(refusal));
     refusal
 }
 
+/// The refusal, which is the same in both modes.
+fn refused(sheet: &[u8], number: u32, value: i64) -> Refusal {
+    let refusal = refused_in(Mode::PLAIN, sheet, number, value);
+    assert_eq!(refused_in(Mode::STRICT, sheet, number, value), refusal);
+    refusal
+}
+
+/// The block in plain mode.
+fn taken_plain(sheet: &[u8]) -> Vec<u8> {
+    packed(sheet, Mode::PLAIN, ROOM).expect("a block")
+}
+
+/// The block, which is the same in both modes.
 fn taken(sheet: &[u8]) -> Vec<u8> {
-    packed(sheet, ROOM).expect("a block")
+    let block = taken_plain(sheet);
+    assert_eq!(packed(sheet, Mode::STRICT, ROOM), Ok(block.clone()));
+    block
 }
 
 #[test]
 fn done_gives_the_block_and_keeps_the_rest() {
-    for (main, block) in sums() {
-        for spare in [0, 1, 100] {
-            assert_eq!(
-                packed(&sheet(&main), block.len() + spare),
-                Ok(block.clone())
-            );
+    for mode in MODES {
+        for (main, block) in sums(mode) {
+            for spare in [0, 1, 100] {
+                let room = block.len() + spare;
+                assert_eq!(packed(&sheet(&main), mode, room), Ok(block.clone()));
+            }
+            let noted = sheet_with_note(b"a note", &main);
+            assert_eq!(packed(&noted, mode, ROOM), Ok(block));
         }
-        assert_eq!(taken(&sheet_with_note(b"a note", &main)), block);
     }
 }
 
 #[test]
+fn plain_is_the_default() {
+    assert_eq!(Mode::default(), Mode::PLAIN);
+    assert_eq!(MODES.map(|mode| mode.strict), [false, true]);
+}
+
+#[test]
 fn sheet_too_long() {
-    let (main, block) = &sums()[5];
+    let (main, block) = &sums(Mode::PLAIN)[5];
     let of = |length: usize| sheet_with_note(&vec![b'n'; length - 8 - main.len()], main);
     assert_eq!(taken(&of(1_048_576)), *block);
     assert_eq!(
@@ -170,27 +192,93 @@ fn jump_offset_overflow() {
 
 #[test]
 fn no_room() {
-    for (main, block) in sums() {
-        for room in 0..block.len() {
-            let refusal = packed(&sheet(&main), room).expect_err("a refusal");
-            assert_eq!(
-                refusal,
-                Refusal::NoRoom {
-                    needed: block.len()
-                }
-            );
-            assert_eq!(
-                (refusal.number(), refusal.value()),
-                (11, block.len() as i64)
-            );
+    for mode in MODES {
+        for (main, block) in sums(mode) {
+            let needed = block.len();
+            for room in 0..needed {
+                let refusal = packed(&sheet(&main), mode, room).expect_err("a refusal");
+                assert_eq!(refusal, Refusal::NoRoom { needed });
+                assert_eq!((refusal.number(), refusal.value()), (11, needed as i64));
+            }
         }
     }
 }
 
+/// Strict mode refuses the sheet of this main body at this operand. Plain mode takes it and gives that branch distance 0.
+fn never_recorded(main: &[u8], operand: usize) {
+    // The position is the block's: a note does not move it.
+    for sheet in [sheet(main), sheet_with_note(b"a note", main)] {
+        assert_eq!(
+            refused_in(Mode::STRICT, &sheet, 14, operand as i64),
+            Refusal::NeverRecorded { operand }
+        );
+        assert_eq!(taken_plain(&sheet)[operand..operand + 2], [0, 0]);
+    }
+}
+
+#[test]
+fn never_recorded_branches() {
+    never_recorded(&p7(), 3);
+    // Jump and If, without an entry; of two branches the first, behind one that has its record
+    never_recorded(&body(&[], &[&jump(0)]), 3);
+    never_recorded(&body(&[(1, 0)], &[CALL, &[0x9D, 0, 0]]), 6);
+    never_recorded(&body(&[(5, 0)], &[&jump(5), &jump(6), &jump(7)]), 8);
+    // in a body, which also has the only entry, past its end
+    let inside = body(&[(3, 2)], &[&jump(3)]);
+    never_recorded(&body(&[], &[POP, &with(&inside)]), 9);
+    // in the last body of a Try
+    let attempt = [
+        &[0x8F, 2][..],
+        &body(&[], &[PLAY]),
+        &body(&[], &[&jump(1023)]),
+    ]
+    .concat();
+    never_recorded(&body(&[(1022, 0)], &[&attempt]), 15);
+}
+
+#[test]
+fn recorded_branches_are_taken_in_both_modes() {
+    // right behind the branch, which has distance 0 as well
+    let behind = body(&[(0, 1)], &[&jump(0)]);
+    assert_eq!(taken(&sheet(&behind)), [0x99, 2, 0, 0, 0, 0]);
+    // in another body, though this one's entry is past its end
+    let inside = with(&body(&[(0, 1)], &[PLAY]));
+    let elsewhere = body(&[(0, 3)], &[&jump(0), &inside]);
+    assert_eq!(
+        taken(&sheet(&elsewhere)),
+        [0x99, 2, 0, 6, 0, 0x94, 2, 0, 1, 0, 6, 0]
+    );
+    // an entry past its body's end takes nothing from a record made before
+    let past = with(&body(&[(0, 2)], &[PLAY]));
+    let before = body(&[(0, 0)], &[&jump(0), &past]);
+    assert_eq!(taken(&sheet(&before))[..5], [0x99, 2, 0, 0xFB, 0xFF]);
+}
+
+#[test]
+fn the_first_branch_decides_between_10_and_14() {
+    let pops = vec![POP; 32_768];
+    let (far, lost) = (jump(0), jump(1));
+    let of = |first: &[u8], second: &[u8]| {
+        let actions = [&[first, second][..], &pops].concat();
+        sheet(&body(&[(0, actions.len())], &actions))
+    };
+    refused(&of(&far, &lost), 10, 32_773);
+    refused_in(Mode::STRICT, &of(&lost, &far), 14, 3);
+    refused_in(Mode::PLAIN, &of(&lost, &far), 10, 32_768);
+}
+
+#[test]
+fn lengths_come_before_branches() {
+    let lost = jump(0);
+    refused(&sheet(&body(&[], &[&lost, &set_target(65_535)])), 8, 65_536);
+    let over = with(&body(&[], &[&[CALL][..], &[POP; 65_533]].concat()));
+    refused(&sheet(&body(&[], &[&lost, &over])), 9, 65_536);
+}
+
 #[test]
 fn stepping() {
-    for (main, _) in sums() {
-        assert!(step(&taken(&sheet(&main))).is_ok());
+    for (main, _) in sums(Mode::PLAIN) {
+        assert!(step(&taken_plain(&sheet(&main))).is_ok());
     }
     assert_eq!(step(&[0]), Ok(1));
     assert_eq!(step(&[0x99, 2, 0, 5, 0, 0x94, 2, 0, 1, 0, 6, 0]), Ok(4));
@@ -214,12 +302,12 @@ fn stepping() {
 #[test]
 fn several_threads_pack_at_once() {
     std::thread::scope(|scope| {
-        for _ in 0..4 {
-            scope.spawn(|| {
+        for mode in MODES.repeat(2) {
+            scope.spawn(move || {
                 for _ in 0..200 {
-                    for (main, block) in sums() {
+                    for (main, block) in sums(mode) {
                         let mut out = [0; 16];
-                        assert_eq!(pack(&sheet(&main), &mut out), Ok(block.len()));
+                        assert_eq!(pack(&sheet(&main), mode, &mut out), Ok(block.len()));
                         assert_eq!(out[..block.len()], block);
                     }
                 }

@@ -1,7 +1,7 @@
 //! The entries as they are: the value slice, and slices without a byte.
 mod common;
 use common::*;
-use merinovault::raw;
+use merinovault::{Mode, raw};
 
 #[test]
 fn another_value_length_is_11_and_nothing_is_written() {
@@ -9,11 +9,13 @@ fn another_value_length_is_11_and_nothing_is_written() {
         for fill in [0xA5, 0x5A] {
             let mut value = vec![fill; length];
             let mut out = [fill; 16];
-            for (main, _) in sums() {
-                assert_eq!(raw::pack(&sheet(&main), &mut out, &mut value), 11);
+            for strict in [false, true] {
+                for (main, _) in sums(Mode::PLAIN) {
+                    assert_eq!(raw::pack(&sheet(&main), strict, &mut out, &mut value), 11);
+                }
+                // before what is wrong with the sheet
+                assert_eq!(raw::pack(&[], strict, &mut out, &mut value), 11);
             }
-            // before what is wrong with the sheet
-            assert_eq!(raw::pack(&[], &mut out, &mut value), 11);
             assert_eq!(raw::step(&[0], &mut value), 11);
             assert_eq!(raw::step(&[], &mut value), 11);
             assert!(value.iter().chain(&out).all(|&byte| byte == fill));
@@ -29,38 +31,41 @@ fn the_value_is_little_endian() {
         &[(0, 0)],
         &[&vec![POP; 32_764][..], &[&jump]].concat(),
     ));
-    assert_eq!(raw::pack(&far, &mut [], &mut value), 10);
+    assert_eq!(raw::pack(&far, false, &mut [], &mut value), 10);
     assert_eq!(value, [0xFF, 0x7F, 0xFF, 0xFF, 0xFF, 0xFF, 0xFF, 0xFF]);
-    assert_eq!(
-        raw::pack(&sheet(&body(&[], &[CALL; 200])), &mut [], &mut value),
-        11
-    );
+    let calls = body(&[], &[CALL; 200]);
+    assert_eq!(raw::pack(&sheet(&calls), false, &mut [], &mut value), 11);
     assert_eq!(value, [0x59, 0x02, 0, 0, 0, 0, 0, 0]);
+    let lost = body(&[], &[&[CALL; 200][..], &[&jump]].concat());
+    assert_eq!(raw::pack(&sheet(&lost), true, &mut [], &mut value), 14);
+    assert_eq!(value, [0x5B, 0x02, 0, 0, 0, 0, 0, 0]);
 }
 
 #[test]
 fn empty_slices() {
-    let mut value = [0xA5; 8];
-    assert_eq!((raw::pack(&[], &mut [], &mut value), value), (2, [0; 8]));
-    let mut value = [0xA5; 8];
-    assert_eq!(
-        (
-            raw::pack(&sheet(&body(&[], &[])), &mut [], &mut value),
-            value
-        ),
-        (11, 1i64.to_le_bytes())
-    );
+    let empty = sheet(&body(&[], &[]));
+    for strict in [false, true] {
+        let packing = |sheet: &[u8]| {
+            let mut value = [0xA5; 8];
+            (raw::pack(sheet, strict, &mut [], &mut value), value)
+        };
+        assert_eq!(packing(&[]), (2, [0; 8]));
+        assert_eq!(packing(&empty), (11, 1i64.to_le_bytes()));
+        assert_eq!(raw::pack(&[], strict, &mut [], &mut []), 11);
+    }
     let mut value = [0xA5; 8];
     assert_eq!((raw::step(&[], &mut value), value), (13, [0; 8]));
-    assert_eq!(raw::pack(&[], &mut [], &mut []), 11);
     assert_eq!(raw::step(&[], &mut []), 11);
 }
 
 #[test]
 fn only_the_eight_bytes_of_the_value_change() {
-    let packing = |value: &mut [u8]| raw::pack(&sheet(&body(&[], &[])), &mut [0; 4], value);
+    let packing =
+        |strict, value: &mut [u8]| raw::pack(&sheet(&body(&[], &[])), strict, &mut [0; 4], value);
+    let plain = |value: &mut [u8]| packing(false, value);
+    let strict = |value: &mut [u8]| packing(true, value);
     let stepping = |value: &mut [u8]| raw::step(&[0], value);
-    for call in [&packing as &dyn Fn(&mut [u8]) -> u32, &stepping] {
+    for call in [&plain as &dyn Fn(&mut [u8]) -> u32, &strict, &stepping] {
         let mut bytes = [0xA5; 24];
         assert_eq!(call(&mut bytes[8..16]), 0);
         assert_eq!(bytes[8..16], 1i64.to_le_bytes());

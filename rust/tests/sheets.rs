@@ -1,6 +1,7 @@
 //! The list of crates/replay, packed from Rust: number, value and block are what the oracle answered.
 mod common;
 use common::packed;
+use merinovault::Mode;
 use std::fs;
 use std::path::Path;
 
@@ -38,19 +39,30 @@ fn unrolled(pattern: &[u8]) -> Vec<u8> {
     bytes
 }
 
+/// Bit 0 is strict; no other bit has a meaning.
+fn mode(bits: u8) -> Mode {
+    match bits {
+        0 => Mode::PLAIN,
+        1 => Mode::STRICT,
+        _ => panic!("the list is wrong: mode {bits}"),
+    }
+}
+
 #[test]
 fn answers_are_the_oracles() {
     let file = Path::new(env!("CARGO_MANIFEST_DIR")).with_file_name("crates/replay/stdin");
     let records = fs::read(file).expect("crates/replay/stdin");
     let mut list = List(&records);
-    let mut record = 0;
+    let (mut record, mut strict) = (0, 0);
     while !list.0.is_empty() {
         record += 1;
         let (sheet, block, room) = (list.u32(), list.u32(), list.u32());
-        let [number] = list.array();
+        let [bits, number] = list.array();
+        let mode = mode(bits);
+        strict += usize::from(mode.strict);
         let value = i64::from_le_bytes(list.array());
         let (sheet, block) = (unrolled(list.bytes(sheet)), unrolled(list.bytes(block)));
-        match packed(&sheet, room) {
+        match packed(&sheet, mode, room) {
             Ok(made) => {
                 assert_eq!((number, value), (0, made.len() as i64), "record {record}");
                 assert!(made == block, "record {record}: another block");
@@ -62,4 +74,5 @@ fn answers_are_the_oracles() {
         }
     }
     assert!(record > 3_000, "{record} records");
+    assert!(strict > 0, "no record is in strict mode");
 }

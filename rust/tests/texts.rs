@@ -53,10 +53,19 @@ fn refusals() {
             Refusal::NoRoom { needed: 6 },
             "the block needs 6 bytes, more than the output has",
         ),
+        (
+            Refusal::NeverRecorded { operand: 15 },
+            "byte 15 of the block: no body records the label of the branch whose operand begins here",
+        ),
     ];
     for (refusal, text) in texts {
         let error: &dyn Error = &refusal;
         assert_eq!(error.to_string(), text);
+        // A name is the one that the enum has.
+        assert_eq!(
+            format!("{refusal:?}").split(' ').next(),
+            Some(refusal.name())
+        );
     }
 }
 

@@ -17,7 +17,7 @@ use Rattle.layout.specs.Answers.{Done}
 use Rattle.layout.specs.Tree.{PushValue, String, Null, Undefined, Register, Boolean, Float, Integer, Constant, FunctionParam, functionParam, Flat, Small, GotoFrame, GetUrl, StoreRegister, ConstantPool, WaitForFrame, SetTarget, GotoLabel, WaitForFrame2, Push, GetUrl2, GotoFrame2, Owner, With, DefineFunction, DefineFunction2, Branch, Jump, If, Variable, ActionIndex, firstAction, nextAction, Entry, entry, Action, flat, branch, owner, Try, ActionList, empty, more, Actions, body, Catch, noCatch, catch, Finally, noFinally, finally}
 use Rattle.layout.specs.Payload.{zeroEnded, stringsBytes, constantBytes, doubleBytes, pushBytes, pushesBytes, opcode, gotoFrame2Bytes, getUrl2Bits, payload, paramsBytes, ownerOpCode, ownerFields, ownerPayload, branchOpCode, catchShape, finallyShape, catchName, tryPayload, framed}
 use Rattle.layout.specs.Write.{size, bodySize, catchSize, finallySize, Position, position, Event, labelAt, branchAt, payloadTooLong, bodyTooLong, moved, eventIf, payloadTest, bodyTest, labelsAt, trace, traces, traceBody, traceCatch, traceFinally, events, later, recordIf, lookup, distanceBits, branchBits, bytes, actionsBytes, bodyBytes, catchBytes, finallyBytes, blockBytes}
-use Rattle.layout.specs.Judge.{judged, tooFar}
+use Rattle.layout.specs.Judge.{judged, tooFar, Mode}
 use Rattle.layout.specs.Pack.{pack, ReadsAs}
 use Rattle.layout.specs.Lengths.{length-le16, length-tryPayload, framed-long, framed-short, length-framed, owner-long, length-bytes, length-body, length-catch, length-finally}
 use Rattle.laws.specs.Fits.{Bytes, Clean, ValueFits, ParamFits, Listed, FlatFits, OwnerFits, NameFits, Fits, ActionsFit, BodyFits, CatchFits, FinallyFits}
@@ -830,21 +830,21 @@ pub end-written : (r : List ℕ) → FlatRecord asWritten (Small SmallOpCode.End
 end-written r (ActionSimple {ActionCode = n} m a) = absurd (end-not-simple n m)
 end-written r (EndAmongActions byteZero) = refl
 
--- ---- the theorems, for a sheet s of bytes that reads whole as a tree t and is packed to a block q
+-- ---- the theorems, for a sheet s of bytes that reads whole as a tree t and is packed, in whatever mode, to a block q
 
 -- Demand 2, its second half: the block is a sequence of published records with the contents of the tree, then ActionEndFlag.
 -- Each Length is the length of the record's fields, each code size that of the body that follows, each branch offset the
 -- signed distance from the end of its record to the last place of its label, or 0 without one. GetUrl2's bits, a double's
 -- words and an End among the actions are as `asWritten` says
-pub follows-published : (s : List ℕ) (t : Actions) (room : ℕ) (q : List ℕ) → Bytes s → ReadsAs s t → pack s room ≡ Done q → Block asWritten t q
-follows-published s t room q small h e =
-    let k : Written t room q = is-written s room q t h e in
+pub follows-published : (m : Mode) (s : List ℕ) (t : Actions) (room : ℕ) (q : List ℕ) → Bytes s → ReadsAs s t → pack m s room ≡ Done q → Block asWritten t q
+follows-published m s t room q small h e =
+    let k : Written t room q = is-written m s room q t h e in
     subst (λ (b : List ℕ). Block asWritten t b) (k .is-block) (tree-follows t (tree-fits s t small h (k .is-short)) (k .is-near))
 
 -- for a tree without GetUrl2, without a pushed double and without End it is as published, so there is no other difference
-pub no-other-difference : (s : List ℕ) (t : Actions) (room : ℕ) (q : List ℕ) → Bytes s → ReadsAs s t → pack s room ≡ Done q → BodyUndisputed t
+pub no-other-difference : (m : Mode) (s : List ℕ) (t : Actions) (room : ℕ) (q : List ℕ) → Bytes s → ReadsAs s t → pack m s room ≡ Done q → BodyUndisputed t
     → Block asPublished t q
-no-other-difference s t room q small h e u = block-published (follows-published s t room q small h e) u
+no-other-difference m s t room q small h e u = block-published (follows-published m s t room q small h e) u
 
 -- and in any such block a label stands only where a record starts or a body ends
 pub label-starts : (order : Order) (t : Actions) (q : List ℕ) (b : Block order t q) (l at : ℕ) → lastPlace (b .labels) l ≡ some at

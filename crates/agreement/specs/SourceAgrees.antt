@@ -11,15 +11,16 @@ use lib.IntN.{ℤ, pos, subℕ}
 use lib.Dec.{leb}
 use borrow.Author.Tests.{leb-true, leb-false}
 use Rattle.layout.specs.OpCode.{OpCode, SmallOpCode, smallByte, byte}
-use Rattle.layout.specs.Answers.{Fault, CutShort, UnknownCode, BadField, TooDeep, LeftOver, Refusal, SheetTooLong, BadTrailer, ReadingFault, ActionLenOverflow, BlockLenOverflow, JumpOffsetOverflow, NoRoom, InputFull, Unclean, Answer, Done, Refused, faultNumber, refusalNumber, refusalValue}
+use Rattle.layout.specs.Answers.{Fault, CutShort, UnknownCode, BadField, TooDeep, LeftOver, Refusal, SheetTooLong, BadTrailer, ReadingFault, ActionLenOverflow, BlockLenOverflow, JumpOffsetOverflow, NoRoom, InputFull, Unclean, NeverRecorded, Answer, Done, Refused, faultNumber, refusalNumber, refusalValue}
 use Rattle.layout.specs.Tree.{Actions}
 use Rattle.layout.specs.Payload.{headed, framed}
 use Rattle.layout.specs.Write.{Position, position, Event, labelAt, branchAt, payloadTooLong, bodyTooLong, traceBody, events, lookup, branchBits, bodyBytes, blockBytes, blockSize}
-use Rattle.layout.specs.Judge.{tooLong, distance, isNear, farUnless, judged, orElse, farBy, tooFar, judge}
+use Rattle.layout.specs.Judge.{tooLong, distance, isNear, farUnless, judged, orElse, firstRefused, tooFar, judge, plainMode}
 use Rattle.layout.specs.Pack.{unless, ifRoom, packTree, pack, ReadsAs}
 use Rattle.layout.specs.Order.{tree-next}
 use Rattle.layout.specs.Lengths.{length-block}
 use Rattle.laws.specs.Fits.{Bytes, WellBody}
+use Rattle.laws.specs.Modes.{plain-far}
 use Rattle.laws.specs.Packed.{tree-good}
 use Rattle.agreement.specs.Source.{PendingLabelWrite, ActionEncoder, EncoderError, JumpOffsetOverflow, ActionLenOverflow, BlockLenOverflow, Result, ok, err, panicked, after, for-each, new, patch-label, patch-labels, write-small-action, write-actions, encoding, encode}
 use Rattle.agreement.specs.SourceSteps.{firstOverflow, pendingOf, recorded, firstOf, resultOf, encoder}
@@ -97,7 +98,7 @@ judged-is (some s) p = go (isNear (s .at) p)
 
 -- and so for what is too far
 far-is : (all es : List Event) → tooFar all es ≡ refusalsOf (firstFar all es)
-unfolding farBy firstFar
+unfolding firstRefused firstFar
 far-is all [] = unfold refusalsOf in refl
 far-is all (labelAt l s ∷ es) = far-is all es
 far-is all (branchAt l s ∷ es) =
@@ -157,10 +158,10 @@ module _ (t : Actions) (well : WellBody t) where
       after-by (write-actions t new) (firstOverflow seen) (firstFar seen seen) drafted patched (λ e. after (write-small-action SmallOpCode.End e) patch-labels) drafted-is
       (after-by (write-small-action SmallOpCode.End drafted) none (firstFar seen seen) ended patched patch-labels ended-is patched-is ∙ (unfold firstOf in refl))
 
-  tree-same : (room : ℕ) → Agrees room (encode t) (packTree t room)
+  tree-same : (room : ℕ) → Agrees room (encode t) (packTree plainMode t room)
   unfolding packTree judge
   tree-same room =
-      rw (encoded-is, long-is seen, far-is seen seen, ← (first-refusals (firstOverflow seen) (firstFar seen seen)))
+      rw (encoded-is, long-is seen, plain-far (λ l. lookup l seen) seen, far-is seen seen, ← (first-refusals (firstOverflow seen) (firstFar seen seen)))
       (go (firstOf (firstOverflow seen) (firstFar seen seen)))
     where
       fit : (z : Bool) → leb (blockSize t) room ≡ z → Agrees room (ok patched) (ifRoom z (blockBytes t) (blockSize t))
@@ -204,6 +205,7 @@ refusal-once (JumpOffsetOverflow y) (JumpOffsetOverflow z) e v = unfold refusalO
 refusal-once (NoRoom n) x e v = absurd (omega (arith, error-from x .1))
 refusal-once InputFull x e v = absurd (omega (arith, error-from x .1))
 refusal-once (Unclean p) x e v = absurd (omega (arith, error-from x .1))
+refusal-once (NeverRecorded p) x e v = absurd (omega (arith, error-from x .1))
 
 -- ---- no answer agrees with a panic
 
@@ -219,10 +221,11 @@ returned (overflowed n v) = tt
 
 -- ---- the theorems, for a sheet s of bytes that reads whole as a tree t
 
--- Demand 2, its first half: at any room, the answer agrees with what the source gives for the tree. Done has the source's
--- bytes; an overflow has its number and value; NoRoom is answered only where the source's output is longer than the room
-pub same-as-source : (s : List ℕ) (t : Actions) (room : ℕ) → Bytes s → ReadsAs s t → Agrees room (encode t) (pack s room)
-same-as-source s t room small h = rw (tree-next s room t h) (tree-same t (tree-good s t small h .0) room)
+-- Demand 2, its first half, which "speaks of plain mode": at any room, the answer agrees with what the source gives for the tree.
+-- Done has the source's bytes; an overflow has its number and value; NoRoom is answered only where the source's output is longer
+-- than the room
+pub same-as-source : (s : List ℕ) (t : Actions) (room : ℕ) → Bytes s → ReadsAs s t → Agrees room (encode t) (pack plainMode s room)
+same-as-source s t room small h = rw (tree-next plainMode s room t h) (tree-same t (tree-good s t small h .0) room)
 
 -- the source's asserts hold, and its slice indexes and differences are in range
 pub never-panics : (s : List ℕ) (t : Actions) → Bytes s → ReadsAs s t → encode t ≡ panicked → ⊥

@@ -2,8 +2,9 @@
 ghost use mathlib.Core.Path.{_≡_};
 ghost use Rattle.layout.specs.Numbers.{bits64};
 ghost use Rattle.answer.specs.Answered.{number, value, valueBy};
+use positions::BytePosition;
 
-// Document 01's answers to a packer, each with its value; a distance as its 64 bits.
+// Documents 01 and 02's answers to a packer, each with its value; a distance as its 64 bits.
 pub enum Answer {
     Done(usize),
     SheetTooLong(usize),
@@ -17,6 +18,7 @@ pub enum Answer {
     BlockLenOverflow(usize),
     JumpOffsetOverflow(u64),
     NoRoom(usize),
+    NeverRecorded(BytePosition),
 }
 
 // The answer's number.
@@ -36,6 +38,7 @@ pub fn number_of(a: Answer) -> u32
         Answer::BlockLenOverflow(_) => 9,
         Answer::JumpOffsetOverflow(_) => 10,
         Answer::NoRoom(_) => 11,
+        Answer::NeverRecorded(_) => 14,
     }
 }
 
@@ -56,5 +59,6 @@ pub fn value_of(a: Answer) -> u64
         Answer::BlockLenOverflow(n) => n as u64,
         Answer::JumpOffsetOverflow(bits) => bits,
         Answer::NoRoom(n) => n as u64,
+        Answer::NeverRecorded(p) => p.0 as u64,
     }
 }

@@ -1,8 +1,7 @@
 -- Laws of 11 and 0: from the room and what the writer leaves to the answer by the definitions. Assumes nothing.
 use mathlib.Core.Path.{_≡_, refl, sym, ap, _∙_, subst}
-use Prim.Native.Nat.{ℕ, _+_, _-_, _*_, _≤_, _<_}
+use Prim.Native.Nat.{ℕ, _+_, _*_, _≤_, _<_}
 use native.Mathlib.Omega.{arith}
-use mathlib.Core.Option.{none}
 use mathlib.Core.List.{List, _++_}
 use lib.IntN.{pos}
 use lib.ListN.{length, take, drop, length-take}
@@ -10,11 +9,10 @@ use Rattle.layout.specs.Answers.{Refusal, NoRoom, Refused, refusalNumber, refus
 use Rattle.layout.specs.Answers as answers
 use Rattle.layout.specs.Tree.{Actions}
 use Rattle.layout.specs.Read.{edition1, deepest}
-use Rattle.layout.specs.Write.{events, bodySize, blockBytes, blockSize}
+use Rattle.layout.specs.Write.{bodySize, blockBytes, blockSize}
 use Rattle.layout.specs.Lengths.{length-block}
-use Rattle.layout.specs.Judge.{tooLong, tooFar, orElse, judge}
-use Rattle.layout.specs.Pack.{spelling, packTree, output}
-use Rattle.layout.specs.Order.{room-last, then-done}
+use Rattle.layout.specs.Pack.{spelling, blockIn, output}
+use Rattle.layout.specs.Order.{no-room, has-room}
 use Rattle.laws.specs.Fits.{Bytes}
 use Rattle.laws.specs.ReadFits.{good-got, main-good}
 use Rattle.laws.specs.Packed.{ReadsMain, spells, same-tree}
@@ -24,7 +22,7 @@ use Rattle.write.specs.Bodies.{MainWritable, WroteBlock}
 use Rattle.answer.specs.Answered.{number, value, Answered}
 use Rattle.answer.specs.declared.Answer.{Answer}
 use Rattle.answer.specs.declared.Answer.the-variants as answer
-use Rattle.if_room.specs.Near.{MainNear, MainPacked}
+use Rattle.if_room.specs.Near.{MainNear, MainAnswered}
 
 -- ---- an answer
 
@@ -35,9 +33,10 @@ unfolding output answers.number answers.value
 refused x o r e n v = rw e (record { told = record { is-number = n; is-value = v }; holds = refl })
 
 -- What is left for its tree is left for whatever tree it is found to read as.
-pub packed-by : {b old new : List ℕ} {r : Answer} (t : Actions) → ReadsMain b t → Answered (packTree t (length old)) old r new → MainPacked b old r new
-packed-by {b} {old} {new} {r} t h a =
-    record { packed = λ u k. subst (λ (v : Actions). Answered (packTree v (length old)) old r new) (same-tree b t u h k) a }
+pub answered-by : {answer : Actions → ℕ → answers.Answer (List ℕ)} {b old new : List ℕ} {r : Answer} (t : Actions) → ReadsMain b t → Answered (answer t (length old)) old r new
+    → MainAnswered answer b old r new
+answered-by {answer} {b} {old} {new} {r} t h a =
+    record { answered = λ u k. subst (λ (v : Actions). Answered (answer v (length old)) old r new) (same-tree b t u h k) a }
 
 -- ---- a main body that reads whole
 
@@ -47,18 +46,9 @@ tree-small b t small r =
     let g = (good-got (r .read) (r .next) (main-good edition1 b small spelling (Unit {0}) (spells b small edition1) deepest) (r .is-read)) .0 in
     subst (λ (x : Actions). bodySize x + 12 ≤ 3 * length b) (r .is-tree) (g .1 tt)
 
--- Where nothing is too long or too far, nothing is wrong.
-judge-none : (t : Actions) → tooLong (events t) ≡ none → tooFar (events t) (events t) ≡ none → judge t ≡ none
-unfolding judge orElse
-judge-none t e f = rw (e, f)
-
 module _ (b tab : List ℕ) (end : BytePosition) (m : MainNear b end tab) where
   abbrev t : Actions
   t = m .measured .tree
-
-  -- Nothing is wrong with it.
-  is-right : judge t ≡ none
-  is-right = judge-none t (m .is-short) (m .is-near)
 
   -- The length of its block.
   len-is : end .0 + 1 ≡ blockSize t
@@ -71,11 +61,10 @@ module _ (b tab : List ℕ) (end : BytePosition) (m : MainNear b end tab) where
 
   module _ (o : List ℕ) where
     -- An output that is shorter is left as it was.
-    pub near-no-room : length o < end .0 + 1 → MainPacked b o (answer.NoRoom (end .0 + 1)) o
+    pub near-no-room : length o < end .0 + 1 → MainAnswered blockIn b o (answer.NoRoom (end .0 + 1)) o
     unfolding number value refusalNumber refusalValue
     near-no-room l =
-        packed-by t (m .measured .reads)
-        (refused (NoRoom (blockSize t)) o (answer.NoRoom (end .0 + 1)) (room-last t (length o) is-right (omega (arith, len-is))) refl (ap pos len-is))
+        answered-by t (m .measured .reads) (refused (NoRoom (blockSize t)) o (answer.NoRoom (end .0 + 1)) (no-room t (length o) (omega (arith, len-is))) refl (ap pos len-is))
 
     module _ (l : end .0 + 1 ≤ length o) where
       -- The front that is lent to the writer.
@@ -97,13 +86,13 @@ module _ (b tab : List ℕ) (end : BytePosition) (m : MainNear b end tab) where
           }
 
       -- The block fills that front, and the rest keeps its values.
-      pub near-done : (front : List ℕ) → WroteBlock b (take (end .0 + 1) o) front → MainPacked b o (answer.Done (end .0 + 1)) (front ++ drop (end .0 + 1) o)
+      pub near-done : (front : List ℕ) → WroteBlock b (take (end .0 + 1) o) front → MainAnswered blockIn b o (answer.Done (end .0 + 1)) (front ++ drop (end .0 + 1) o)
       unfolding output number value answers.number answers.value
       near-done front w =
           let z : end .0 + 1 ≡ length (blockBytes t) = len-is ∙ sym (length-block t) in
           let f : front ≡ blockBytes t = w .wrote t (m .measured .reads) ∙ filled (take (end .0 + 1) o) (blockBytes t) (sym z ∙ sym front-long) in
-          packed-by t (m .measured .reads) (done (then-done t (length o) is-right (omega (arith, len-is))) z f)
+          answered-by t (m .measured .reads) (done (has-room t (length o) (omega (arith, len-is))) z f)
         where
-          done : packTree t (length o) ≡ answers.Done (blockBytes t) → end .0 + 1 ≡ length (blockBytes t) → front ≡ blockBytes t
-              → Answered (packTree t (length o)) o (answer.Done (end .0 + 1)) (front ++ drop (end .0 + 1) o)
+          done : blockIn t (length o) ≡ answers.Done (blockBytes t) → end .0 + 1 ≡ length (blockBytes t) → front ≡ blockBytes t
+              → Answered (blockIn t (length o)) o (answer.Done (end .0 + 1)) (front ++ drop (end .0 + 1) o)
           done e k f = rw (e, k, f) (record { told = record { is-number = refl; is-value = refl }; holds = refl })

@@ -8,7 +8,7 @@ use mathlib.Core.List.{List, [], _∷_, _++_}
 use lib.ListN.{length, getD}
 use lib.Dec.{ltb, eqb}
 use borrow.Author.Tests.{ltb-true, ltb-false}
-use Rattle.layout.specs.Answers.{Refusal, JumpOffsetOverflow}
+use Rattle.layout.specs.Answers.{Refusal}
 use Rattle.layout.specs.Answers as answers
 use Rattle.layout.specs.Numbers.{u16At}
 use Rattle.layout.specs.OpCode.{opcodeOf}
@@ -16,8 +16,7 @@ use Rattle.layout.specs.Tree.{ActionIndex, nextAction, firstAction, Entry, entr
 use Rattle.layout.specs.Read.{Text, edition1, Place, placed, Read, got, bad, Reader, chain, repeat, readAction, readActions, readBody, readFieldsIf}
 use Rattle.layout.specs.Strings.{mapAction, mapActions, mapBody}
 use Rattle.layout.specs.Write.{size, sizes, bodySize, Position, moved, Event, eventIf, labelAt, branchAt, labelsAt, trace, traces, traceBody, position}
-use Rattle.layout.specs.Order.{signed64}
-use Rattle.layout.specs.Judge.{orElse, judged, farBy}
+use Rattle.layout.specs.Judge.{Mode, orElse, judgedIn, firstRefused, badBy}
 use Rattle.layout.specs.Lengths.{total}
 use Rattle.layout.specs.Pack.{spelling}
 use Rattle.laws.specs.ReadFits.{good-got, action-good, body-good}
@@ -37,7 +36,7 @@ use Rattle.front.proofs.Fronts.{FrontRead, front-read}
 use Rattle.bodies.proofs.Walks.{body-deep, body-less, body-step, action-out, action-in, did-small, did-unknown, ran-is, ran-bad, outcome-is}
 use Rattle.judge.specs.declared.Judged.{Judged}
 use Rattle.judge.specs.declared.Judged.the-variants as code
-use Rattle.judge.specs.Judging.{BranchJudged, Judgeable, Judging, near, far}
+use Rattle.judge.specs.Judging.{BranchJudged, Judgeable, Judging, passed, refused}
 use Rattle.judge.proofs.Loops.{inEach, Looping}
 
 -- what was refused was not read
@@ -112,8 +111,8 @@ module _ (b : List ℕ) (d : ℕ) where
   abbrev pub One : Reader (ActionOf Text ℕ)
   One = readAction edition1 b (readBody edition1 b d)
 
-  abbrev pub Acting : (tab : List ℕ) → (Judged → Type 0) → ℕ → ℕ → BytePosition → Type 0
-  Acting tab = Looping One actionSize actionTrace b tab (action-onward b d)
+  abbrev pub Acting : (mode : Mode) (tab : List ℕ) → (Judged → Type 0) → ℕ → ℕ → BytePosition → Type 0
+  Acting mode tab = Looping One actionSize actionTrace b mode tab (action-onward b d)
 
   list-each : (es : List Entry) (pos : ℕ) (x : Read (List (ActionOf Text ℕ)))
       → measured bodyLength bodyEvents pos (chain (chain x (λ xs q. got (listOf xs) q)) (λ xs r. got (body es xs) r)) ≡ measured (total actionSize) (inEach actionSize actionTrace) pos x
@@ -178,9 +177,9 @@ module _ (b : List ℕ) (d at : ℕ) (pos : BytePosition) (tab : List ℕ) (j : 
   pub front-inside : at + 4 + 4 * u16At b at ≤ length b
   front-inside = opened .inside
 
-  pub body-start : (n front count p : ℕ) → n ≡ u16At b at → front ≡ at + 2 + 4 * n → count ≡ u16At b front → p ≡ front + 2
-      → Acting b (d - 1) tab (λ r. Judging tab (measured bodyLength bodyEvents (pos .0) (readBody edition1 b d (placed at))) r) count p pos
-  body-start n front count p e f g h =
+  pub body-start : (mode : Mode) (n front count p : ℕ) → n ≡ u16At b at → front ≡ at + 2 + 4 * n → count ≡ u16At b front → p ≡ front + 2
+      → Acting b (d - 1) mode tab (λ r. Judging mode tab (measured bodyLength bodyEvents (pos .0) (readBody edition1 b d (placed at))) r) count p pos
+  body-start mode n front count p e f g h =
       let k : front ≡ at + 2 + 4 * u16At b at = omega (arith, e, f) in
       let c : u16At b (at + 2 + 4 * u16At b at) ≡ count = sym (g ∙ ap (u16At b) k) in
       let m : at + 2 + 4 * u16At b at + 2 ≡ p = omega (arith, h, k) in
@@ -205,12 +204,12 @@ bodies-as [] p = refl
 bodies-as (x ∷ xs) p = ap (λ (l : List Event). bodyEvents x p ++ l) (bodies-as xs (p + bodyLength x))
 
 module _ (b : List ℕ) (d : ℕ) where
-  abbrev pub Inner : (tab : List ℕ) → (Judged → Type 0) → ℕ → ℕ → BytePosition → Type 0
-  Inner tab = Looping (readBody edition1 b d) bodyLength bodyEvents b tab (body-onward b d)
+  abbrev pub Inner : (mode : Mode) (tab : List ℕ) → (Judged → Type 0) → ℕ → ℕ → BytePosition → Type 0
+  Inner mode tab = Looping (readBody edition1 b d) bodyLength bodyEvents b mode tab (body-onward b d)
 
-  pub bodies-start : (n at : ℕ) (pos : BytePosition) (tab : List ℕ) → Judgeable (repeat (readBody edition1 b d) n (placed at)) b at pos tab
-      → Inner tab (λ r. Judging tab (measured (total bodyLength) inBodies (pos .0) (repeat (readBody edition1 b d) n (placed at))) r) n at pos
-  bodies-start n at pos tab j = record { rest = λ r v. rw (same (repeat (readBody edition1 b d) n (placed at))) v; judgeable = j }
+  pub bodies-start : (n at : ℕ) (pos : BytePosition) (mode : Mode) (tab : List ℕ) → Judgeable (repeat (readBody edition1 b d) n (placed at)) b at pos tab
+      → Inner mode tab (λ r. Judging mode tab (measured (total bodyLength) inBodies (pos .0) (repeat (readBody edition1 b d) n (placed at))) r) n at pos
+  bodies-start n at pos mode tab j = record { rest = λ r v. rw (same (repeat (readBody edition1 b d) n (placed at))) v; judgeable = j }
     where
       same : (x : Read (List (ActionsOf Text ℕ))) → measured (total bodyLength) inBodies (pos .0) x ≡ measured (total bodyLength) (inEach bodyLength bodyEvents) (pos .0) x
       same (got xs q) = unfold measured in ap (λ (l : List Event). got (measure (pos .0 + total bodyLength xs) (branches l)) q) (bodies-as xs (pos .0))
@@ -219,9 +218,9 @@ module _ (b : List ℕ) (d : ℕ) where
 -- ---- an action
 
 -- one branch among the events
-far-one : (tab : List ℕ) (n after p : ℕ) (o : Option Refusal) → p + 2 ≡ after → judged (recordAt tab n) after ≡ o → farBy (recordAt tab) (branchAt n (position p) ∷ []) ≡ o
-unfolding farBy
-far-one tab n after p o e h = rw (e, h) (last o)
+only-one : (rule : Option Position → Position → Option Refusal) (final : ℕ → Option Position) (n : ℕ) (s : Position) → firstRefused rule final (branchAt n s ∷ []) ≡ rule (final n) s
+unfolding firstRefused
+only-one rule final n s = last (rule (final n) s)
   where
     last : (o : Option Refusal) → orElse o none ≡ o
     last none = unfold orElse in refl
@@ -236,8 +235,8 @@ one-byte (owner o x) pos e = absurd (omega (arith, e))
 one-byte (Try x c f) pos e = absurd (omega (arith, e))
 
 module _ (b : List ℕ) (d at : ℕ) (pos : BytePosition) (tab : List ℕ) (j : Judgeable (readAction edition1 b (readBody edition1 b d) (placed at)) b at pos tab) where
-  abbrev Goal : Judged → Type 0
-  Goal r = Judging tab (measured actionSize actionTrace (pos .0) (readAction edition1 b (readBody edition1 b d) (placed at))) r
+  abbrev Goal : Mode → Judged → Type 0
+  Goal mode r = Judging mode tab (measured actionSize actionTrace (pos .0) (readAction edition1 b (readBody edition1 b d) (placed at))) r
 
   pub opcode-inside : at < length b
   opcode-inside = go (ltb at (length b)) refl
@@ -254,17 +253,17 @@ module _ (b : List ℕ) (d at : ℕ) (pos : BytePosition) (tab : List ℕ) (j : 
       let z : _≡_ {A = ℕ} 0 1 = cc in
       absurd (omega arith)
 
-  is-near : {q : ℕ} {w : BytePosition} → measured actionSize actionTrace (pos .0) (readAction edition1 b (readBody edition1 b d) (placed at)) ≡ got (measure (w .0) []) (placed q) → Goal (code.Ends q w)
-  unfolding farBy
-  is-near {q = q} {w = w} e = rw e (near {m = measure (w .0) []} {q = placed q} {w = w} refl refl)
+  is-passed : {mode : Mode} {q : ℕ} {w : BytePosition} → measured actionSize actionTrace (pos .0) (readAction edition1 b (readBody edition1 b d) (placed at)) ≡ got (measure (w .0) []) (placed q) → Goal mode (code.Ends q w)
+  unfolding firstRefused
+  is-passed {q = q} {w = w} e = rw e (passed {m = measure (w .0) []} {q = placed q} {w = w} refl refl)
 
-  pub small-near : getD b at 0 < 128 → Goal (code.Ends (at + 1) (record { 0 = pos .0 + 1 }))
-  small-near h = go (listed (getD b at 0)) refl
+  pub small-passed : (mode : Mode) → getD b at 0 < 128 → Goal mode (code.Ends (at + 1) (record { 0 = pos .0 + 1 }))
+  small-passed mode h = go (listed (getD b at 0)) refl
     where
-      go : (t : Bool) → listed (getD b at 0) ≡ t → Goal (code.Ends (at + 1) (record { 0 = pos .0 + 1 }))
+      go : (t : Bool) → listed (getD b at 0) ≡ t → Goal mode (code.Ends (at + 1) (record { 0 = pos .0 + 1 }))
       go true e =
           let o = outcome-is actionSize actionTrace (pos .0) (state [] []) (readAction edition1 b (readBody edition1 b d) (placed at)) (ran-is (did-small b d at pos [] [] opcode-inside h e) refl) in
-          is-near {q = at + 1} {w = record { 0 = pos .0 + 1 }} (measured-of actionSize actionTrace (pos .0) (o .1) ∙ ap₂ (λ (n : ℕ) (l : List Event). got (measure n l) (placed (at + 1))) (sym (o .2)) (one-byte (o .0) (pos .0) (omega (arith, o .2))))
+          is-passed {q = at + 1} {w = record { 0 = pos .0 + 1 }} (measured-of actionSize actionTrace (pos .0) (o .1) ∙ ap₂ (λ (n : ℕ) (l : List Event). got (measure n l) (placed (at + 1))) (sym (o .2)) (one-byte (o .0) (pos .0) (omega (arith, o .2))))
       go false e = no-fault (ran-bad (did-unknown b d at pos [] [] opcode-inside e) refl)
 
   module _ (l : Laid) (over over′ : List ℕ)
@@ -281,33 +280,36 @@ module _ (b : List ℕ) (d at : ℕ) (pos : BytePosition) (tab : List ℕ) (j : 
         go : Here (laid.Stops f p) → X
         go (stops g) = no-fault {f = f} {p = p} (rw fields (g (readBody edition1 b d) (state [] [])))
 
-    pub flat-near : (q : ℕ) (w : BytePosition) → l ≡ laid.Flat q w → Goal (code.Ends q w)
-    flat-near q w e = go (rw e at y)
+    pub flat-passed : (mode : Mode) (q : ℕ) (w : BytePosition) → l ≡ laid.Flat q w → Goal mode (code.Ends q w)
+    flat-passed mode q w e = go (rw e at y)
       where
-        go : Here (laid.Flat q w) → Goal (code.Ends q w)
-        go (flat g m) = is-near (rw fields (m (readBody edition1 b d)))
+        go : Here (laid.Flat q w) → Goal mode (code.Ends q w)
+        go (flat g m) = is-passed (rw fields (m (readBody edition1 b d)))
 
-    -- a branch's label, and where its operand ends
-    pub branch-asks : (q : ℕ) (w : BytePosition) (n : ℕ) → l ≡ laid.Branch q w n → (n < 1024) × (w .0 ≤ 1099511627776)
+    -- a branch's label, and where its operand stands
+    pub branch-asks : (q : ℕ) (w : BytePosition) (n : ℕ) → l ≡ laid.Branch q w n → (n < 1024) × (pos .0 + 3 + 2 ≤ 1099511627776)
     branch-asks q w n e = go (rw e at y)
       where
-        go : Here (laid.Branch q w n) → (n < 1024) × (w .0 ≤ 1099511627776)
+        go : Here (laid.Branch q w n) → (n < 1024) × (pos .0 + 3 + 2 ≤ 1099511627776)
         go (to-label i u v g) = (u, omega (arith, i, j .roomy .room, opcode-inside))
 
-    pub branch-found : (q : ℕ) (w : BytePosition) (n : ℕ) (r : Judged) → l ≡ laid.Branch q w n → BranchJudged tab n q (w .0) r → Goal r
-    branch-found q w n r e k = go (rw e at y) k
+    abbrev seen : ℕ → Measure
+    seen n = measure (pos .0 + 5) (branchAt n (position (pos .0 + 3)) ∷ [])
+
+    pub branch-found : (mode : Mode) (q : ℕ) (w : BytePosition) (n : ℕ) (r : Judged) → l ≡ laid.Branch q w n → BranchJudged mode tab n q (pos .0 + 3) r → Goal mode r
+    branch-found mode q w n r e k = go (rw e at y) k
       where
         here : (k : _) → readAction edition1 b (readBody edition1 b d) (placed at) ≡ got (branch k n) (placed q)
-            → measured actionSize actionTrace (pos .0) (readAction edition1 b (readBody edition1 b d) (placed at)) ≡ got (measure (pos .0 + 5) (branchAt n (record { at = pos .0 + 3 }) ∷ [])) (placed q)
+            → measured actionSize actionTrace (pos .0) (readAction edition1 b (readBody edition1 b d) (placed at)) ≡ got (seen n) (placed q)
         here k e = measured-of actionSize actionTrace (pos .0) e ∙ (unfold size trace mapAction branches moved in refl)
 
-        go : {r : Judged} → Here (laid.Branch q w n) → BranchJudged tab n q (w .0) r → Goal r
-        go (to-label {k = k} i u v g) (BranchJudged.near {w = x} h m) =
-            let o : pos .0 + 3 + 2 ≡ w .0 = omega (arith, i) in
-            rw (here k (fields ∙ g (readBody edition1 b d))) (near {m = measure (pos .0 + 5) (branchAt n (record { at = pos .0 + 3 }) ∷ [])} {q = placed q} {w = x} (far-one tab n (w .0) (pos .0 + 3) none o h) (m ∙ i))
-        go (to-label {k = k} i u v g) (BranchJudged.far {bits = bits} h) =
-            let o : pos .0 + 3 + 2 ≡ w .0 = omega (arith, i) in
-            rw (here k (fields ∙ g (readBody edition1 b d))) (far {m = measure (pos .0 + 5) (branchAt n (record { at = pos .0 + 3 }) ∷ [])} {q = placed q} {bits = bits} (far-one tab n (w .0) (pos .0 + 3) (some (JumpOffsetOverflow (signed64 bits))) o h))
+        only : badBy mode (recordAt tab) (seen n .branching) ≡ judgedIn mode (recordAt tab n) (position (pos .0 + 3))
+        only = only-one (judgedIn mode) (recordAt tab) n (position (pos .0 + 3))
+
+        go : {r : Judged} → Here (laid.Branch q w n) → BranchJudged mode tab n q (pos .0 + 3) r → Goal mode r
+        go (to-label {k = k} i u v g) (BranchJudged.passed {w = x} h m) =
+            rw (here k (fields ∙ g (readBody edition1 b d))) (passed {m = seen n} {q = placed q} {w = x} (only ∙ h) (omega (arith, m)))
+        go (to-label {k = k} i u v g) (BranchJudged.refused {bad = x} h) = rw (here k (fields ∙ g (readBody edition1 b d))) (refused {m = seen n} {q = placed q} {bad = x} (only ∙ h))
 
     pub bodies-asks : (q : ℕ) (w : BytePosition) (n : ℕ) → l ≡ laid.Bodies q w n → Judgeable (repeat (readBody edition1 b d) n (placed q)) b q w tab
     bodies-asks q w n e = go (rw e at y)
@@ -323,8 +325,8 @@ module _ (b : List ℕ) (d at : ℕ) (pos : BytePosition) (tab : List ℕ) (j : 
               reads = r .1;
             }
 
-    pub bodies-found : (q : ℕ) (w : BytePosition) (n : ℕ) (r : Judged) → l ≡ laid.Bodies q w n → Judging tab (measured (total bodyLength) inBodies (w .0) (repeat (readBody edition1 b d) n (placed q))) r → Goal r
-    bodies-found q w n r e k = go (rw e at y)
+    pub bodies-found : (mode : Mode) (q : ℕ) (w : BytePosition) (n : ℕ) (r : Judged) → l ≡ laid.Bodies q w n → Judging mode tab (measured (total bodyLength) inBodies (w .0) (repeat (readBody edition1 b d) n (placed q))) r → Goal mode r
+    bodies-found mode q w n r e k = go (rw e at y)
       where
-        go : Here (laid.Bodies q w n) → Goal r
+        go : Here (laid.Bodies q w n) → Goal mode r
         go (bodies least o g m) = rw (fields, m (readBody edition1 b d)) k

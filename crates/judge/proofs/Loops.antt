@@ -1,55 +1,55 @@
--- What is found in things that follow each other: a loop that judges each and stops at the first that is far. Assumes nothing.
+-- What is found in things that follow each other: a loop that judges each and stops at the first that is refused. Assumes nothing.
 use mathlib.Core.Path.{_≡_, refl, sym, ap, _∙_}
 use Prim.Native.Nat.{ℕ, _+_, _-_, _≤_, _<_}
 use native.Mathlib.Omega.{arith}
 use mathlib.Core.Option.{none, some}
 use mathlib.Core.List.{List, [], _∷_, _++_}
-use Rattle.layout.specs.Answers.{JumpOffsetOverflow}
-use Rattle.layout.specs.Read.{Place, placed, Read, got, bad, Reader, repeat}
+use Rattle.layout.specs.Read.{Place, placed, Read, got, Reader, repeat}
+use Rattle.layout.specs.Read as read
 use Rattle.layout.specs.Write.{Event}
-use Rattle.layout.specs.Order.{signed64}
-use Rattle.layout.specs.Judge.{orElse, farBy}
+use Rattle.layout.specs.Judge.{Mode, orElse, judgedIn, firstRefused, badBy}
 use Rattle.layout.specs.Lengths.{total}
-use Rattle.laws.specs.Nears.{far-append}
+use Rattle.laws.specs.Nears.{refused-append}
 use Rattle.labels.specs.Table.{recordAt}
 use Rattle.positions.specs.declared.BytePosition.{BytePosition}
 use Rattle.positions.specs.Scanned.{Roomy}
 use Rattle.measure.specs.Walk.{Measure, measure, branches, measured}
 use Rattle.measure.proofs.Runs.{branches-append}
 use Rattle.bodies.proofs.Walks.{repeat-none, repeat-more}
+use Rattle.judge.specs.declared.BadBranch.{BadBranch}
 use Rattle.judge.specs.declared.Judged.{Judged}
 use Rattle.judge.specs.declared.Judged.the-variants as code
-use Rattle.judge.specs.Judging.{Judgeable, Judging, near, far}
+use Rattle.judge.specs.Judging.{refusalOf, Judgeable, Judging, passed, refused}
 
 -- ---- by the table
 
--- what is found depends on the end and on the first that is far
-pub judging-as : {tab : List ℕ} {m m′ : Measure} {q : Place} {r : Judged} → m .end ≡ m′ .end → farBy (recordAt tab) (m .branching) ≡ farBy (recordAt tab) (m′ .branching) → Judging tab (got m q) r → Judging tab (got m′ q) r
-judging-as e f (near h k) = near (sym f ∙ h) (k ∙ e)
-judging-as e f (far h) = far (sym f ∙ h)
+-- what is found depends on the end and on the first that is refused
+pub judging-as : {mode : Mode} {tab : List ℕ} {m m′ : Measure} {q : Place} {r : Judged} → m .end ≡ m′ .end → badBy mode (recordAt tab) (m .branching) ≡ badBy mode (recordAt tab) (m′ .branching) → Judging mode tab (got m q) r → Judging mode tab (got m′ q) r
+judging-as e f (passed h k) = passed (sym f ∙ h) (k ∙ e)
+judging-as e f (refused h) = refused (sym f ∙ h)
 
 -- ---- what was found, taken apart
 
-pub record Found (tab : List ℕ) (m : Measure) (q : Place) (at : ℕ) (w : BytePosition) : Type 0 where
-  pub is-near : farBy (recordAt tab) (m .branching) ≡ none
+pub record Found (mode : Mode) (tab : List ℕ) (m : Measure) (q : Place) (at : ℕ) (w : BytePosition) : Type 0 where
+  pub is-passed : badBy mode (recordAt tab) (m .branching) ≡ none
   pub is-end : w .0 ≡ m .end
   pub is-next : at ≡ q .at
 
-pub found : {tab : List ℕ} {m : Measure} {q : Place} {r : Judged} {at : ℕ} {w : BytePosition} → Judging tab (got m q) r → r ≡ code.Ends at w → Found tab m q at w
-found {w = x} (near {w = v} h k) e =
+pub found : {mode : Mode} {tab : List ℕ} {m : Measure} {q : Place} {r : Judged} {at : ℕ} {w : BytePosition} → Judging mode tab (got m q) r → r ≡ code.Ends at w → Found mode tab m q at w
+found {w = x} (passed {w = v} h k) e =
     let f : v ≡ x = cc in
-    record { is-near = h; is-end = ap (λ (y : BytePosition). y .0) (sym f) ∙ k; is-next = cc }
-found (far h) e =
+    record { is-passed = h; is-end = ap (λ (y : BytePosition). y .0) (sym f) ∙ k; is-next = cc }
+found (refused h) e =
     let z : _≡_ {A = ℕ} 0 1 = cc in
     absurd (omega arith)
 
-pub found-far : {tab : List ℕ} {m : Measure} {q : Place} {r : Judged} {bits : ℕ} → Judging tab (got m q) r → r ≡ code.Far bits → farBy (recordAt tab) (m .branching) ≡ some (JumpOffsetOverflow (signed64 bits))
-found-far (near h k) e =
+pub found-bad : {mode : Mode} {tab : List ℕ} {m : Measure} {q : Place} {r : Judged} {bad : BadBranch} → Judging mode tab (got m q) r → r ≡ code.Refused bad → badBy mode (recordAt tab) (m .branching) ≡ some (refusalOf bad)
+found-bad (passed h k) e =
     let z : _≡_ {A = ℕ} 0 1 = cc in
     absurd (omega arith)
-found-far {bits = k} (far {bits = n} h) e =
-    let f : n ≡ k = cc in
-    h ∙ ap (λ (k : ℕ). some (JumpOffsetOverflow (signed64 k))) f
+found-bad {bad = x} (refused {bad = y} h) e =
+    let f : y ≡ x = cc in
+    h ∙ ap (λ (z : BadBranch). some (refusalOf z)) f
 
 -- ---- n of the same, one after the other
 
@@ -58,14 +58,14 @@ unfoldable pub inEach : {A : Type 0} → (A → ℕ) → (A → ℕ → List Eve
 inEach size trace [] p = []
 inEach size trace (x ∷ xs) p = trace x p ++ inEach size trace xs (p + size x)
 
-module _ {A : Type 0} (one : Reader A) (size : A → ℕ) (trace : A → ℕ → List Event) (b tab : List ℕ)
+module _ {A : Type 0} (one : Reader A) (size : A → ℕ) (trace : A → ℕ → List Event) (b : List ℕ) (mode : Mode) (tab : List ℕ)
     (onward : (p : ℕ) (w x : BytePosition) (a : A) (q : Place) → Roomy b p w → one (placed p) ≡ got a q → x .0 ≡ w .0 + size a → Roomy b (q .at) x) where
   abbrev pub Each : ℕ → ℕ → ℕ → Read Measure
   Each n p w = measured (total size) (inEach size trace) w (repeat one n (placed p))
 
   -- the loop: `left` of them are left, and what is found in those is what is found in all
   pub record Looping (goal : Judged → Type 0) (left p : ℕ) (w : BytePosition) : Type 0 where
-    pub rest : (r : Judged) → Judging tab (Each left p (w .0)) r → goal r
+    pub rest : (r : Judged) → Judging mode tab (Each left p (w .0)) r → goal r
     pub judgeable : Judgeable (repeat one left (placed p)) b p w tab
 
   -- the first of those left, and the others
@@ -82,25 +82,25 @@ module _ {A : Type 0} (one : Reader A) (size : A → ℕ) (trace : A → ℕ →
   split left p h xs u e = go (one (placed p)) refl
     where
       go : (x : Read A) → one (placed p) ≡ x → First left p
-      go (bad f q) g =
-          let y : repeat one left (placed p) ≡ bad f q = repeat-more one left p h ∙ rw g in
+      go (read.bad f q) g =
+          let y : repeat one left (placed p) ≡ read.bad f q = repeat-more one left p h ∙ rw g in
           let z : _≡_ {A = ℕ} 0 1 = cc in
           absurd (omega arith)
       go (got a q) g = then (repeat one (left - 1) q) refl
         where
           then : (y : Read (List A)) → repeat one (left - 1) q ≡ y → First left p
           then (got ys v) k = record { first = a; place = q; is-first = g; others = ys; last = v; are-others = k; are-all = repeat-more one left p h ∙ rw (g, k) }
-          then (bad f v) k =
-              let y : repeat one left (placed p) ≡ bad f v = repeat-more one left p h ∙ rw (g, k) in
+          then (read.bad f v) k =
+              let y : repeat one left (placed p) ≡ read.bad f v = repeat-more one left p h ∙ rw (g, k) in
               let z : _≡_ {A = ℕ} 0 1 = cc in
               absurd (omega arith)
 
   module _ (goal : Judged → Type 0) (left p : ℕ) (w : BytePosition) (g : Looping goal left p w) where
     pub loop-end : left ≤ 0 → goal (code.Ends p w)
-    unfolding measured total inEach branches farBy
+    unfolding measured total inEach branches firstRefused
     loop-end h =
         let e : Each left p (w .0) ≡ got (measure (w .0 + 0) []) (placed p) = rw (repeat-none one left p h) in
-        g .rest (code.Ends p w) (rw e (near {m = measure (w .0 + 0) []} {q = placed p} {w = w} refl (omega arith)))
+        g .rest (code.Ends p w) (rw e (passed {m = measure (w .0 + 0) []} {q = placed p} {w = w} refl (omega arith)))
 
     module _ (h : 0 < left) where
       next : First left p
@@ -109,8 +109,8 @@ module _ {A : Type 0} (one : Reader A) (size : A → ℕ) (trace : A → ℕ →
       pub loop-one : Judgeable (one (placed p)) b p w tab
       loop-one = record { roomy = g .judgeable .roomy; table = g .judgeable .table; value = next .first; next = next .place; reads = next .is-first }
 
-      module _ (r : Judged) (j : Judging tab (measured size trace (w .0) (one (placed p))) r) where
-        here : Judging tab (got (measure (w .0 + size (next .first)) (branches (trace (next .first) (w .0)))) (next .place)) r
+      module _ (r : Judged) (j : Judging mode tab (measured size trace (w .0) (one (placed p))) r) where
+        here : Judging mode tab (got (measure (w .0 + size (next .first)) (branches (trace (next .first) (w .0)))) (next .place)) r
         unfolding measured
         here = rw (next .is-first) at j
 
@@ -118,23 +118,23 @@ module _ {A : Type 0} (one : Reader A) (size : A → ℕ) (trace : A → ℕ →
         unfolding measured total inEach
         all-of = rw (next .are-all)
 
-        far-of : farBy (recordAt tab) (branches (trace (next .first) (w .0) ++ inEach size trace (next .others) (w .0 + size (next .first))))
-            ≡ orElse (farBy (recordAt tab) (branches (trace (next .first) (w .0)))) (farBy (recordAt tab) (branches (inEach size trace (next .others) (w .0 + size (next .first)))))
-        far-of =
-            ap (farBy (recordAt tab)) (branches-append (trace (next .first) (w .0)) (inEach size trace (next .others) (w .0 + size (next .first))))
-            ∙ far-append (recordAt tab) (branches (trace (next .first) (w .0))) (branches (inEach size trace (next .others) (w .0 + size (next .first))))
+        first-of : badBy mode (recordAt tab) (branches (trace (next .first) (w .0) ++ inEach size trace (next .others) (w .0 + size (next .first))))
+            ≡ orElse (badBy mode (recordAt tab) (branches (trace (next .first) (w .0)))) (badBy mode (recordAt tab) (branches (inEach size trace (next .others) (w .0 + size (next .first)))))
+        first-of =
+            ap (badBy mode (recordAt tab)) (branches-append (trace (next .first) (w .0)) (inEach size trace (next .others) (w .0 + size (next .first))))
+            ∙ refused-append (judgedIn mode) (recordAt tab) (branches (trace (next .first) (w .0))) (branches (inEach size trace (next .others) (w .0 + size (next .first))))
 
-        pub loop-far : (bits : ℕ) → r ≡ code.Far bits → goal (code.Far bits)
+        pub loop-bad : (bad : BadBranch) → r ≡ code.Refused bad → goal (code.Refused bad)
         unfolding orElse
-        loop-far bits e =
-            let f = found-far here e in
-            g .rest (code.Far bits) (rw all-of (far {bits = bits} (far-of ∙ rw f)))
+        loop-bad bad e =
+            let f = found-bad here e in
+            g .rest (code.Refused bad) (rw all-of (refused {bad = bad} (first-of ∙ rw f)))
 
-        again : (r : Judged) (q : ℕ) (x : BytePosition) → farBy (recordAt tab) (branches (trace (next .first) (w .0))) ≡ none → x .0 ≡ w .0 + size (next .first)
-            → repeat one (left - 1) (placed q) ≡ got (next .others) (next .last) → Judging tab (Each (left - 1) q (x .0)) r → Judging tab (Each left p (w .0)) r
+        again : (r : Judged) (q : ℕ) (x : BytePosition) → badBy mode (recordAt tab) (branches (trace (next .first) (w .0))) ≡ none → x .0 ≡ w .0 + size (next .first)
+            → repeat one (left - 1) (placed q) ≡ got (next .others) (next .last) → Judging mode tab (Each (left - 1) q (x .0)) r → Judging mode tab (Each left p (w .0)) r
         unfolding orElse measured
         again r q x n m i k =
-            let f : farBy (recordAt tab) (branches (inEach size trace (next .others) (x .0))) ≡ farBy (recordAt tab) (branches (trace (next .first) (w .0) ++ inEach size trace (next .others) (w .0 + size (next .first)))) = rw m (sym (far-of ∙ rw n)) in
+            let f : badBy mode (recordAt tab) (branches (inEach size trace (next .others) (x .0))) ≡ badBy mode (recordAt tab) (branches (trace (next .first) (w .0) ++ inEach size trace (next .others) (w .0 + size (next .first)))) = rw m (sym (first-of ∙ rw n)) in
             rw all-of (judging-as (omega (arith, m)) f (rw i at k))
 
         pub loop-more : (q : ℕ) (x : BytePosition) → r ≡ code.Ends q x → Looping goal (left - 1) q x
@@ -142,7 +142,7 @@ module _ {A : Type 0} (one : Reader A) (size : A → ℕ) (trace : A → ℕ →
             let f = found here e in
             let i : repeat one (left - 1) (placed q) ≡ got (next .others) (next .last) = ap (λ (v : ℕ). repeat one (left - 1) (placed v)) (f .is-next) ∙ next .are-others in
             record {
-              rest = λ r k. g .rest r (again r q x (f .is-near) (f .is-end) i k);
+              rest = λ r k. g .rest r (again r q x (f .is-passed) (f .is-end) i k);
               judgeable = record {
                 roomy = rw (f .is-next) (onward p w x (next .first) (next .place) (g .judgeable .roomy) (next .is-first) (f .is-end));
                 table = g .judgeable .table;

@@ -1,19 +1,21 @@
--- From the label table to the definition of 10: every position lies within the block, and in a short block no branch is far.
+-- From the label table to the definition of 10 and 14: every position lies within the block, and in a short block no branch is far.
 -- Assumes nothing.
 use mathlib.Core.Path.{_≡_, refl, sym, ap, _∙_, subst}
 use Prim.Native.Nat.{ℕ, _+_, _≤_}
 use native.Mathlib.Omega.{arith}
-use mathlib.Core.Bool.{Bool, true, false}
+use mathlib.Core.Bool.{Bool, true, false, false≢true, not, _&&_}
 use mathlib.Core.Option.{Option, none, some}
 use mathlib.Core.List.{List, [], _∷_}
 use lib.ListN.{getD, List·getD-eq-default}
-use lib.Dec.{ltb}
-use borrow.Author.Tests.{ltb-true, ltb-false, le-leb}
+use lib.Dec.{leb, ltb}
+use borrow.Author.Tests.{ltb-true, ltb-false, leb-true, le-leb}
 use Rattle.layout.specs.Tree.{Actions}
 use Rattle.layout.specs.Read.{edition1, placed, got, readBody}
 use Rattle.layout.specs.Write.{bodySize, Position, position, Event, labelAt, branchAt, payloadTooLong, bodyTooLong, traceBody, events, lookup}
-use Rattle.layout.specs.Judge.{isNear, farUnless, judged, orElse, farBy, tooFar}
+use Rattle.layout.specs.Judge.{isNear, farUnless, judged, orElse, Mode, plainMode, judgedIn, firstRefused, tooFar, badBy, badBranch}
+use Rattle.layout.specs.Answers.{Refusal}
 use Rattle.layout.specs.Pack.{spelling}
+use Rattle.laws.specs.Modes.{plain-if, plain-far}
 use Rattle.laws.specs.ReadFits.{good-got, body-good}
 use Rattle.laws.specs.Packed.{spells, same-tree}
 use Rattle.laws.specs.Within.{AllWithin, body-within, Recorded, lookup-within}
@@ -25,14 +27,15 @@ use Rattle.measure.specs.Walk.{measure, branches, measured}
 use Rattle.pcode.proofs.Readings.{given}
 use Rattle.pcode.proofs.Trees.{UnderBody, main-body, body-under}
 use Rattle.pcode.proofs.Labels as labels
-use Rattle.pcode.proofs.Labels.{BranchesUnder, far-same}
+use Rattle.pcode.proofs.Labels.{BranchesUnder, refused-same}
+use Rattle.judge.specs.declared.BadBranch.{BadBranch}
 use Rattle.judge.specs.declared.Judged.{Judged}
 use Rattle.judge.specs.declared.Judged.the-variants as code
 use Rattle.judge.specs.declared.Verdict.{Verdict}
 use Rattle.judge.specs.declared.Verdict.the-variants as verdict
 use Rattle.labels.specs.Mains.{MainMeasured}
 use Rattle.judge.specs.Judging.{Judgeable, Judging, Says, MainJudged}
-use Rattle.judge.proofs.Loops.{found, found-far}
+use Rattle.judge.proofs.Loops.{found, found-bad}
 
 -- ---- a short block
 
@@ -45,23 +48,23 @@ module _ (end : ℕ) where
       let j : p + 2 ≤ s .at + 32768 = omega (arith, k, l) in
       rw (le-leb (s .at) (p + 2 + 32767) i, le-leb (p + 2) (s .at + 32768) j)
 
-  none-far : (all es : List Event) → AllWithin end all → AllWithin end es → end ≤ 32768 → tooFar all es ≡ none
-  unfolding farBy orElse
-  none-far all [] h k l = refl
-  none-far all (labelAt m s ∷ es) h k l = none-far all es h (k .1) l
-  none-far all (branchAt m s ∷ es) h k l = rw (near-short (lookup m all) (s .at) (lookup-within end m all h) (k .0) l) (none-far all es h (k .1) l)
-  none-far all (payloadTooLong m s ∷ es) h k l = none-far all es h (k .1) l
-  none-far all (bodyTooLong m s ∷ es) h k l = none-far all es h (k .1) l
+  none-far-short : (all es : List Event) → AllWithin end all → AllWithin end es → end ≤ 32768 → tooFar all es ≡ none
+  unfolding firstRefused orElse
+  none-far-short all [] h k l = refl
+  none-far-short all (labelAt m s ∷ es) h k l = none-far-short all es h (k .1) l
+  none-far-short all (branchAt m s ∷ es) h k l = rw (near-short (lookup m all) (s .at) (lookup-within end m all h) (k .0) l) (none-far-short all es h (k .1) l)
+  none-far-short all (payloadTooLong m s ∷ es) h k l = none-far-short all es h (k .1) l
+  none-far-short all (bodyTooLong m s ∷ es) h k l = none-far-short all es h (k .1) l
 
 -- ---- by the table as by the events
 
-far-branches : (final : ℕ → Option Position) (es : List Event) → farBy final (branches es) ≡ farBy final es
-unfolding farBy branches
-far-branches final [] = refl
-far-branches final (labelAt l s ∷ es) = far-branches final es
-far-branches final (branchAt l s ∷ es) = ap (orElse (judged (final l) (s .at + 2))) (far-branches final es)
-far-branches final (payloadTooLong n s ∷ es) = far-branches final es
-far-branches final (bodyTooLong n s ∷ es) = far-branches final es
+only-branches : (rule : Option Position → Position → Option Refusal) (final : ℕ → Option Position) (es : List Event) → firstRefused rule final (branches es) ≡ firstRefused rule final es
+unfolding firstRefused branches
+only-branches rule final [] = refl
+only-branches rule final (labelAt l s ∷ es) = only-branches rule final es
+only-branches rule final (branchAt l s ∷ es) = ap (orElse (rule (final l) s)) (only-branches rule final es)
+only-branches rule final (payloadTooLong n s ∷ es) = only-branches rule final es
+only-branches rule final (bodyTooLong n s ∷ es) = only-branches rule final es
 
 -- every slot of a table that holds such events is small
 slots-small : (end : ℕ) (tab : List ℕ) (es : List Event) → end ≤ 1099511627776 → TableHolds 1024 tab es → AllWithin end es → (l : ℕ) → getD tab l 0 ≤ 1099511627777
@@ -78,6 +81,14 @@ slots-small end tab es m h k l = go (ltb l 1024) refl
         omega (arith, z)
 
 -- ---- a main body
+
+and-both : (x y : Bool) → (x && y) ≡ true → (x ≡ true) × (y ≡ true)
+and-both true y e = (refl, e)
+and-both false y e = absurd (false≢true e)
+
+not-true : (x : Bool) → not x ≡ true → x ≡ false
+not-true true e = absurd (false≢true e)
+not-true false e = refl
 
 module _ (b : List ℕ) (end : BytePosition) (tab : List ℕ) (m : MainMeasured b end tab) where
   is-body : readBody edition1 b 16 (placed 0) ≡ got (m .reads .read) (m .reads .next)
@@ -106,25 +117,31 @@ module _ (b : List ℕ) (end : BytePosition) (tab : List ℕ) (m : MainMeasured 
     reads = is-body;
   }
 
-  judged-main : (r : Verdict) → Says (tooFar (events (m .tree)) (events (m .tree))) r → MainJudged b r
-  judged-main r s = record { says = λ t h. subst (λ (u : Actions). Says (tooFar (events u) (events u)) r) (same-tree b (m .tree) t (m .reads) h) s }
+  module _ (mode : Mode) where
+    judged-main : (r : Verdict) → Says (badBranch mode (events (m .tree)) (events (m .tree))) r → MainJudged mode b r
+    judged-main r s = record { says = λ t h. subst (λ (u : Actions). Says (badBranch mode (events u) (events u)) r) (same-tree b (m .tree) t (m .reads) h) s }
 
-  pub main-short : end .0 ≤ 32768 → MainJudged b verdict.Near
-  main-short h = judged-main verdict.Near (rw (none-far (end .0) (events (m .tree)) (events (m .tree)) within within h) Says.near)
+    -- In plain mode only a distance is refused.
+    pub main-clear : (clear : Bool) → clear ≡ (not (mode .strict) && leb (end .0) 32768) → clear ≡ true → MainJudged mode b verdict.Passed
+    main-clear clear e f =
+        let k = and-both (not (mode .strict)) (leb (end .0) 32768) (sym e ∙ f) in
+        let p : mode ≡ plainMode = plain-if mode (not-true (mode .strict) (k .0)) in
+        let n = none-far-short (end .0) (events (m .tree)) (events (m .tree)) within within (leb-true (end .0) 32768 (k .1)) in
+        judged-main verdict.Passed (rw (ap (λ (x : Mode). badBranch x (events (m .tree)) (events (m .tree))) p ∙ plain-far (λ l. lookup l (events (m .tree))) (events (m .tree)) ∙ n) Says.passed)
 
-  far-main : farBy (recordAt tab) (branches (bodyEvents (m .reads .read) 0)) ≡ tooFar (events (m .tree)) (events (m .tree))
-  far-main =
-      far-branches (recordAt tab) (bodyEvents (m .reads .read) 0)
-      ∙ ap (λ (t : Actions). farBy (recordAt tab) (traceBody t (position 0))) (m .reads .is-tree)
-      ∙ (unfold events in far-same 1024 (recordAt tab) (λ l. lookup l (events (m .tree))) (table-record 1024 tab (events (m .tree)) (m .holds)) (events (m .tree)) under)
+    by-table : badBy mode (recordAt tab) (branches (bodyEvents (m .reads .read) 0)) ≡ badBranch mode (events (m .tree)) (events (m .tree))
+    by-table =
+        only-branches (judgedIn mode) (recordAt tab) (bodyEvents (m .reads .read) 0)
+        ∙ ap (λ (t : Actions). badBy mode (recordAt tab) (traceBody t (position 0))) (m .reads .is-tree)
+        ∙ (unfold events in refused-same 1024 (judgedIn mode) (recordAt tab) (λ l. lookup l (events (m .tree))) (table-record 1024 tab (events (m .tree)) (m .holds)) (events (m .tree)) under)
 
-  module _ (r : Judged) (j : Judging tab (measured bodyLength bodyEvents 0 (readBody edition1 b 16 (placed 0))) r) where
-    here : Judging tab (got (measure (0 + bodyLength (m .reads .read)) (branches (bodyEvents (m .reads .read) 0))) (m .reads .next)) r
-    unfolding measured
-    here = rw is-body at j
+    module _ (r : Judged) (j : Judging mode tab (measured bodyLength bodyEvents 0 (readBody edition1 b 16 (placed 0))) r) where
+      here : Judging mode tab (got (measure (0 + bodyLength (m .reads .read)) (branches (bodyEvents (m .reads .read) 0))) (m .reads .next)) r
+      unfolding measured
+      here = rw is-body at j
 
-    pub main-near : (q : ℕ) (w : BytePosition) → r ≡ code.Ends q w → MainJudged b verdict.Near
-    main-near q w e = judged-main verdict.Near (rw (sym far-main ∙ found here e .is-near) Says.near)
+      pub main-passed : (q : ℕ) (w : BytePosition) → r ≡ code.Ends q w → MainJudged mode b verdict.Passed
+      main-passed q w e = judged-main verdict.Passed (rw (sym by-table ∙ found here e .is-passed) Says.passed)
 
-    pub main-far : (bits : ℕ) → r ≡ code.Far bits → MainJudged b (verdict.Far bits)
-    main-far bits e = judged-main (verdict.Far bits) (rw (sym far-main ∙ found-far here e) (Says.far {bits = bits}))
+      pub main-bad : (bad : BadBranch) → r ≡ code.Refused bad → MainJudged mode b (verdict.Refused bad)
+      main-bad bad e = judged-main (verdict.Refused bad) (rw (sym by-table ∙ found-bad here e) (Says.refused {bad = bad}))

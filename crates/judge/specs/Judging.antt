@@ -1,24 +1,38 @@
--- What judging asks and what it finds: the first branch in writing order that goes too far, by the label table. Assumes nothing.
+-- What judging asks and what it finds: the first branch in writing order that is refused, by the mode and the label table.
+-- Assumes nothing.
 use mathlib.Core.Path.{_≡_}
-use Prim.Native.Nat.{ℕ, _≤_}
+use Prim.Native.Nat.{ℕ, _+_, _≤_}
 use mathlib.Core.Option.{Option, none, some}
 use mathlib.Core.List.{List}
 use lib.ListN.{length, getD}
-use Rattle.layout.specs.Answers.{Refusal, JumpOffsetOverflow}
+use Rattle.layout.specs.Answers.{Refusal, JumpOffsetOverflow, NeverRecorded}
 use Rattle.layout.specs.Order.{signed64}
 use Rattle.layout.specs.Tree.{Actions}
 use Rattle.layout.specs.Read.{Place, Read, got}
-use Rattle.layout.specs.Write.{events}
-use Rattle.layout.specs.Judge.{judged, farBy, tooFar}
+use Rattle.layout.specs.Write.{position, events}
+use Rattle.layout.specs.Judge.{Mode, judgedIn, badBy, badBranch}
 use Rattle.laws.specs.Packed.{ReadsMain}
 use Rattle.labels.specs.Table.{recordAt}
 use Rattle.positions.specs.declared.BytePosition.{BytePosition}
 use Rattle.positions.specs.Scanned.{Roomy}
 use Rattle.measure.specs.Walk.{Measure}
+use Rattle.judge.specs.declared.Mode as code-mode
+use Rattle.judge.specs.declared.BadBranch.{BadBranch}
+use Rattle.judge.specs.declared.BadBranch.the-variants as branch
 use Rattle.judge.specs.declared.Judged.{Judged}
 use Rattle.judge.specs.declared.Judged.the-variants as code
 use Rattle.judge.specs.declared.Verdict.{Verdict}
 use Rattle.judge.specs.declared.Verdict.the-variants as verdict
+
+-- ---- the mode and a refusal, as the code holds them
+
+abbrev pub modeOf : code-mode.Mode → Mode
+modeOf m = record { strict = m .strict }
+
+-- 10 with its value, or 14 with its
+unfoldable pub refusalOf : BadBranch → Refusal
+refusalOf (branch.Far bits) = JumpOffsetOverflow (signed64 bits)
+refusalOf (branch.NeverRecorded w) = NeverRecorded (w .0)
 
 -- ---- by the table
 
@@ -27,10 +41,10 @@ pub record Table (tab : List ℕ) : Type 0 where
   pub slots : length tab ≡ 1024
   pub small : (l : ℕ) → getD tab l 0 ≤ 1099511627777
 
--- one branch to a label, whose operand ends at a place and at a position
-pub data BranchJudged (tab : List ℕ) (label next after : ℕ) : Judged → Type 0 where
-  near : {w : BytePosition} → judged (recordAt tab label) after ≡ none → w .0 ≡ after → BranchJudged tab label next after (code.Ends next w)
-  far : {bits : ℕ} → judged (recordAt tab label) after ≡ some (JumpOffsetOverflow (signed64 bits)) → BranchJudged tab label next after (code.Far bits)
+-- one branch to a label, whose operand stands at a position and ends at a place
+pub data BranchJudged (mode : Mode) (tab : List ℕ) (label next operand : ℕ) : Judged → Type 0 where
+  passed : {w : BytePosition} → judgedIn mode (recordAt tab label) (position operand) ≡ none → w .0 ≡ operand + 2 → BranchJudged mode tab label next operand (code.Ends next w)
+  refused : {bad : BadBranch} → judgedIn mode (recordAt tab label) (position operand) ≡ some (refusalOf bad) → BranchJudged mode tab label next operand (code.Refused bad)
 
 -- what is asked of a place and a position: that something reads there
 pub record Judgeable {A : Type 0} (read : Read A) (b : List ℕ) (at : ℕ) (pos : BytePosition) (tab : List ℕ) : Type 0 where
@@ -40,18 +54,18 @@ pub record Judgeable {A : Type 0} (read : Read A) (b : List ℕ) (at : ℕ) (pos
   pub next : Place
   pub reads : read ≡ got value next
 
--- what is found there: where it ends, or the distance of the first branch that goes too far
-pub data Judging (tab : List ℕ) : Read Measure → Judged → Type 0 where
-  near : {m : Measure} {q : Place} {w : BytePosition} → farBy (recordAt tab) (m .branching) ≡ none → w .0 ≡ m .end → Judging tab (got m q) (code.Ends (q .at) w)
-  far : {m : Measure} {q : Place} {bits : ℕ} → farBy (recordAt tab) (m .branching) ≡ some (JumpOffsetOverflow (signed64 bits)) → Judging tab (got m q) (code.Far bits)
+-- what is found there: where it ends, or the first branch that is refused
+pub data Judging (mode : Mode) (tab : List ℕ) : Read Measure → Judged → Type 0 where
+  passed : {m : Measure} {q : Place} {w : BytePosition} → badBy mode (recordAt tab) (m .branching) ≡ none → w .0 ≡ m .end → Judging mode tab (got m q) (code.Ends (q .at) w)
+  refused : {m : Measure} {q : Place} {bad : BadBranch} → badBy mode (recordAt tab) (m .branching) ≡ some (refusalOf bad) → Judging mode tab (got m q) (code.Refused bad)
 
 -- ---- a whole main body
 
--- what the verdict says: no branch goes too far, or 10 and its value
+-- what the verdict says: no branch is refused, or the refusal
 pub data Says : Option Refusal → Verdict → Type 0 where
-  near : Says none verdict.Near
-  far : {bits : ℕ} → Says (some (JumpOffsetOverflow (signed64 bits))) (verdict.Far bits)
+  passed : Says none verdict.Passed
+  refused : {bad : BadBranch} → Says (some (refusalOf bad)) (verdict.Refused bad)
 
 -- for whatever tree it is found to read as
-pub record MainJudged (b : List ℕ) (r : Verdict) : Type 0 where
-  pub says : (t : Actions) → ReadsMain b t → Says (tooFar (events t) (events t)) r
+pub record MainJudged (mode : Mode) (b : List ℕ) (r : Verdict) : Type 0 where
+  pub says : (t : Actions) → ReadsMain b t → Says (badBranch mode (events t) (events t)) r

@@ -1,55 +1,101 @@
-// Judging the branches of a main body that reads whole, against the final label table: 10.
+// Judging the branches of a main body that reads whole, against the final label table: 10 and, in strict mode, 14.
+ghost use mathlib.Core.Path.{_≡_};
+ghost use mathlib.Core.Bool.{_&&_, not};
 ghost use Prim.Native.Nat.{_+_, _≤_, _<_};
+ghost use lib.Dec.{leb};
+ghost use lib.ListN.{length};
 ghost use Rattle.layout.specs.Read.{edition1, placed, readAction, readBody, repeat};
 ghost use Rattle.layout.specs.Lengths.{total};
 ghost use Rattle.laws.specs.Resolved.{actionSize, actionTrace, bodyLength, bodyEvents};
 ghost use Rattle.measure.specs.Walk.{measured, inBodies};
-ghost use Rattle.judge.specs.Judging.{Table, Judgeable, Judging, BranchJudged, MainJudged};
+ghost use Rattle.judge.specs.Judging.{modeOf, Table, Judgeable, Judging, BranchJudged, MainJudged};
+ghost use Rattle.labels.specs.Table.{isRecorded, recordAt};
 ghost use Rattle.labels.specs.Mains.{MainMeasured};
 use fields::u16_at;
 use labels::distance;
 use labels::is_far;
+use labels::is_recorded;
 use measure::Laid;
 use payload::scan_payload;
 use positions::BytePosition;
 
-// Where reading and writing would end, or the 64 bits of the first distance in writing order that does not fit.
+// What is asked of a sheet's branches besides their distances: in strict mode, that each one's label is recorded.
+pub struct Mode {
+    pub strict: bool,
+}
+
+// What is wrong with a branch: the 64 bits of a distance that does not fit, or, where its label is never recorded, the position of
+// its operand.
+pub enum BadBranch {
+    Far(u64),
+    NeverRecorded(BytePosition),
+}
+
+// Where reading and writing would end, or the first branch in writing order that is refused.
 pub enum Judged {
     Ends(usize, BytePosition),
-    Far(u64),
+    Refused(BadBranch),
 }
 
-// That every branch is near, or the 64 bits of the first distance that is not.
+// That no branch is refused, or the first in writing order that is.
 pub enum Verdict {
-    Near,
-    Far(u64),
+    Passed,
+    Refused(BadBranch),
 }
 
-// A branch to a label, whose operand ends at place `next` and at position `after`.
-fn judge_branch(tab: &[usize], label: usize, next: usize, after: BytePosition) -> Judged
-    requires { ⌜ Table (now tab) × (label < 1024) × (after .0 ≤ 1099511627776) ⌝ }
-    ensures { λ r. ⌜ BranchJudged (now (tab .entry)) label next (after .0) r ⌝ }
+// Whether the mode alone refuses a branch to this label.
+fn is_barred(mode: Mode, label: usize, tab: &[usize]) -> bool
+    requires { ⌜ label < length (now tab) ⌝ }
+    ensures { λ r. ⌜ r ≡ (mode .strict && not (isRecorded (recordAt (now (tab .entry)) label))) ⌝ }
 {
-    let bits = distance(tab, label, after);
-    if is_far(bits) {
-        return Judged::Far(bits);
+    if mode.strict {
+        return !is_recorded(tab, label);
     }
-    Judged::Ends(next, after)
+    false
+}
+
+// A branch to a label, whose operand stands at position `operand` and ends at place `next`.
+fn judge_branch(
+    label: usize,
+    next: usize,
+    operand: BytePosition,
+    mode: Mode,
+    tab: &[usize],
+) -> Judged
+    requires { ⌜ Table (now tab) × (label < 1024) × (operand .0 + 2 ≤ 1099511627776) ⌝ }
+    ensures { λ r. ⌜ BranchJudged (modeOf mode) (now (tab .entry)) label next (operand .0) r ⌝ }
+{
+    if is_barred(mode, label, tab) {
+        return Judged::Refused(BadBranch::NeverRecorded(operand));
+    }
+    let after = operand.0 + 2;
+    let bits = distance(tab, label, BytePosition(after));
+    if is_far(bits) {
+        return Judged::Refused(BadBranch::Far(bits));
+    }
+    Judged::Ends(next, BytePosition(after))
 }
 
 // A body with `depth` levels allowed, itself included. Its label entries are stepped over.
-fn judge_body(b: &[u8], at: usize, depth: usize, pos: BytePosition, tab: &[usize]) -> Judged
+fn judge_body(
+    b: &[u8],
+    at: usize,
+    depth: usize,
+    pos: BytePosition,
+    mode: Mode,
+    tab: &[usize],
+) -> Judged
     requires { ⌜ Judgeable (readBody edition1 (now b) depth (placed at)) (now b) at pos (now tab) ⌝ }
-    ensures { λ r. ⌜ Judging (now (tab .entry)) (measured bodyLength bodyEvents (pos .0) (readBody edition1 (now (b .entry)) depth (placed at))) r ⌝ }
+    ensures { λ r. ⌜ Judging (modeOf mode) (now (tab .entry)) (measured bodyLength bodyEvents (pos .0) (readBody edition1 (now (b .entry)) depth (placed at))) r ⌝ }
 {
     let front = at + 2 + 4 * u16_at(b, at);
     let mut left = u16_at(b, front);
     let mut p = front + 2;
     let mut w = pos;
     while 0 < left {
-        match judge_action(b, p, depth - 1, w, tab) {
-            Judged::Far(bits) => {
-                return Judged::Far(bits);
+        match judge_action(b, p, depth - 1, w, mode, tab) {
+            Judged::Refused(bad) => {
+                return Judged::Refused(bad);
             }
             Judged::Ends(q, x) => {
                 p = q;
@@ -68,18 +114,19 @@ fn judge_bodies(
     depth: usize,
     pos: BytePosition,
     n: usize,
+    mode: Mode,
     tab: &[usize],
 ) -> Judged
     requires { ⌜ Judgeable (repeat (readBody edition1 (now b) depth) n (placed at)) (now b) at pos (now tab) ⌝ }
-    ensures { λ r. ⌜ Judging (now (tab .entry)) (measured (total bodyLength) inBodies (pos .0) (repeat (readBody edition1 (now (b .entry)) depth) n (placed at))) r ⌝ }
+    ensures { λ r. ⌜ Judging (modeOf mode) (now (tab .entry)) (measured (total bodyLength) inBodies (pos .0) (repeat (readBody edition1 (now (b .entry)) depth) n (placed at))) r ⌝ }
 {
     let mut left = n;
     let mut p = at;
     let mut w = pos;
     while 0 < left {
-        match judge_body(b, p, depth, w, tab) {
-            Judged::Far(bits) => {
-                return Judged::Far(bits);
+        match judge_body(b, p, depth, w, mode, tab) {
+            Judged::Refused(bad) => {
+                return Judged::Refused(bad);
             }
             Judged::Ends(q, x) => {
                 p = q;
@@ -93,34 +140,56 @@ fn judge_bodies(
 
 // An action within which `depth` bodies may stand one in another. It reads, so its payload never stops; what is noted of its
 // length was known before.
-fn judge_action(b: &[u8], at: usize, depth: usize, pos: BytePosition, tab: &[usize]) -> Judged
+fn judge_action(
+    b: &[u8],
+    at: usize,
+    depth: usize,
+    pos: BytePosition,
+    mode: Mode,
+    tab: &[usize],
+) -> Judged
     requires { ⌜ Judgeable (readAction edition1 (now b) (readBody edition1 (now b) depth) (placed at)) (now b) at pos (now tab) ⌝ }
-    ensures { λ r. ⌜ Judging (now (tab .entry)) (measured actionSize actionTrace (pos .0) (readAction edition1 (now (b .entry)) (readBody edition1 (now (b .entry)) depth) (placed at))) r ⌝ }
+    ensures { λ r. ⌜ Judging (modeOf mode) (now (tab .entry)) (measured actionSize actionTrace (pos .0) (readAction edition1 (now (b .entry)) (readBody edition1 (now (b .entry)) depth) (placed at))) r ⌝ }
 {
     let op = b[at];
     if op < 0x80 {
-        return Judged::Ends(at + 1, BytePosition(pos.0 + 1));
+        let next = at + 1;
+        let after = pos.0 + 1;
+        return Judged::Ends(next, BytePosition(after));
     }
     let mut over = [0; 2];
     match scan_payload(b, op, at, pos, &mut over) {
         Laid::Stops(_, p) => Judged::Ends(p, pos),
         Laid::Flat(p, w) => Judged::Ends(p, w),
-        Laid::Branch(p, w, label) => judge_branch(tab, label, p, w),
-        Laid::Bodies(p, w, n) => judge_bodies(b, p, depth, w, n, tab),
+        Laid::Branch(p, _, label) => {
+            let operand = pos.0 + 3;
+            judge_branch(label, p, BytePosition(operand), mode, tab)
+        }
+        Laid::Bodies(p, w, n) => judge_bodies(b, p, depth, w, n, mode, tab),
     }
 }
 
-// A main body that is written as far as position `end`. No distance overflows where that is at most 32,768: a branch leads
-// from there to the start at the farthest.
-pub fn judge_main(b: &[u8], end: BytePosition, tab: &[usize]) -> Verdict
-    requires { ⌜ MainMeasured (now b) end (now tab) ⌝ }
-    ensures { λ r. ⌜ MainJudged (now (b .entry)) r ⌝ }
+// Whether no branch can be refused, by the mode and the position where the main body's writing ends. In plain mode that is so up
+// to 32,768: a branch leads from there to the start at the farthest.
+fn is_clear(mode: Mode, end: BytePosition) -> bool
+    ensures { λ r. ⌜ r ≡ (not (mode .strict) && leb (end .0) 32768) ⌝ }
 {
-    if end.0 <= 32768 {
-        return Verdict::Near;
+    if mode.strict {
+        return false;
     }
-    match judge_body(b, 0, 16, BytePosition(0), tab) {
-        Judged::Far(bits) => Verdict::Far(bits),
-        Judged::Ends(_, _) => Verdict::Near,
+    end.0 <= 32768
+}
+
+// A main body that is written as far as position `end`.
+pub fn judge_main(b: &[u8], end: BytePosition, mode: Mode, tab: &[usize]) -> Verdict
+    requires { ⌜ MainMeasured (now b) end (now tab) ⌝ }
+    ensures { λ r. ⌜ MainJudged (modeOf mode) (now (b .entry)) r ⌝ }
+{
+    if is_clear(mode, end) {
+        return Verdict::Passed;
+    }
+    match judge_body(b, 0, 16, BytePosition(0), mode, tab) {
+        Judged::Refused(bad) => Verdict::Refused(bad),
+        Judged::Ends(_, _) => Verdict::Passed,
     }
 }

@@ -1,4 +1,4 @@
--- Laws of a branch's distance and its bits. Assumes nothing.
+-- Laws of a label's record, and of a branch's distance and its bits. Assumes nothing.
 use mathlib.Core.Path.{_≡_, refl}
 use mathlib.Core.Bool.{Bool, true, false, not, _&&_}
 use Prim.Native.Nat.{ℕ, zero, suc, _+_, _-_, _%_, _≤_, _<_}
@@ -8,7 +8,7 @@ use lib.Dec.{ltb, leb}
 use lib.IntN.{subℕ}
 use Rattle.layout.specs.Numbers.{bits64}
 use Rattle.layout.specs.Judge.{distance, isNear}
-use Rattle.labels.specs.Table.{recordOf, isFar}
+use Rattle.labels.specs.Table.{recordOf, isRecorded, isFar}
 
 -- ---- the bits
 
@@ -22,6 +22,17 @@ module _ (to after : ℕ) where
   bits-back : to < after → bits64 (subℕ to after) ≡ 18446744073709551615 - (after - suc to) % 18446744073709551616
   unfolding bits64
   bits-back h = rw (lt-ltb to after h)
+
+-- ---- a slot's record
+
+pub slot-empty : (slot : ℕ) → slot ≡ 0 → false ≡ isRecorded (recordOf slot)
+unfolding isRecorded recordOf
+slot-empty slot h = rw h
+
+pub slot-full : (slot : ℕ) → (slot ≡ 0 → ⊥) → true ≡ isRecorded (recordOf slot)
+unfolding isRecorded recordOf
+slot-full zero h = absurd (h refl)
+slot-full (suc n) h = refl
 
 -- ---- a slot's distance
 

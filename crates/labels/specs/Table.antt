@@ -1,7 +1,7 @@
 -- The label table and a body's label entries, as the code holds them. Assumes nothing.
 use mathlib.Core.Path.{_≡_}
 use Prim.Native.Nat.{ℕ, zero, suc, min, _+_, _*_, _≤_, _<_}
-use mathlib.Core.Bool.{Bool, _&&_}
+use mathlib.Core.Bool.{Bool, true, false, _&&_}
 use mathlib.Core.Option.{Option, none, some}
 use mathlib.Core.List.{List, [], _∷_}
 use lib.ListN.{length, getD, set}
@@ -26,6 +26,11 @@ recordOf (suc n) = some (record { at = n })
 -- the record that a table holds for a label
 abbrev pub recordAt : List ℕ → ℕ → Option Position
 recordAt tab l = recordOf (getD tab l 0)
+
+-- whether there is a record
+unfoldable pub isRecorded : Option Position → Bool
+isRecorded none = false
+isRecorded (some s) = true
 
 -- what the label records among these events make of a table
 unfoldable pub recordAll : List Event → List ℕ → List ℕ

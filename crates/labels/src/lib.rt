@@ -7,7 +7,7 @@ ghost use Prim.Native.Nat.{_+_, _*_, _<_, _≤_};
 ghost use lib.ListN.{length, getD};
 ghost use Rattle.layout.specs.Numbers.{bits64};
 ghost use Rattle.layout.specs.Judge.{distance};
-ghost use Rattle.labels.specs.Table.{recordOf, entriesAt, due, indexOf, positionOf, Recordable, Recorded, isFar};
+ghost use Rattle.labels.specs.Table.{recordOf, isRecorded, entriesAt, due, indexOf, positionOf, Recordable, Recorded, isFar};
 use fields::u32_at;
 use positions::ActionIndex;
 use positions::BytePosition;
@@ -73,6 +73,17 @@ pub fn record_labels(
         return first;
     }
     record_each(b, at, n, first, i, pos, tab)
+}
+
+// Whether a label is recorded.
+pub fn is_recorded(tab: &[usize], label: usize) -> bool
+    requires { ⌜ label < length (now tab) ⌝ }
+    ensures { λ r. ⌜ r ≡ isRecorded (recordOf (getD (now (tab .entry)) label 0)) ⌝ }
+{
+    if tab[label] == 0 {
+        return false;
+    }
+    true
 }
 
 // The 64 bits of a branch's distance, from the position after its operand to its label's record; 0 without one.

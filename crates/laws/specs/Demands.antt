@@ -15,7 +15,7 @@ use Rattle.layout.specs.Answers.{SheetTooLong, Answer, Done}
 use Rattle.layout.specs.Tree.{ActionOf, ActionListOf, ActionsOf, CatchOf, FinallyOf, ActionIndex, firstAction, nextAction, Entry, Action, flat, branch, owner, Try, ActionList, empty, more, Actions, body, Catch, noCatch, catch, Finally, noFinally, finally}
 use Rattle.layout.specs.Payload.{ownerFields, catchName}
 use Rattle.layout.specs.Write.{size, bodySize, catchSize, finallySize, Position, position, Event, moved, payloadTest, bodyTest, labelsAt, trace, traces, traceBody, traceCatch, traceFinally, events, lookup, distanceBits, branchBits, bodyBytes, blockBytes, blockSize}
-use Rattle.layout.specs.Judge.{distance, isNear, judged, tooFar}
+use Rattle.layout.specs.Judge.{distance, isNear, judged, tooFar, Mode}
 use Rattle.layout.specs.Cut.{Cut, main, uncut, sheetLimit, trailerDistance, isMarked, cutIf, cutAt, cutIfTrailer, cutIfShort, cut}
 use Rattle.layout.specs.Pack.{packCut, pack, output, ReadsAs}
 use Rattle.layout.specs.Lengths.{length-block}
@@ -165,12 +165,12 @@ body-same t t′ e = snoc-same (bodyBytes (branchBits t) t 0) (bodyBytes (branch
 
 -- Demand 3: two accepted sheets that give the same bytes hold the same actions, order, nesting and operands, floats by their
 -- bits, each branch with the same distance. Only label numbers, label entries, notes and the upper six bits of a GetUrl2
--- method may differ
-pub same-meaning : (s s′ : List ℕ) (room room′ : ℕ) (q : List ℕ) (t t′ : Actions) → Bytes s → Bytes s′ → ReadsAs s t → ReadsAs s′ t′
-    → pack s room ≡ Done q → pack s′ room′ ≡ Done q → meaning t ≡ meaning t′
-same-meaning s s′ room room′ q t t′ small small′ h h′ e e′ =
-    let k : Written t room q = is-written s room q t h e in
-    let k′ : Written t′ room′ q = is-written s′ room′ q t′ h′ e′ in
+-- method may differ, and the mode
+pub same-meaning : (m m′ : Mode) (s s′ : List ℕ) (room room′ : ℕ) (q : List ℕ) (t t′ : Actions) → Bytes s → Bytes s′ → ReadsAs s t → ReadsAs s′ t′
+    → pack m s room ≡ Done q → pack m′ s′ room′ ≡ Done q → meaning t ≡ meaning t′
+same-meaning m m′ s s′ room room′ q t t′ small small′ h h′ e e′ =
+    let k : Written t room q = is-written m s room q t h e in
+    let k′ : Written t′ room′ q = is-written m′ s′ room′ q t′ h′ e′ in
     meaning-told t (k .is-near)
     ∙ ap (mapBranches signed16) (same-told (branchBits t) (branchBits t′) (branch-small t) (branch-small t′) t t′
     (tree-fits s t small h (k .is-short)) (tree-fits s′ t′ small′ h′ (k′ .is-short)) (body-same t t′ (k .is-block ∙ sym (k′ .is-block))))
@@ -178,10 +178,10 @@ same-meaning s s′ room room′ q t t′ small small′ h h′ e e′ =
 
 -- ---- the bound, in document 01's words: "A Done length is at most 3 x D - 11"
 
-pub length-done : (s : List ℕ) (room : ℕ) (q : List ℕ) → Bytes s → pack s room ≡ Done q → length q + 11 ≤ 3 * sheetDistance s
+pub length-done : (m : Mode) (s : List ℕ) (room : ℕ) (q : List ℕ) → Bytes s → pack m s room ≡ Done q → length q + 11 ≤ 3 * sheetDistance s
 unfolding blockSize
-length-done s room q small e =
-    let k : Packed s room q = is-packed s room q e in
+length-done m s room q small e =
+    let k : Packed m s room q = is-packed m s room q e in
     let h : ReadsAs s (k .tree) = k .reads in
     omega (
       arith,
@@ -225,9 +225,9 @@ module _ (s s′ : List ℕ) (same-length : length s ≡ length s′) (same-rest
       shorts true = unfold cutIfShort in (trailers (leb 8 (length s)) ∙ ap (λ (n : ℕ). cutIfTrailer (leb 8 n) s′) same-length)
       shorts false = unfold cutIfShort in ap (λ (n : ℕ). uncut (SheetTooLong n)) same-length
 
-  pub same-note : (room : ℕ) → pack s room ≡ pack s′ room
+  pub same-note : (m : Mode) (room : ℕ) → pack m s room ≡ pack m s′ room
   unfolding pack
-  same-note room = ap (λ (c : Cut). packCut c room) same-cut
+  same-note m room = ap (λ (c : Cut). packCut m c room) same-cut
 
-  pub same-note-output : (o : List ℕ) → output (pack s (length o)) o ≡ output (pack s′ (length o)) o
-  same-note-output o = ap (λ (a : Answer (List ℕ)). output a o) (same-note (length o))
+  pub same-note-output : (m : Mode) (o : List ℕ) → output (pack m s (length o)) o ≡ output (pack m s′ (length o)) o
+  same-note-output m o = ap (λ (a : Answer (List ℕ)). output a o) (same-note m (length o))

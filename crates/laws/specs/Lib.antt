@@ -2,6 +2,7 @@ pub mod Meaning
 pub mod Unpack
 pub mod Fits
 pub mod Nears
+pub mod Modes
 pub mod Within
 pub mod RoundTrip
 pub mod ReadFits

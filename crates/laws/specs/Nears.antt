@@ -1,4 +1,5 @@
--- Judging in parts: the first of two refusals, and branches of which none goes too far. Assumes nothing.
+-- Judging in parts: the first of two refusals, the first branch that is refused, and branches of which none goes too far.
+-- Assumes nothing.
 use mathlib.Core.Path.{_≡_, refl, sym, ap, _∙_}
 use Prim.Native.Nat.{ℕ, _+_, _≤_, _<_}
 use mathlib.Core.Bool.{Bool, true, false, false≢true, _&&_}
@@ -10,7 +11,7 @@ use borrow.Author.Tests.{leb-true}
 use native.Mathlib.Omega.{arith}
 use Rattle.layout.specs.Answers.{Refusal, JumpOffsetOverflow}
 use Rattle.layout.specs.Write.{Position, Event, labelAt, branchAt, payloadTooLong, bodyTooLong, moved, distanceBits}
-use Rattle.layout.specs.Judge.{distance, isNear, farUnless, judged, orElse, farBy}
+use Rattle.layout.specs.Judge.{distance, isNear, farUnless, judged, orElse, firstRefused, farBy}
 
 -- ---- the first of two refusals
 
@@ -54,32 +55,36 @@ unfolding distanceBits
 bits-small none after = omega arith
 bits-small (some s) after = omega arith
 
--- ---- branches of which none goes too far, by the final records
+-- ---- the first branch that a rule refuses, by the final records
+
+module _ (rule : Option Position → Position → Option Refusal) (final : ℕ → Option Position) where
+  -- of two parts, the first part's, or else the second's
+  pub refused-append : (xs ys : List Event) → firstRefused rule final (xs ++ ys) ≡ orElse (firstRefused rule final xs) (firstRefused rule final ys)
+  unfolding firstRefused
+  refused-append [] ys = unfold orElse in refl
+  refused-append (labelAt l s ∷ xs) ys = refused-append xs ys
+  refused-append (branchAt l s ∷ xs) ys =
+      ap (orElse (rule (final l) s)) (refused-append xs ys)
+      ∙ sym (or-assoc (rule (final l) s) (firstRefused rule final xs) (firstRefused rule final ys))
+  refused-append (payloadTooLong n s ∷ xs) ys = refused-append xs ys
+  refused-append (bodyTooLong n s ∷ xs) ys = refused-append xs ys
+
+-- ---- branches of which none goes too far
 
 module _ (final : ℕ → Option Position) where
   abbrev pub NoneFar : List Event → Type 0
   NoneFar es = farBy final es ≡ none
 
-  pub far-append : (xs ys : List Event) → farBy final (xs ++ ys) ≡ orElse (farBy final xs) (farBy final ys)
-  unfolding farBy
-  far-append [] ys = unfold orElse in refl
-  far-append (labelAt l s ∷ xs) ys = far-append xs ys
-  far-append (branchAt l s ∷ xs) ys =
-      ap (orElse (judged (final l) (s .at + 2))) (far-append xs ys)
-      ∙ sym (or-assoc (judged (final l) (s .at + 2)) (farBy final xs) (farBy final ys))
-  far-append (payloadTooLong n s ∷ xs) ys = far-append xs ys
-  far-append (bodyTooLong n s ∷ xs) ys = far-append xs ys
-
   -- none in two parts is none in each
   pub near-left : (xs ys : List Event) → NoneFar (xs ++ ys) → NoneFar xs
-  near-left xs ys e = or-left (farBy final xs) (farBy final ys) (sym (far-append xs ys) ∙ e)
+  near-left xs ys e = or-left (farBy final xs) (farBy final ys) (sym (refused-append _ final xs ys) ∙ e)
 
   pub near-right : (xs ys : List Event) → NoneFar (xs ++ ys) → NoneFar ys
-  near-right xs ys e = or-right (farBy final xs) (farBy final ys) (sym (far-append xs ys) ∙ e)
+  near-right xs ys e = or-right (farBy final xs) (farBy final ys) (sym (refused-append _ final xs ys) ∙ e)
 
   -- a branch at a position, whose operand ends five bytes after it
   pub branch-near : (l : ℕ) (s : Position) → NoneFar (branchAt l (moved 3 s) ∷ []) → judged (final l) (s .at + 5) ≡ none
-  unfolding farBy moved
+  unfolding firstRefused moved
   branch-near l s e =
       let same : s .at + 5 ≡ s .at + 3 + 2 = omega arith in
       rw same (or-left (judged (final l) (s .at + 3 + 2)) none e)

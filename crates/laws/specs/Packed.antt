@@ -15,12 +15,13 @@ use Rattle.layout.specs.Tree.{Actions, ActionsOf, ActionIndex, firstAction, nex
 use Rattle.layout.specs.Read.{Text, plain, Terms, edition1, deepest, Place, Read, got, bad, readMain, readString}
 use Rattle.layout.specs.Strings.{mapBody}
 use Rattle.layout.specs.Payload.{payload, ownerFields, catchName}
-use Rattle.layout.specs.Write.{size, bodySize, catchSize, finallySize, Position, Event, labelAt, branchAt, payloadTooLong, bodyTooLong, moved, eventIf, payloadTest, bodyTest, labelsAt, trace, traces, traceBody, traceCatch, traceFinally, events, blockBytes, blockSize}
-use Rattle.layout.specs.Judge.{tooLong, tooFar, orElse, judge}
+use Rattle.layout.specs.Write.{size, bodySize, catchSize, finallySize, Position, Event, labelAt, branchAt, payloadTooLong, bodyTooLong, moved, eventIf, payloadTest, bodyTest, labelsAt, trace, traces, traceBody, traceCatch, traceFinally, events, lookup, blockBytes, blockSize}
+use Rattle.layout.specs.Judge.{tooLong, tooFar, orElse, Mode, badBranch, judge}
 use Rattle.layout.specs.Cut.{Cut, main, uncut, sheetLimit, trailerDistance, isMarked, cutIf, cutAt, cutIfTrailer, cutIfShort, cut}
 use Rattle.layout.specs.Pack.{unless, ifRoom, packTree, spelling, packRead, packCut, pack, ReadsAs}
 use Rattle.layout.specs.Order.{tree-next}
 use Rattle.laws.specs.Fits.{Bytes, Well, WellActions, WellBody, WellCatch, WellFinally, Fits, ActionsFit, BodyFits, CatchFits, FinallyFits}
+use Rattle.laws.specs.Modes.{none-far}
 use Rattle.laws.specs.ReadFits.{fine, good-then, good-got, u16-good, spelling-good, Spells, main-good}
 
 -- ---- a tree that is written
@@ -38,16 +39,16 @@ refused-done k =
     let z : _≡_ {A = ℕ} 0 1 = cc in
     absurd (omega arith)
 
-pub tree-written : (t : Actions) (room : ℕ) (q : List ℕ) → packTree t room ≡ Done q → Written t room q
+pub tree-written : (m : Mode) (t : Actions) (room : ℕ) (q : List ℕ) → packTree m t room ≡ Done q → Written t room q
 unfolding packTree unless judge orElse ifRoom
-tree-written t room q e = go (tooLong (events t)) (tooFar (events t) (events t)) (leb (blockSize t) room) refl refl refl e
+tree-written m t room q e = go (tooLong (events t)) (badBranch m (events t) (events t)) (leb (blockSize t) room) refl refl refl e
   where
-    go : (x y : Option Refusal) (z : Bool) → tooLong (events t) ≡ x → tooFar (events t) (events t) ≡ y → leb (blockSize t) room ≡ z
+    go : (x y : Option Refusal) (z : Bool) → tooLong (events t) ≡ x → badBranch m (events t) (events t) ≡ y → leb (blockSize t) room ≡ z
         → unless (orElse x y) (ifRoom z (blockBytes t) (blockSize t)) ≡ Done q → Written t room q
     go (some r) y z ex ey ez k = refused-done k
     go none (some r) z ex ey ez k = refused-done k
     go none none false ex ey ez k = refused-done k
-    go none none true ex ey ez k = record { is-short = ex; is-near = ey; has-room = leb-true (blockSize t) room ez; is-block = cc }
+    go none none true ex ey ez k = record { is-short = ex; is-near = none-far m (λ l. lookup l (events t)) (events t) ey; has-room = leb-true (blockSize t) room ez; is-block = cc }
 
 -- ---- a main body that reads whole
 
@@ -69,35 +70,35 @@ same-tree b t u h k = go (h .read) (h .next) (h .is-read) (h .is-tree) (k .read)
 -- ---- a sheet that is packed
 
 -- a Done sheet reads whole
-pub record Packed (s : List ℕ) (room : ℕ) (q : List ℕ) : Type 0 where
+pub record Packed (m : Mode) (s : List ℕ) (room : ℕ) (q : List ℕ) : Type 0 where
   pub tree : Actions
   pub reads : ReadsAs s tree
   pub written : Written tree room q
 
-module _ (s : List ℕ) (room : ℕ) (q : List ℕ) where
+module _ (m : Mode) (s : List ℕ) (room : ℕ) (q : List ℕ) where
   read-packed : (start : ℕ) (b : List ℕ) (r : Read (ActionsOf Text ℕ)) → cut s ≡ main start b → readMain edition1 b deepest ≡ r
-      → packRead start r room ≡ Done q → Packed s room q
+      → packRead m start r room ≡ Done q → Packed m s room q
   unfolding packRead
   read-packed start b (got t p) c e k =
       record {
         tree = mapBody spelling t;
         reads = record { start = start; bytes = b; read = t; next = p; is-cut = c; is-read = e; is-tree = refl };
-        written = tree-written (mapBody spelling t) room q k;
+        written = tree-written m (mapBody spelling t) room q k;
       }
   read-packed start b (bad f p) c e k = refused-done k
 
-  cut-packed : (c : Cut) → cut s ≡ c → packCut c room ≡ Done q → Packed s room q
+  cut-packed : (c : Cut) → cut s ≡ c → packCut m c room ≡ Done q → Packed m s room q
   unfolding packCut
   cut-packed (main start b) e k = read-packed start b (readMain edition1 b deepest) e refl k
   cut-packed (uncut r) e k = refused-done k
 
-  pub is-packed : pack s room ≡ Done q → Packed s room q
+  pub is-packed : pack m s room ≡ Done q → Packed m s room q
   unfolding pack
   is-packed e = cut-packed (cut s) refl e
 
   -- whatever tree it is found to read as
-  pub is-written : (t : Actions) → ReadsAs s t → pack s room ≡ Done q → Written t room q
-  is-written t h e = tree-written t room q (sym (tree-next s room t h) ∙ e)
+  pub is-written : (t : Actions) → ReadsAs s t → pack m s room ≡ Done q → Written t room q
+  is-written t h e = tree-written m t room q (sym (tree-next m s room t h) ∙ e)
 
 -- ---- the main body
 

@@ -9,12 +9,12 @@ use lib.ListN.{length, drop}
 use lib.IntN.{pos, subℕ}
 use lib.Dec.{leb, ltb}
 use borrow.Author.Tests.{ltb-true, ltb-false}
-use Rattle.layout.specs.Answers.{Refusal, refusalValue, Answer, value, lengthOf}
+use Rattle.layout.specs.Answers.{Refusal, NeverRecorded, refusalValue, Answer, value, lengthOf}
 use Rattle.layout.specs.Tree.{Actions, ActionsOf}
 use Rattle.layout.specs.Read.{Text, edition1, deepest, Read}
 use Rattle.layout.specs.Strings.{mapBody}
 use Rattle.layout.specs.Write.{bodySize, Position, position, Event, labelAt, branchAt, payloadTooLong, bodyTooLong, events, lookup, blockBytes, blockSize}
-use Rattle.layout.specs.Judge.{tooLong, distance, isNear, farUnless, judged, orElse, farBy, judge}
+use Rattle.layout.specs.Judge.{tooLong, distance, isNear, farUnless, judged, orElse, Mode, refusalIf, barred, judgedIn, firstRefused, badBy, judge}
 use Rattle.layout.specs.Cut.{Cut, main, uncut, sheetLimit, trailerDistance, isMarked, cutIf, cutAt, cutIfTrailer, cutIfShort, cut}
 use Rattle.layout.specs.Pack.{unless, ifRoom, packTree, spelling, packRead, packCut, pack}
 use Rattle.layout.specs.Step.{step}
@@ -65,28 +65,39 @@ module _ (end : ℕ) (small : end < 9223372036854775808) where
       go true = unfold farUnless in tt
       go false = unfold farUnless refusalValue distance in sub-held (s .at) after (omega arith) (omega arith)
 
-  far-held : (final : ℕ → Option Position) → ((l : ℕ) → Recorded end (final l)) → (es : List Event) → AllWithin end es → Held (farBy final es)
-  unfolding farBy
-  far-held final f [] h = tt
-  far-held final f (labelAt l s ∷ es) h = far-held final f es (h .1)
-  far-held final f (branchAt l s ∷ es) h =
-      or-held (judged (final l) (s .at + 2)) (farBy final es) (judged-held (final l) (s .at + 2) (f l) (h .0)) (far-held final f es (h .1))
-  far-held final f (payloadTooLong n s ∷ es) h = far-held final f es (h .1)
-  far-held final f (bodyTooLong n s ∷ es) h = far-held final f es (h .1)
+  barred-held : (m : Mode) (o : Option Position) (s : Position) → s .at + 2 ≤ end → Held (barred m o s)
+  unfolding barred refusalIf refusalValue
+  barred-held m none s k = go (m .strict)
+    where
+      go : (t : Bool) → Held (refusalIf t (NeverRecorded (s .at)))
+      go true = zeroUp {n = s .at} (omega arith)
+      go false = tt
+  barred-held m (some r) s k = tt
+
+  bad-held : (m : Mode) (final : ℕ → Option Position) → ((l : ℕ) → Recorded end (final l)) → (es : List Event) → AllWithin end es → Held (badBy m final es)
+  unfolding firstRefused judgedIn
+  bad-held m final f [] h = tt
+  bad-held m final f (labelAt l s ∷ es) h = bad-held m final f es (h .1)
+  bad-held m final f (branchAt l s ∷ es) h =
+      or-held (judgedIn m (final l) s) (badBy m final es)
+      (or-held (barred m (final l) s) (judged (final l) (s .at + 2)) (barred-held m (final l) s (h .0)) (judged-held (final l) (s .at + 2) (f l) (h .0)))
+      (bad-held m final f es (h .1))
+  bad-held m final f (payloadTooLong n s ∷ es) h = bad-held m final f es (h .1)
+  bad-held m final f (bodyTooLong n s ∷ es) h = bad-held m final f es (h .1)
 
 -- whatever the room
-tree-i64 : (t : Actions) (room : ℕ) → bodySize t + 1 < 9223372036854775808 → IsI64 (value lengthOf (packTree t room))
+tree-i64 : (m : Mode) (t : Actions) (room : ℕ) → bodySize t + 1 < 9223372036854775808 → IsI64 (value lengthOf (packTree m t room))
 unfolding packTree
-tree-i64 t room small = go (judge t) (leb (blockSize t) room) judge-held
+tree-i64 m t room small = go (judge m t) (leb (blockSize t) room) judge-held
   where
     all : AllWithin (bodySize t) (events t)
     all = unfold events in body-within (bodySize t) t (position 0) (omega arith)
 
-    judge-held : Held (judge t)
+    judge-held : Held (judge m t)
     judge-held =
         unfold judge in
-        or-held (tooLong (events t)) (farBy (λ l. lookup l (events t)) (events t)) (long-held (bodySize t) (omega arith) (events t) all)
-        (far-held (bodySize t) (omega arith) (λ l. lookup l (events t)) (λ l. lookup-within (bodySize t) l (events t) all) (events t) all)
+        or-held (tooLong (events t)) (badBy m (λ l. lookup l (events t)) (events t)) (long-held (bodySize t) (omega arith) (events t) all)
+        (bad-held (bodySize t) (omega arith) m (λ l. lookup l (events t)) (λ l. lookup-within (bodySize t) l (events t) all) (events t) all)
 
     go : (o : Option Refusal) (z : Bool) → Held o → IsI64 (value lengthOf (unless o (ifRoom z (blockBytes t) (blockSize t))))
     go (some r) z h = unfold unless value in h
@@ -116,23 +127,23 @@ cut-held s h = short (leb (length s) sheetLimit)
     short false = zeroUp {n = length s} h
 
 -- what is read of a main body of at most 1,048,576 bytes
-read-i64 : (start n room : ℕ) {r : Read (ActionsOf Text ℕ)} → start + n ≤ sheetLimit
-    → Good n (λ x q. WellBody (mapBody spelling x) × (Unit {0} → bodySize (mapBody spelling x) + 12 ≤ 3 * n)) r → IsI64 (value lengthOf (packRead start r room))
+read-i64 : (m : Mode) (start n room : ℕ) {r : Read (ActionsOf Text ℕ)} → start + n ≤ sheetLimit
+    → Good n (λ x q. WellBody (mapBody spelling x) × (Unit {0} → bodySize (mapBody spelling x) + 12 ≤ 3 * n)) r → IsI64 (value lengthOf (packRead m start r room))
 unfolding packRead value refusalValue
-read-i64 start n room l (fine {a} {p} h k) = tree-i64 (mapBody spelling a) room (omega (arith, h .1 tt))
-read-i64 start n room l (refused {f} {p} k) = zeroUp {n = start + p .at} (omega arith)
+read-i64 m start n room l (fine {a} {p} h k) = tree-i64 m (mapBody spelling a) room (omega (arith, h .1 tt))
+read-i64 m start n room l (refused {f} {p} k) = zeroUp {n = start + p .at} (omega arith)
 
 -- Every lent sheet is so short: a slice in Rust and an object in C have at most 2^63 - 1 bytes. Only answer 1 uses it, whose value is
 -- the sheet's length
-pub pack-i64 : (s : List ℕ) (room : ℕ) → Bytes s → length s < 9223372036854775808 → IsI64 (value lengthOf (pack s room))
+pub pack-i64 : (m : Mode) (s : List ℕ) (room : ℕ) → Bytes s → length s < 9223372036854775808 → IsI64 (value lengthOf (pack m s room))
 unfolding pack packCut
-pack-i64 s room small h = go (cut s) refl (cut-held s h)
+pack-i64 m s room small h = go (cut s) refl (cut-held s h)
   where
-    go : (c : Cut) → cut s ≡ c → CutHeld c → IsI64 (value lengthOf (packCut c room))
+    go : (c : Cut) → cut s ≡ c → CutHeld c → IsI64 (value lengthOf (packCut m c room))
     go (main start b) e k =
-        let m : IsMain s start b = is-main s start b e in
+        let i : IsMain s start b = is-main s start b e in
         let bytes : Bytes b = main-bytes s start b small e in
-        read-i64 start (length b) room (omega (arith, m .is-long, m .is-limited)) (main-good edition1 b bytes spelling (Unit {0}) (spells b bytes edition1) deepest)
+        read-i64 m start (length b) room (omega (arith, i .is-long, i .is-limited)) (main-good edition1 b bytes spelling (Unit {0}) (spells b bytes edition1) deepest)
     go (uncut r) e k = unfold value in k
 
 -- ---- the stepping check, of a byte string that is as short

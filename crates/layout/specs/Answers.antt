@@ -10,7 +10,7 @@ use Rattle.layout.specs.Numbers.{i64Bytes}
 pub data Fault : Type 0 where
   CutShort UnknownCode BadField TooDeep LeftOver : Fault
 
--- numbers 1 to 13, each with what its value is made of
+-- numbers 1 to 14, each with what its value is made of
 pub data Refusal : Type 0 where
   SheetTooLong : (sheet-length : ℕ) → Refusal
   BadTrailer : Refusal
@@ -21,6 +21,7 @@ pub data Refusal : Type 0 where
   NoRoom : (length-needed : ℕ) → Refusal
   InputFull : Refusal
   Unclean : (place : ℕ) → Refusal
+  NeverRecorded : (operand : ℕ) → Refusal
 
 -- number 0 with what was made, or a refusal
 pub data Answer (A : Type 0) : Type 0 where
@@ -45,6 +46,7 @@ refusalNumber (JumpOffsetOverflow z) = 10
 refusalNumber (NoRoom n) = 11
 refusalNumber InputFull = 12
 refusalNumber (Unclean p) = 13
+refusalNumber (NeverRecorded p) = 14
 
 -- the column "Value, and when"; only 10's can be negative
 unfoldable pub refusalValue : Refusal → ℤ
@@ -57,6 +59,7 @@ refusalValue (JumpOffsetOverflow z) = z
 refusalValue (NoRoom n) = pos n
 refusalValue InputFull = pos 65536
 refusalValue (Unclean p) = pos p
+refusalValue (NeverRecorded p) = pos p
 
 unfoldable pub number : {A : Type 0} → Answer A → ℕ
 number (Done a) = 0

@@ -1,12 +1,12 @@
--- What is wrong with a tree that was read: 8 and 9, "the first met in writing order; then 10, branches in writing order".
--- Assumes nothing.
+-- What is wrong with a tree that was read: 8 and 9, "the first met in writing order; then 10, branches in writing order"; and
+-- what a mode refuses besides, 14, which is "judged with 10". Assumes nothing.
 use Prim.Native.Nat.{ℕ, _+_}
 use mathlib.Core.Bool.{Bool, true, false, _&&_}
 use mathlib.Core.Option.{Option, none, some}
 use mathlib.Core.List.{List, [], _∷_}
 use lib.IntN.{ℤ, pos, subℕ}
 use lib.Dec.{leb}
-use Rattle.layout.specs.Answers.{Refusal, ActionLenOverflow, BlockLenOverflow, JumpOffsetOverflow}
+use Rattle.layout.specs.Answers.{Refusal, ActionLenOverflow, BlockLenOverflow, JumpOffsetOverflow, NeverRecorded}
 use Rattle.layout.specs.Tree.{Actions}
 use Rattle.layout.specs.Write.{Position, Event, labelAt, branchAt, payloadTooLong, bodyTooLong, lookup, events}
 
@@ -41,18 +41,57 @@ unfoldable pub orElse : Option Refusal → Option Refusal → Option Refusal
 orElse none o = o
 orElse (some r) o = some r
 
--- the first branch among the events that goes too far; `final` gives a label's final record
-unfoldable pub farBy : (ℕ → Option Position) → List Event → Option Refusal
-farBy final [] = none
-farBy final (labelAt l s ∷ es) = farBy final es
-farBy final (branchAt l s ∷ es) = orElse (judged (final l) (s .at + 2)) (farBy final es)
-farBy final (payloadTooLong n s ∷ es) = farBy final es
-farBy final (bodyTooLong n s ∷ es) = farBy final es
+-- ---- the mode
+
+-- document 02: "a strict mode beside the plain one"
+pub record Mode : Type 0 where
+  pub strict : Bool
+
+-- document 01's
+abbrev pub plainMode : Mode
+plainMode = record { strict = false }
+
+-- a refusal, where a test holds
+unfoldable pub refusalIf : Bool → Refusal → Option Refusal
+refusalIf true r = some r
+refusalIf false r = none
+
+-- what the mode alone refuses in one branch, by its label's record and its operand's position: in strict mode "a branch whose
+-- label has no record stops the build", by 14 with "the byte position of the operand"
+unfoldable pub barred : Mode → Option Position → Position → Option Refusal
+barred mode none s = refusalIf (mode .strict) (NeverRecorded (s .at))
+barred mode (some r) s = none
+
+-- what is wrong with one branch, by the same
+unfoldable pub judgedIn : Mode → Option Position → Position → Option Refusal
+judgedIn mode o s = orElse (barred mode o s) (judged o (s .at + 2))
+
+-- ---- the branches
+
+-- "first branch in writing order": of the branches among the events, the first that a rule refuses. `final` gives a label's final
+-- record; the rule is given that and the position of the branch's operand
+unfoldable pub firstRefused : (Option Position → Position → Option Refusal) → (ℕ → Option Position) → List Event → Option Refusal
+firstRefused rule final [] = none
+firstRefused rule final (labelAt l s ∷ es) = firstRefused rule final es
+firstRefused rule final (branchAt l s ∷ es) = orElse (rule (final l) s) (firstRefused rule final es)
+firstRefused rule final (payloadTooLong n s ∷ es) = firstRefused rule final es
+firstRefused rule final (bodyTooLong n s ∷ es) = firstRefused rule final es
+
+-- by the plain rule: the first that goes too far
+abbrev pub farBy : (ℕ → Option Position) → List Event → Option Refusal
+farBy final es = firstRefused (λ o s. judged o (s .at + 2)) final es
+
+-- by a mode's rule
+abbrev pub badBy : Mode → (ℕ → Option Position) → List Event → Option Refusal
+badBy mode final es = firstRefused (judgedIn mode) final es
 
 -- the same, where `all` holds every label record
 abbrev pub tooFar : List Event → List Event → Option Refusal
 tooFar all es = farBy (λ l. lookup l all) es
 
--- 8 and 9 before 10
-unfoldable pub judge : Actions → Option Refusal
-judge t = orElse (tooLong (events t)) (tooFar (events t) (events t))
+abbrev pub badBranch : Mode → List Event → List Event → Option Refusal
+badBranch mode all es = badBy mode (λ l. lookup l all) es
+
+-- 8 and 9 before 10 and 14
+unfoldable pub judge : Mode → Actions → Option Refusal
+judge mode t = orElse (tooLong (events t)) (badBranch mode (events t) (events t))

@@ -14,47 +14,53 @@ use Rattle.layout.specs.Answers.{Refusal, ReadingFault, NoRoom, Answer, 
 use Rattle.layout.specs.Tree.{Actions}
 use Rattle.layout.specs.Read.{edition1, deepest, Place, bad, readMain}
 use Rattle.layout.specs.Write.{events, blockBytes, blockSize}
-use Rattle.layout.specs.Judge.{tooLong, tooFar, orElse, judge}
+use Rattle.layout.specs.Judge.{tooLong, orElse, Mode, badBranch, judge}
 use Rattle.layout.specs.Cut.{main, uncut, cut}
-use Rattle.layout.specs.Pack.{unless, ifRoom, packTree, packRead, packCut, pack, Outcome, ReadsAs}
+use Rattle.layout.specs.Pack.{unless, ifRoom, blockIn, packTree, packRead, packCut, pack, Outcome, ReadsAs}
 
--- ---- 1, 2; then 3 to 7; then 8 and 9; then 10; then 11
+-- ---- 1, 2; then 3 to 7; then 8 and 9; then 10 and 14; then 11
 
 -- 1 and 2 come first, whatever the room
-pub uncut-first : (s : List ℕ) (room : ℕ) (r : Refusal) → cut s ≡ uncut r → pack s room ≡ Refused r
+pub uncut-first : (m : Mode) (s : List ℕ) (room : ℕ) (r : Refusal) → cut s ≡ uncut r → pack m s room ≡ Refused r
 unfolding pack packCut
-uncut-first s room r e = ap (λ c. packCut c room) e
+uncut-first m s room r e = ap (λ c. packCut m c room) e
 
 -- then what reading meets, whatever the room
-pub fault-next : (s : List ℕ) (room start : ℕ) (b : List ℕ) (f : Fault) (p : Place) → cut s ≡ main start b → readMain edition1 b deepest ≡ bad f p
-    → pack s room ≡ Refused (ReadingFault f (start + p .at))
+pub fault-next : (m : Mode) (s : List ℕ) (room start : ℕ) (b : List ℕ) (f : Fault) (p : Place) → cut s ≡ main start b → readMain edition1 b deepest ≡ bad f p
+    → pack m s room ≡ Refused (ReadingFault f (start + p .at))
 unfolding pack packCut packRead
-fault-next s room start b f p c e = ap (λ x. packCut x room) c ∙ ap (λ x. packRead start x room) e
+fault-next m s room start b f p c e = ap (λ x. packCut m x room) c ∙ ap (λ x. packRead m start x room) e
 
 -- and a sheet that reads whole is answered by its tree alone
-pub tree-next : (s : List ℕ) (room : ℕ) (t : Actions) → ReadsAs s t → pack s room ≡ packTree t room
+pub tree-next : (m : Mode) (s : List ℕ) (room : ℕ) (t : Actions) → ReadsAs s t → pack m s room ≡ packTree m t room
 unfolding pack packCut packRead
-tree-next s room t h = ap (λ x. packCut x room) (h .is-cut) ∙ ap (λ x. packRead (h .start) x room) (h .is-read) ∙ ap (λ x. packTree x room) (h .is-tree)
+tree-next m s room t h = ap (λ x. packCut m x room) (h .is-cut) ∙ ap (λ x. packRead m (h .start) x room) (h .is-read) ∙ ap (λ x. packTree m x room) (h .is-tree)
 
-module _ (t : Actions) (room : ℕ) where
-  -- 8 and 9 come before 10 and 11
-  pub long-first : (r : Refusal) → tooLong (events t) ≡ some r → packTree t room ≡ Refused r
+module _ (m : Mode) (t : Actions) (room : ℕ) where
+  -- 8 and 9 come before 10, 14 and 11
+  pub long-first : (r : Refusal) → tooLong (events t) ≡ some r → packTree m t room ≡ Refused r
   unfolding packTree unless judge orElse
   long-first r e = rw e
 
-  -- 10 comes before 11
-  pub far-next : (r : Refusal) → tooLong (events t) ≡ none → tooFar (events t) (events t) ≡ some r → packTree t room ≡ Refused r
+  -- 10 and 14 come before 11
+  pub branch-next : (r : Refusal) → tooLong (events t) ≡ none → badBranch m (events t) (events t) ≡ some r → packTree m t room ≡ Refused r
   unfolding packTree unless judge orElse
-  far-next r e f = rw (e, f)
+  branch-next r e f = rw (e, f)
 
-  -- 11 with the length needed, only where nothing else is wrong
-  pub room-last : judge t ≡ none → room < blockSize t → packTree t room ≡ Refused (NoRoom (blockSize t))
-  unfolding packTree unless ifRoom
-  room-last e h = rw (e, lt-leb (blockSize t) room h)
+  -- 11 and 0 come last: only where nothing else is wrong
+  pub room-last : judge m t ≡ none → packTree m t room ≡ blockIn t room
+  unfolding packTree unless
+  room-last e = rw e
 
-  pub then-done : judge t ≡ none → blockSize t ≤ room → packTree t room ≡ Done (blockBytes t)
-  unfolding packTree unless ifRoom
-  then-done e h = rw (e, le-leb (blockSize t) room h)
+module _ (t : Actions) (room : ℕ) where
+  -- 11 with the length needed
+  pub no-room : room < blockSize t → blockIn t room ≡ Refused (NoRoom (blockSize t))
+  unfolding ifRoom
+  no-room h = rw (lt-leb (blockSize t) room h)
+
+  pub has-room : blockSize t ≤ room → blockIn t room ≡ Done (blockBytes t)
+  unfolding ifRoom
+  has-room h = rw (le-leb (blockSize t) room h)
 
 -- ---- any two outcomes allowed for one input are equal
 
@@ -63,7 +69,7 @@ pub same-told : {A : Type 0} {done : A → ℤ} {a : Answer A} {n n′ : ℕ} {v
 same-told h h′ = (h .is-number ∙ sym (h′ .is-number), h .is-value ∙ sym (h′ .is-value))
 
 -- of a call: number, value and every byte of the output
-pub same-outcome : {s o : List ℕ} {n n′ : ℕ} {v v′ : ℤ} {after after′ : List ℕ} → Outcome s o n v after → Outcome s o n′ v′ after′
+pub same-outcome : {m : Mode} {s o : List ℕ} {n n′ : ℕ} {v v′ : ℤ} {after after′ : List ℕ} → Outcome m s o n v after → Outcome m s o n′ v′ after′
     → (n ≡ n′) × (v ≡ v′) × (after ≡ after′)
 same-outcome h h′ =
     let t = same-told (h .told) (h′ .told) in

@@ -1,5 +1,5 @@
--- The packer: from a sheet and the room in the output to an answer and what the output then holds. "The order is 1, 2;
--- then 3 to 7 ..; then 8 and 9 ..; then 10 ..; then 11". Assumes nothing.
+-- The packer: from a mode, a sheet and the room in the output to an answer and what the output then holds. "The order is 1, 2;
+-- then 3 to 7 ..; then 8 and 9 ..; then 10 ..; then 11", and 14 is judged with 10. Assumes nothing.
 use mathlib.Core.Path.{_≡_}
 use Prim.Native.Nat.{ℕ, _+_}
 use mathlib.Core.Bool.{Bool, true, false}
@@ -13,7 +13,7 @@ use Rattle.layout.specs.Tree.{Actions, ActionsOf}
 use Rattle.layout.specs.Read.{Text, plain, edition1, deepest, Place, Read, got, bad, readMain}
 use Rattle.layout.specs.Strings.{mapBody}
 use Rattle.layout.specs.Write.{blockBytes, blockSize}
-use Rattle.layout.specs.Judge.{judge}
+use Rattle.layout.specs.Judge.{Mode, judge}
 use Rattle.layout.specs.Cut.{Cut, main, uncut, cut}
 
 -- ---- a tree that was read
@@ -27,8 +27,12 @@ unfoldable pub ifRoom : Bool → List ℕ → ℕ → Answer (List ℕ)
 ifRoom true block needed = Done block
 ifRoom false block needed = Refused (NoRoom needed)
 
-unfoldable pub packTree : Actions → ℕ → Answer (List ℕ)
-packTree t room = unless (judge t) (ifRoom (leb (blockSize t) room) (blockBytes t) (blockSize t))
+-- a tree's block, in this room
+abbrev pub blockIn : Actions → ℕ → Answer (List ℕ)
+blockIn t room = ifRoom (leb (blockSize t) room) (blockBytes t) (blockSize t)
+
+unfoldable pub packTree : Mode → Actions → ℕ → Answer (List ℕ)
+packTree mode t room = unless (judge mode t) (blockIn t room)
 
 -- ---- a sheet
 
@@ -37,17 +41,17 @@ unfoldable pub spelling : Text → List ℕ
 spelling (plain s) = s
 
 -- "A place counts from the input's byte 0": the main body starts at `start`
-unfoldable pub packRead : ℕ → Read (ActionsOf Text ℕ) → ℕ → Answer (List ℕ)
-packRead start (got t p) room = packTree (mapBody spelling t) room
-packRead start (bad f p) room = Refused (ReadingFault f (start + p .at))
+unfoldable pub packRead : Mode → ℕ → Read (ActionsOf Text ℕ) → ℕ → Answer (List ℕ)
+packRead mode start (got t p) room = packTree mode (mapBody spelling t) room
+packRead mode start (bad f p) room = Refused (ReadingFault f (start + p .at))
 
-unfoldable pub packCut : Cut → ℕ → Answer (List ℕ)
-packCut (main start b) room = packRead start (readMain edition1 b deepest) room
-packCut (uncut r) room = Refused r
+unfoldable pub packCut : Mode → Cut → ℕ → Answer (List ℕ)
+packCut mode (main start b) room = packRead mode start (readMain edition1 b deepest) room
+packCut mode (uncut r) room = Refused r
 
 -- the whole: the block, or the refusal
-unfoldable pub pack : List ℕ → ℕ → Answer (List ℕ)
-pack s room = packCut (cut s) room
+unfoldable pub pack : Mode → List ℕ → ℕ → Answer (List ℕ)
+pack mode s room = packCut mode (cut s) room
 
 -- the sheet reads whole, as this tree
 pub record ReadsAs (s : List ℕ) (t : Actions) : Type 0 where
@@ -66,7 +70,7 @@ unfoldable pub output : Answer (List ℕ) → List ℕ → List ℕ
 output (Done q) o = q ++ drop (length q) o
 output (Refused r) o = o
 
--- what a call may leave, given a sheet s and an output that held o: number, value, and what the output holds afterwards
-pub record Outcome (s o : List ℕ) (n : ℕ) (v : ℤ) (after : List ℕ) : Type 0 where
-  pub told : Told lengthOf (pack s (length o)) n v
-  pub holds : after ≡ output (pack s (length o)) o
+-- what a call may leave, given a mode, a sheet s and an output that held o: number, value, and what the output holds afterwards
+pub record Outcome (mode : Mode) (s o : List ℕ) (n : ℕ) (v : ℤ) (after : List ℕ) : Type 0 where
+  pub told : Told lengthOf (pack mode s (length o)) n v
+  pub holds : after ≡ output (pack mode s (length o)) o

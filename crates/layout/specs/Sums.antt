@@ -1,18 +1,22 @@
--- The sums worked by hand, P1 to P12: each sheet, without note, and the block that it packs to. Assumes nothing.
+-- The sums worked by hand: P1 to P12, each sheet, without note, and the block that it packs to; and answers by the mode.
+-- Assumes nothing.
 use mathlib.Core.Path.{_≡_, refl}
 use Prim.Native.Nat.{ℕ}
+use mathlib.Core.Bool.{true}
+use mathlib.Core.Option.{some}
 use mathlib.Core.List.{List, [], _∷_, _++_}
 use lib.ListN.{length}
+use lib.IntN.{ℤ, pos}
 use Rattle.layout.specs.Lists.{each, pick, firstWith}
 use Rattle.layout.specs.Numbers.{le16, le32, bit}
-use Rattle.layout.specs.Answers.{Done}
+use Rattle.layout.specs.Answers.{NeverRecorded, JumpOffsetOverflow, Done, refusalNumber, refusalValue, number, value, lengthOf}
 use Rattle.layout.specs.OpCode.{smallByte, byte, smallOpCodes, opcodes, opcodeOf}
 use Rattle.layout.specs.PushKind.{kindByte, pushKinds, kindOf}
 use Rattle.layout.specs.Read.{edition1, ifWhole, ifWithin, tested, repeat, firstZero, ifNoZero, ifNothingLeft, readU8, readU16, readU32, readU64, readBytes, readFlag, readSpelling, readCounted, hasCatch, hasFinally, hasRegister, isShape, readString, readValueOf, readValueIf, readValue, readParam, readLabel, readEntries, readCatchTarget, readCatch, readFinally, readTry, readFields, readFieldsIf, readAction, readActions, readBodyWith, readBody, readMain}
 use Rattle.layout.specs.Strings.{mapValue, mapParam, mapFlat, mapOwner, mapTarget, mapAction}
 use Rattle.layout.specs.Payload.{zeroEnded, stringsBytes, constantBytes, doubleBytes, pushBytes, pushesBytes, opcode, gotoFrame2Bytes, getUrl2Bits, payload, ownerOpCode, paramsBytes, ownerFields, ownerPayload, branchOpCode, catchShape, finallyShape, catchName, tryPayload, headed, framed}
-use Rattle.layout.specs.Write.{moved, eventIf, payloadTest, bodyTest, labelsAt, events, later, recordIf, lookup, distanceBits, branchBits, blockBytes, blockSize, size, trace, bytes}
-use Rattle.layout.specs.Judge.{tooLong, distance, isNear, farUnless, judged, orElse, farBy, judge}
+use Rattle.layout.specs.Write.{Event, labelAt, branchAt, position, moved, eventIf, payloadTest, bodyTest, labelsAt, events, later, recordIf, lookup, distanceBits, branchBits, blockBytes, blockSize, size, trace, bytes}
+use Rattle.layout.specs.Judge.{tooLong, distance, isNear, farUnless, judged, orElse, Mode, plainMode, refusalIf, barred, judgedIn, firstRefused, badBranch, judge}
 use Rattle.layout.specs.Cut.{trailerDistance, isMarked, cutIf, cutAt, cutIfTrailer, cutIfShort, cut}
 use Rattle.layout.specs.Pack.{unless, ifRoom, packTree, spelling, packRead, packCut, pack, output}
 
@@ -64,14 +68,67 @@ byHand =
     (0x99 ∷ 0x02 ∷ 0x00 ∷ 0x05 ∷ 0x00 ∷ 0x94 ∷ 0x02 ∷ 0x00 ∷ 0x01 ∷ 0x00 ∷ 0x06 ∷ 0x00 ∷ [])
     ∷ []
 
+-- a mode, a main body and the room; the number and the value
+pub data Case : Type 0 where
+  case : (mode : Mode) (main : List ℕ) (room number : ℕ) (value : ℤ) → Case
+
+-- the mode in which a label needs a record
+abbrev pub strictMode : Mode
+strictMode = record { strict = true }
+
+unfoldable pub byMode : List Case
+byMode =
+    -- P7, whose one entry is past the count: no record
+    case strictMode (0x01 ∷ 0x00 ∷ 0x00 ∷ 0x00 ∷ 0x02 ∷ 0x00 ∷ 0x01 ∷ 0x00 ∷ 0x99 ∷ 0x00 ∷ 0x00 ∷ []) 6 14 (pos 3)
+    ∷ case plainMode (0x01 ∷ 0x00 ∷ 0x00 ∷ 0x00 ∷ 0x02 ∷ 0x00 ∷ 0x01 ∷ 0x00 ∷ 0x99 ∷ 0x00 ∷ 0x00 ∷ []) 6 0 (pos 6)
+    -- P7 without room: 14 before 11
+    ∷ case strictMode (0x01 ∷ 0x00 ∷ 0x00 ∷ 0x00 ∷ 0x02 ∷ 0x00 ∷ 0x01 ∷ 0x00 ∷ 0x99 ∷ 0x00 ∷ 0x00 ∷ []) 0 14 (pos 3)
+    ∷ case plainMode (0x01 ∷ 0x00 ∷ 0x00 ∷ 0x00 ∷ 0x02 ∷ 0x00 ∷ 0x01 ∷ 0x00 ∷ 0x99 ∷ 0x00 ∷ 0x00 ∷ []) 0 11 (pos 6)
+    -- P6, a branch back to its own start
+    ∷ case strictMode (0x01 ∷ 0x00 ∷ 0x00 ∷ 0x00 ∷ 0x00 ∷ 0x00 ∷ 0x01 ∷ 0x00 ∷ 0x99 ∷ 0x00 ∷ 0x00 ∷ []) 6 0 (pos 6)
+    -- a label recorded right behind its branch: distance 0 is no fault
+    ∷ case strictMode (0x01 ∷ 0x00 ∷ 0x00 ∷ 0x00 ∷ 0x01 ∷ 0x00 ∷ 0x01 ∷ 0x00 ∷ 0x99 ∷ 0x00 ∷ 0x00 ∷ []) 6 0 (pos 6)
+    -- If 0 in a With, then Jump 1, neither recorded: the first in writing order
+    ∷ case strictMode (0x00 ∷ 0x00 ∷ 0x02 ∷ 0x00 ∷ 0x94 ∷ 0x00 ∷ 0x00 ∷ 0x01 ∷ 0x00 ∷ 0x9D ∷ 0x00 ∷ 0x00 ∷ 0x99 ∷ 0x01 ∷ 0x00 ∷ []) 16 14 (pos 8)
+    -- Jump 0, then a With whose body ends with label 0: recorded, though later and in another body
+    ∷ case strictMode (0x00 ∷ 0x00 ∷ 0x02 ∷ 0x00 ∷ 0x99 ∷ 0x00 ∷ 0x00 ∷ 0x94 ∷ 0x01 ∷ 0x00 ∷ 0x00 ∷ 0x00 ∷ 0x01 ∷ 0x00 ∷ 0x01 ∷ 0x00 ∷ 0x17 ∷ []) 12 0 (pos 12)
+    ∷ []
+
 -- a sum holds where the sheet packs to the block, with no room to spare
 abbrev pub Holds : Sum → Type 0
-Holds (sum main block) = pack (sheetOf main) (length block) ≡ Done block
+Holds (sum main block) = pack plainMode (sheetOf main) (length block) ≡ Done block
 
 abbrev pub AllHold : List Sum → Type 0
 AllHold [] = Unit {0}
 AllHold (x ∷ xs) = Holds x × AllHold xs
 
+-- a case is answered by its number and value
+abbrev pub Answers : Case → Type 0
+Answers (case mode main room n v) = (number (pack mode (sheetOf main) room) ≡ n) × (value lengthOf (pack mode (sheetOf main) room) ≡ v)
+
+abbrev pub AllAnswer : List Case → Type 0
+AllAnswer [] = Unit {0}
+AllAnswer (x ∷ xs) = Answers x × AllAnswer xs
+
+both : AllHold byHand × AllAnswer byMode
+unfolding byMode byHand sheetOf each pick firstWith le16 le32 bit smallByte byte smallOpCodes opcodes opcodeOf kindByte pushKinds kindOf edition1 ifWhole ifWithin tested repeat firstZero ifNoZero ifNothingLeft readU8 readU16 readU32 readU64 readBytes readFlag readSpelling readCounted hasCatch hasFinally hasRegister isShape readString readValueOf readValueIf readValue readParam readLabel readEntries readCatchTarget readCatch readFinally readTry readFields readFieldsIf readAction readActions readBodyWith readBody readMain mapValue mapParam mapFlat mapOwner mapTarget mapAction zeroEnded stringsBytes constantBytes doubleBytes pushBytes pushesBytes opcode gotoFrame2Bytes getUrl2Bits payload ownerOpCode paramsBytes ownerFields ownerPayload branchOpCode catchShape finallyShape catchName tryPayload headed framed moved eventIf payloadTest bodyTest labelsAt events later recordIf lookup distanceBits branchBits blockBytes blockSize size trace bytes tooLong distance isNear farUnless judged orElse refusalIf barred judgedIn firstRefused judge trailerDistance isMarked cutIf cutAt cutIfTrailer cutIfShort cut unless ifRoom packTree spelling packRead packCut pack output number value lengthOf refusalNumber refusalValue
+both = ((refl, (refl, (refl, (refl, (refl, (refl, (refl, (refl, (refl, (refl, (refl, (refl, tt)))))))))))), ((refl, refl), ((refl, refl), ((refl, refl), ((refl, refl), ((refl, refl), ((refl, refl), ((refl, refl), ((refl, refl), tt)))))))))
+
 pub sums-hold : AllHold byHand
-unfolding byHand sheetOf each pick firstWith le16 le32 bit smallByte byte smallOpCodes opcodes opcodeOf kindByte pushKinds kindOf edition1 ifWhole ifWithin tested repeat firstZero ifNoZero ifNothingLeft readU8 readU16 readU32 readU64 readBytes readFlag readSpelling readCounted hasCatch hasFinally hasRegister isShape readString readValueOf readValueIf readValue readParam readLabel readEntries readCatchTarget readCatch readFinally readTry readFields readFieldsIf readAction readActions readBodyWith readBody readMain mapValue mapParam mapFlat mapOwner mapTarget mapAction zeroEnded stringsBytes constantBytes doubleBytes pushBytes pushesBytes opcode gotoFrame2Bytes getUrl2Bits payload ownerOpCode paramsBytes ownerFields ownerPayload branchOpCode catchShape finallyShape catchName tryPayload headed framed moved eventIf payloadTest bodyTest labelsAt events later recordIf lookup distanceBits branchBits blockBytes blockSize size trace bytes tooLong distance isNear farUnless judged orElse farBy judge trailerDistance isMarked cutIf cutAt cutIfTrailer cutIfShort cut unless ifRoom packTree spelling packRead packCut pack output
-sums-hold = (refl, (refl, (refl, (refl, (refl, (refl, (refl, (refl, (refl, (refl, (refl, (refl, tt))))))))))))
+sums-hold = both .0
+
+pub cases-answer : AllAnswer byMode
+cases-answer = both .1
+
+-- ---- "first branch in writing order": label 0 has no record, label 1 one that both branches are too far from
+
+abbrev pub unrecordedFirst : List Event
+unrecordedFirst = branchAt 0 (position 3) ∷ branchAt 1 (position 8) ∷ labelAt 1 (position 40000) ∷ []
+
+abbrev pub farFirst : List Event
+farFirst = branchAt 1 (position 3) ∷ branchAt 0 (position 8) ∷ labelAt 1 (position 40000) ∷ []
+
+pub first-decides : (badBranch strictMode unrecordedFirst unrecordedFirst ≡ some (NeverRecorded 3))
+    × (badBranch strictMode farFirst farFirst ≡ some (JumpOffsetOverflow (pos 39995))) × (badBranch plainMode unrecordedFirst unrecordedFirst ≡ some (JumpOffsetOverflow (pos 39990)))
+unfolding later recordIf lookup distance isNear farUnless judged orElse refusalIf barred judgedIn firstRefused
+first-decides = (refl, refl, refl)

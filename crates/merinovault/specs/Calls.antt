@@ -5,8 +5,10 @@ use mathlib.Core.List.{List}
 use lib.ListN.{length}
 use lib.IntN.{pos}
 use lib.Dec.{eqb}
+use mathlib.Core.Bool.{Bool}
 use Rattle.layout.specs.Lists.{pick}
 use Rattle.layout.specs.Answers.{number, lengthOf, valueBytes}
+use Rattle.layout.specs.Judge.{Mode}
 use Rattle.layout.specs.Pack.{pack, output}
 use Rattle.layout.specs.Step.{step}
 use Rattle.laws.specs.Fits.{Bytes}
@@ -20,13 +22,17 @@ pub record Lent (s : List ℕ) : Type 0 where
   pub bytes : Bytes s
   pub short : length s < 9223372036854775808
 
--- merinovault_pack, on a sheet s, with an output that held o and a value slice that held v: it returns n, and the value slice then
+-- the mode that the entry's flag tells
+abbrev pub modeBy : Bool → Mode
+modeBy strict = record { strict = strict }
+
+-- merinovault_pack, in a mode, on a sheet s, with an output that held o and a value slice that held v: it returns n, and the value slice then
 -- holds v′ and the output `after`
-pub record PackCalled (s o v : List ℕ) (n : ℕ) (v′ after : List ℕ) : Type 0 where
+pub record PackCalled (mode : Mode) (s o v : List ℕ) (n : ℕ) (v′ after : List ℕ) : Type 0 where
   pub is-lent : Lent s
-  pub is-number : n ≡ ifEight v (number (pack s (length o))) 11
-  pub is-value : v′ ≡ ifEight v (valueBytes lengthOf (pack s (length o))) v
-  pub is-output : after ≡ ifEight v (output (pack s (length o)) o) o
+  pub is-number : n ≡ ifEight v (number (pack mode s (length o))) 11
+  pub is-value : v′ ≡ ifEight v (valueBytes lengthOf (pack mode s (length o))) v
+  pub is-output : after ≡ ifEight v (output (pack mode s (length o)) o) o
 
 -- merinovault_step, on a byte string s, with a value slice that held v: it returns n, and the value slice then holds v′
 pub record StepCalled (s v : List ℕ) (n : ℕ) (v′ : List ℕ) : Type 0 where

@@ -1,20 +1,27 @@
 // The C-callable entries of the archive libmerinovault.a: the number is returned, and the value fills a lent slice of 8 bytes as
 // a little-endian i64. A value slice of any other length is answered 11 before everything else, and nothing is written.
-ghost use Rattle.merinovault.specs.Calls.{PackCalled, StepCalled};
+ghost use Rattle.merinovault.specs.Calls.{modeBy, PackCalled, StepCalled};
 use answer::number_of;
 use answer::value_of;
+use judge::Mode;
 use step::Stepped;
 use stores::fill_u64;
 
-// Packs a sheet into the lent output, whose bytes past a Done length keep their values; on any other answer all do.
+// Packs a sheet, in strict mode or in plain mode, into the lent output, whose bytes past a Done length keep their values; on any
+// other answer all do.
 #[no_mangle]
-pub extern "C" fn merinovault_pack(sheet: &[u8], out: &mut [u8], value: &mut [u8]) -> u32
-    ensures { λ r. ⌜ PackCalled (now (sheet .entry)) (now (out .entry)) (now (value .entry)) r (now (value .exit)) (now (out .exit)) ⌝ }
+pub extern "C" fn merinovault_pack(
+    sheet: &[u8],
+    strict: bool,
+    out: &mut [u8],
+    value: &mut [u8],
+) -> u32
+    ensures { λ r. ⌜ PackCalled (modeBy strict) (now (sheet .entry)) (now (out .entry)) (now (value .entry)) r (now (value .exit)) (now (out .exit)) ⌝ }
 {
     if value.len() != 8 {
         return 11;
     }
-    let a = pack::pack(sheet, out);
+    let a = pack::pack(sheet, Mode { strict: strict }, out);
     fill_u64(value, value_of(a));
     number_of(a)
 }

@@ -5,11 +5,15 @@ use mathlib.Core.Option.{none}
 use mathlib.Core.List.{List}
 use Rattle.layout.specs.Answers.{Told, lengthOf, Refused, ReadingFault}
 use Rattle.layout.specs.Write.{events}
-use Rattle.layout.specs.Judge.{tooLong}
+use Rattle.layout.specs.Judge.{tooLong, Mode}
+use Rattle.layout.specs.Pack.{packTree}
 use Rattle.positions.specs.declared.BytePosition.{BytePosition}
 use Rattle.positions.specs.declared.Fault.{Fault}
 use Rattle.positions.specs.Scanned.{meant}
 use Rattle.labels.specs.Mains.{MainMeasured}
+use Rattle.judge.specs.declared.BadBranch.{BadBranch}
+use Rattle.judge.specs.Judging.{refusalOf}
+use Rattle.if_room.specs.Near.{MainAnswered}
 use Rattle.answer.specs.declared.Answer.{Answer}
 use Rattle.answer.specs.Answered.{number, value}
 
@@ -17,7 +21,15 @@ use Rattle.answer.specs.Answered.{number, value}
 abbrev pub TellsFault : Fault → ℕ → Answer → Type 0
 TellsFault f place r = Told {A = List ℕ} lengthOf (Refused (ReadingFault (meant f) place)) (number r) (value r)
 
+-- r tells what is wrong with a branch
+abbrev pub TellsBranch : BadBranch → Answer → Type 0
+TellsBranch bad r = Told {A = List ℕ} lengthOf (Refused (refusalOf bad)) (number r) (value r)
+
 -- a main body that reads whole as far as position `end`, with its label table, and in which nothing is too long
 pub record MainShort (b : List ℕ) (end : BytePosition) (tab : List ℕ) : Type 0 where
   pub measured : MainMeasured b end tab
   pub is-short : tooLong (events (measured .tree)) ≡ none
+
+-- what is left of a main body: the packer's answer
+abbrev pub MainPacked : Mode → List ℕ → List ℕ → Answer → List ℕ → Type 0
+MainPacked mode = MainAnswered (packTree mode)

@@ -1,11 +1,13 @@
-// The packer: a sheet's block in the lent output, or one of 1 to 11.
+// The packer: a sheet's block in the lent output, or one of 1 to 11 and, in strict mode, 14.
 ghost use Rattle.layout.specs.Pack.{Outcome};
 ghost use Rattle.answer.specs.Answered.{number, value};
 ghost use Rattle.scan.specs.Mains.{MainWhole};
-ghost use Rattle.if_room.specs.Near.{MainPacked};
-ghost use Rattle.pack.specs.Steps.{TellsFault, MainShort};
+ghost use Rattle.judge.specs.Judging.{modeOf};
+ghost use Rattle.pack.specs.Steps.{TellsFault, TellsBranch, MainShort, MainPacked};
 use answer::Answer;
 use if_room::pack_near;
+use judge::BadBranch;
+use judge::Mode;
 use judge::Verdict;
 use judge::judge_main;
 use positions::BytePosition;
@@ -26,21 +28,38 @@ fn fault_answer(f: Fault, place: usize) -> Answer
     }
 }
 
-// A main body in which nothing is too long: 10 where a branch goes too far, else 11 or 0.
-fn pack_short(b: &[u8], end: BytePosition, tab: &[usize], out: &mut [u8]) -> Answer
-    requires { ⌜ MainShort (now b) end (now tab) ⌝ }
-    ensures { λ r. ⌜ MainPacked (now (b .entry)) (now (out .entry)) r (now (out .exit)) ⌝ }
+// 10 or 14.
+fn branch_answer(bad: BadBranch) -> Answer
+    ensures { λ r. ⌜ TellsBranch bad r ⌝ }
 {
-    match judge_main(b, end, tab) {
-        Verdict::Far(bits) => Answer::JumpOffsetOverflow(bits),
-        Verdict::Near => pack_near(b, end, tab, out),
+    match bad {
+        BadBranch::Far(bits) => Answer::JumpOffsetOverflow(bits),
+        BadBranch::NeverRecorded(operand) => Answer::NeverRecorded(operand),
     }
 }
 
-// A main body that reads whole: 8 or 9 where the walk noted it in `over`, else 10, 11 or 0.
-fn pack_whole(b: &[u8], end: BytePosition, tab: &[usize], over: &[usize], out: &mut [u8]) -> Answer
+// A main body in which nothing is too long: 10 or 14 where a branch is refused, else 11 or 0.
+fn pack_short(b: &[u8], end: BytePosition, mode: Mode, tab: &[usize], out: &mut [u8]) -> Answer
+    requires { ⌜ MainShort (now b) end (now tab) ⌝ }
+    ensures { λ r. ⌜ MainPacked (modeOf mode) (now (b .entry)) (now (out .entry)) r (now (out .exit)) ⌝ }
+{
+    match judge_main(b, end, mode, tab) {
+        Verdict::Refused(bad) => branch_answer(bad),
+        Verdict::Passed => pack_near(b, end, tab, out),
+    }
+}
+
+// A main body that reads whole: 8 or 9 where the walk noted it in `over`, else 10, 14, 11 or 0.
+fn pack_whole(
+    b: &[u8],
+    end: BytePosition,
+    mode: Mode,
+    tab: &[usize],
+    over: &[usize],
+    out: &mut [u8],
+) -> Answer
     requires { ⌜ MainWhole (now b) end (now tab) (now over) ⌝ }
-    ensures { λ r. ⌜ MainPacked (now (b .entry)) (now (out .entry)) r (now (out .exit)) ⌝ }
+    ensures { λ r. ⌜ MainPacked (modeOf mode) (now (b .entry)) (now (out .entry)) r (now (out .exit)) ⌝ }
 {
     let noted = over[0];
     let n = over[1];
@@ -50,12 +69,12 @@ fn pack_whole(b: &[u8], end: BytePosition, tab: &[usize], over: &[usize], out: &
     if noted == 9 {
         return Answer::BlockLenOverflow(n);
     }
-    pack_short(b, end, tab, out)
+    pack_short(b, end, mode, tab, out)
 }
 
 // Packs a sheet into the lent output, whose bytes past a Done length keep their values.
-pub fn pack(sheet: &[u8], out: &mut [u8]) -> Answer
-    ensures { λ r. ⌜ Outcome (now (sheet .entry)) (now (out .entry)) (number r) (value r) (now (out .exit)) ⌝ }
+pub fn pack(sheet: &[u8], mode: Mode, out: &mut [u8]) -> Answer
+    ensures { λ r. ⌜ Outcome (modeOf mode) (now (sheet .entry)) (now (out .entry)) (number r) (value r) (now (out .exit)) ⌝ }
 {
     let mut tab = [0; 1024];
     let mut over = [0; 2];
@@ -63,6 +82,8 @@ pub fn pack(sheet: &[u8], out: &mut [u8]) -> Answer
         Reading::SheetTooLong(n) => Answer::SheetTooLong(n),
         Reading::BadTrailer => Answer::BadTrailer,
         Reading::Stops(f, place) => fault_answer(f, place),
-        Reading::Whole(start, end, pos) => pack_whole(&sheet[start..end], pos, &tab, &over, out),
+        Reading::Whole(start, end, pos) => {
+            pack_whole(&sheet[start..end], pos, mode, &tab, &over, out)
+        }
     }
 }

@@ -6,10 +6,11 @@ use mathlib.Core.Option.{Option}
 use mathlib.Core.List.{List, [], _∷_, _++_}
 use lib.ListN.{length}
 use lib.Dec.{ltb, eqb}
+use Rattle.layout.specs.Answers.{Refusal}
 use Rattle.layout.specs.Tree.{ActionIndex, firstAction, nextAction, Entry, entry, Action, flat, branch, owner, Try, ActionList, empty, more, Actions, body, Catch, noCatch, catch, Finally, noFinally, finally}
 use Rattle.layout.specs.Payload.{ownerFields, catchName}
 use Rattle.layout.specs.Write.{size, bodySize, catchSize, Position, moved, Event, labelAt, branchAt, payloadTooLong, bodyTooLong, eventIf, payloadTest, bodyTest, labelsAt, trace, traces, traceBody, traceCatch, traceFinally}
-use Rattle.layout.specs.Judge.{farBy}
+use Rattle.layout.specs.Judge.{firstRefused}
 use Rattle.pcode.proofs.Trees.{Under, UnderActions, UnderBody, UnderCatch, UnderFinally}
 
 module _ (n : ℕ) where
@@ -86,11 +87,12 @@ module _ (n : ℕ) where
     finally-under noFinally s u = tt
     finally-under (finally b) s u = body-under b s u
 
-  -- Final records that agree under the bound leave the same first branch that goes too far.
-  pub far-same : (f g : ℕ → Option Position) → ((l : ℕ) → l < n → f l ≡ g l) → (es : List Event) → BranchesUnder es → farBy f es ≡ farBy g es
-  unfolding farBy
-  far-same f g same [] h = refl
-  far-same f g same (labelAt l s ∷ es) h = far-same f g same es h
-  far-same f g same (branchAt l s ∷ es) h = rw (same l (h .0), far-same f g same es (h .1))
-  far-same f g same (payloadTooLong m s ∷ es) h = far-same f g same es h
-  far-same f g same (bodyTooLong m s ∷ es) h = far-same f g same es h
+  -- Final records that agree under the bound leave the same first branch that a rule refuses.
+  pub refused-same : (rule : Option Position → Position → Option Refusal) (f g : ℕ → Option Position) → ((l : ℕ) → l < n → f l ≡ g l) → (es : List Event) → BranchesUnder es
+      → firstRefused rule f es ≡ firstRefused rule g es
+  unfolding firstRefused
+  refused-same rule f g same [] h = refl
+  refused-same rule f g same (labelAt l s ∷ es) h = refused-same rule f g same es h
+  refused-same rule f g same (branchAt l s ∷ es) h = rw (same l (h .0), refused-same rule f g same es (h .1))
+  refused-same rule f g same (payloadTooLong m s ∷ es) h = refused-same rule f g same es h
+  refused-same rule f g same (bodyTooLong m s ∷ es) h = refused-same rule f g same es h

@@ -6,6 +6,7 @@ use lib.IntN.{ℤ}
 use lib.Dec.{ltb}
 use Rattle.layout.specs.Lists.{pick}
 use Rattle.layout.specs.Answers.{Answer, Done, Refused, InputFull, number, value, lengthOf}
+use Rattle.layout.specs.Judge.{plainMode}
 use Rattle.layout.specs.Pack.{pack}
 use Rattle.print_text.specs.Pieces.{decimal, signed, hexLines}
 
@@ -24,7 +25,7 @@ printed a = line (number a) (value lengthOf a) ++ blockOf a
 
 -- "It reads standard input into 65,536 bytes; if that fills", 12; "otherwise it packs into 65,536 bytes"
 unfoldable pub answered : List ℕ → Answer (List ℕ)
-answered input = pick (ltb (length input) 65536) (pack input 65536) (Refused InputFull)
+answered input = pick (ltb (length input) 65536) (pack plainMode input 65536) (Refused InputFull)
 
 -- what the program prints
 unfoldable pub blockText : List ℕ → List ℕ

@@ -9,6 +9,7 @@ ghost use Rattle.print_text.specs.Pieces.{signed, Room, Put};
 ghost use Rattle.print.specs.Text.{line, answered, blockText};
 use answer::number_of;
 use answer::value_of;
+use judge::Mode;
 use print_text::put_block;
 use print_text::put_number;
 use print_text::put_signed;
@@ -37,7 +38,7 @@ fn put_line(text: &mut [u8], number: u32, bits: u64) -> usize
     q + 1
 }
 
-// Packs the input into `out`, and makes the program's text at the front of `text`: three bytes for each byte of a block, and a
+// Packs the input in plain mode into `out`, and makes the program's text at the front of `text`: three bytes for each byte of a block, and a
 // line. An input that fills its 65,536 bytes is not packed: its line is that of 12. Returns the length of the text.
 pub fn block_text(input: &[u8], out: &mut [u8], text: &mut [u8]) -> usize
     requires { ⌜ (length (now input) ≤ 65536) × (length (now out) ≡ 65536) × Room 196651 0 (now text) ⌝ }
@@ -48,7 +49,7 @@ pub fn block_text(input: &[u8], out: &mut [u8], text: &mut [u8]) -> usize
     if input.len() == 65536 {
         return put_line(text, 12, 65536);
     }
-    let a = pack::pack(input, out);
+    let a = pack::pack(input, Mode { strict: false }, out);
     let number = number_of(a);
     let bits = value_of(a);
     let p = put_line(text, number, bits);

@@ -1,20 +1,24 @@
--- What a call of the packer promises, over `Outcome s o n v after`: a sheet s, an output that held o, the number n, the value v,
--- and what the output holds afterwards. That any two calls on one s and o tell and leave the same is `same-outcome`, in layout's
+-- What a call of the packer promises, over `Outcome m s o n v after`: a mode m, a sheet s, an output that held o, the number n, the value v,
+-- and what the output holds afterwards. That any two calls on one m, s and o tell and leave the same is `same-outcome`, in layout's
 -- Order. Assumes nothing.
 use mathlib.Core.Path.{_≡_, refl, sym, ap, _∙_, subst}
+use mathlib.Core.Bool.{true}
+use mathlib.Core.Logic.{_⊎_, inl, inr}
 use Prim.Native.Nat.{ℕ, _+_, _*_, _≤_, _<_}
 use native.Mathlib.Omega.{arith}
 use mathlib.Core.List.{List, _++_}
 use lib.ListN.{length, take, drop, length-append, length-drop, take-append-drop}
 use lib.Seq.{take-at, drop-at}
 use lib.IntN.{ℤ, pos}
-use Rattle.layout.specs.Answers.{Fault, CutShort, UnknownCode, BadField, TooDeep, LeftOver, Refusal, SheetTooLong, BadTrailer, ReadingFault, ActionLenOverflow, BlockLenOverflow, JumpOffsetOverflow, NoRoom, InputFull, Unclean, Answer, Done, Refused, faultNumber, refusalNumber, number, value, lengthOf, Told}
+use Rattle.layout.specs.Answers.{Fault, CutShort, UnknownCode, BadField, TooDeep, LeftOver, Refusal, SheetTooLong, BadTrailer, ReadingFault, ActionLenOverflow, BlockLenOverflow, JumpOffsetOverflow, NoRoom, InputFull, Unclean, NeverRecorded, Answer, Done, Refused, faultNumber, refusalNumber, number, value, lengthOf, Told}
 use Rattle.layout.specs.Tree.{Actions}
+use Rattle.layout.specs.Judge.{Mode, plainMode}
 use Rattle.layout.specs.Pack.{pack, output, Outcome, ReadsAs}
 use Rattle.layout.specs.Order.{same-outcome}
 use Rattle.layout.specs.Lengths.{length-block}
 use Rattle.laws.specs.Meaning.{meaning}
 use Rattle.laws.specs.Fits.{Bytes}
+use Rattle.laws.specs.Modes.{never-recorded, AsPlain, same, besides, as-plain, done-plain, TreeRecorded, recorded-plain, done-recorded}
 use Rattle.laws.specs.Packed.{Written, refused-done, Packed, is-packed, sheetDistance}
 use Rattle.laws.specs.Demands.{same-meaning, length-done, noteLength, same-note, same-note-output}
 use Rattle.agreement.specs.Source.{ActionEncoder, Result, ok, err, encode}
@@ -43,45 +47,46 @@ refusal-over (JumpOffsetOverflow z) = omega arith
 refusal-over (NoRoom n) = omega arith
 refusal-over InputFull = omega arith
 refusal-over (Unclean p) = omega arith
+refusal-over (NeverRecorded p) = omega arith
 
--- ---- a call that answers 0 with value k, which is `Outcome s o 0 (pos k) after`
+-- ---- a call that answers 0 with value k, which is `Outcome m s o 0 (pos k) after`
 
 -- the first k bytes of its output are the block that `pack` makes, and the others are as they were
-pub record Filled (s o : List ℕ) (k : ℕ) (after : List ℕ) : Type 0 where
-  pub packed : pack s (length o) ≡ Done (take k after)
+pub record Filled (m : Mode) (s o : List ℕ) (k : ℕ) (after : List ℕ) : Type 0 where
+  pub packed : pack m s (length o) ≡ Done (take k after)
   pub is-long : length (take k after) ≡ k
   pub is-within : k ≤ length o
   pub is-rest : drop k after ≡ drop k o
 
-block-within : (s : List ℕ) (room : ℕ) (q : List ℕ) → pack s room ≡ Done q → length q ≤ room
-block-within s room q e =
-    let w : Written (is-packed s room q e .tree) room q = is-packed s room q e .written in
-    omega (arith, w .has-room, length-block (is-packed s room q e .tree), ap length (w .is-block))
+block-within : (m : Mode) (s : List ℕ) (room : ℕ) (q : List ℕ) → pack m s room ≡ Done q → length q ≤ room
+block-within m s room q e =
+    let w : Written (is-packed m s room q e .tree) room q = is-packed m s room q e .written in
+    omega (arith, w .has-room, length-block (is-packed m s room q e .tree), ap length (w .is-block))
 
-filled-by : (s o : List ℕ) (k : ℕ) (after q : List ℕ) → pack s (length o) ≡ Done q → length q ≡ k → after ≡ q ++ drop (length q) o → Filled s o k after
-filled-by s o k after q e l h =
+filled-by : (m : Mode) (s o : List ℕ) (k : ℕ) (after q : List ℕ) → pack m s (length o) ≡ Done q → length q ≡ k → after ≡ q ++ drop (length q) o → Filled m s o k after
+filled-by m s o k after q e l h =
     let t : take k after ≡ q = ap (take k) h ∙ take-at q (drop (length q) o) k l in
     let d : drop k after ≡ drop (length q) o = ap (drop k) h ∙ drop-at q (drop (length q) o) k l in
     record {
       packed = e ∙ ap Done (sym t);
       is-long = ap length t ∙ l;
-      is-within = omega (arith, block-within s (length o) q e);
+      is-within = omega (arith, block-within m s (length o) q e);
       is-rest = d ∙ ap (λ (i : ℕ). drop i o) l;
     }
 
-pub filled : (s o : List ℕ) (k : ℕ) (after : List ℕ) → Outcome s o 0 (pos k) after → Filled s o k after
+pub filled : (m : Mode) (s o : List ℕ) (k : ℕ) (after : List ℕ) → Outcome m s o 0 (pos k) after → Filled m s o k after
 unfolding number value output
-filled s o k after h = go (pack s (length o)) refl (h .told .is-number) (h .told .is-value) (h .holds)
+filled m s o k after h = go (pack m s (length o)) refl (h .told .is-number) (h .told .is-value) (h .holds)
   where
-    go : (a : Answer (List ℕ)) → pack s (length o) ≡ a → 0 ≡ number a → pos k ≡ value lengthOf a → after ≡ output a o → Filled s o k after
+    go : (a : Answer (List ℕ)) → pack m s (length o) ≡ a → 0 ≡ number a → pos k ≡ value lengthOf a → after ≡ output a o → Filled m s o k after
     go (Done q) e en ev eo =
         let l : length q ≡ k = cc in
-        filled-by s o k after q e l eo
+        filled-by m s o k after q e l eo
     go (Refused r) e en ev eo = absurd (omega (arith, refusal-over r, en))
 
 -- its sheet reads whole, nothing in it is too long or too far, and the first k bytes of the output are its tree's block
-pub done-packed : (s o : List ℕ) (k : ℕ) (after : List ℕ) → Outcome s o 0 (pos k) after → Packed s (length o) (take k after)
-done-packed s o k after h = is-packed s (length o) (take k after) (filled s o k after h .packed)
+pub done-packed : (m : Mode) (s o : List ℕ) (k : ℕ) (after : List ℕ) → Outcome m s o 0 (pos k) after → Packed m s (length o) (take k after)
+done-packed m s o k after h = is-packed m s (length o) (take k after) (filled m s o k after h .packed)
 
 -- ---- the value
 
@@ -92,50 +97,75 @@ pub record DoneValue (s : List ℕ) (v : ℤ) : Type 0 where
   pub is-bounded : k + 11 ≤ 3 * sheetDistance s
 
 -- a call that answers 0 has a length for its value, within the bound
-pub done-value : (s o : List ℕ) (n : ℕ) (v : ℤ) (after : List ℕ) → Bytes s → Outcome s o n v after → n ≡ 0 → DoneValue s v
+pub done-value : (m : Mode) (s o : List ℕ) (n : ℕ) (v : ℤ) (after : List ℕ) → Bytes s → Outcome m s o n v after → n ≡ 0 → DoneValue s v
 unfolding number value
-done-value s o n v after small h z = go (pack s (length o)) refl (h .told .is-number) (h .told .is-value)
+done-value m s o n v after small h z = go (pack m s (length o)) refl (h .told .is-number) (h .told .is-value)
   where
-    go : (a : Answer (List ℕ)) → pack s (length o) ≡ a → n ≡ number a → v ≡ value lengthOf a → DoneValue s v
-    go (Done q) e en ev = record { k = length q; is-value = ev; is-bounded = length-done s (length o) q small e }
+    go : (a : Answer (List ℕ)) → pack m s (length o) ≡ a → n ≡ number a → v ≡ value lengthOf a → DoneValue s v
+    go (Done q) e en ev = record { k = length q; is-value = ev; is-bounded = length-done m s (length o) q small e }
     go (Refused r) e en ev = absurd (omega (arith, refusal-over r, en))
 
 -- ---- the note
 
 -- two calls on sheets of equal length that agree from the main body on, with equal outputs: number, value and output are equal
-pub same-but-note : (s s′ : List ℕ) → length s ≡ length s′ → drop (noteLength s) s ≡ drop (noteLength s) s′
-    → (o : List ℕ) (n n′ : ℕ) (v v′ : ℤ) (after after′ : List ℕ) → Outcome s o n v after → Outcome s′ o n′ v′ after′
+pub same-but-note : (m : Mode) (s s′ : List ℕ) → length s ≡ length s′ → drop (noteLength s) s ≡ drop (noteLength s) s′
+    → (o : List ℕ) (n n′ : ℕ) (v v′ : ℤ) (after after′ : List ℕ) → Outcome m s o n v after → Outcome m s′ o n′ v′ after′
     → (n ≡ n′) × (v ≡ v′) × (after ≡ after′)
-same-but-note s s′ l r o n n′ v v′ after after′ h h′ =
+same-but-note m s s′ l r o n n′ v v′ after after′ h h′ =
     same-outcome h (record {
-      told = subst (λ (a : Answer (List ℕ)). Told lengthOf a n′ v′) (sym (same-note s s′ l r (length o))) (h′ .told);
-      holds = h′ .holds ∙ sym (same-note-output s s′ l r o);
+      told = subst (λ (a : Answer (List ℕ)). Told lengthOf a n′ v′) (sym (same-note s s′ l r m (length o))) (h′ .told);
+      holds = h′ .holds ∙ sym (same-note-output s s′ l r m o);
     })
 
 -- ---- demand 3
 
--- two calls that answer 0 and leave equal blocks were given equal meanings, whatever their outputs held and their rooms were
-pub same-block-meaning : (s s′ o o′ : List ℕ) (k k′ : ℕ) (after after′ : List ℕ) (t t′ : Actions) → Bytes s → Bytes s′ → ReadsAs s t → ReadsAs s′ t′
-    → Outcome s o 0 (pos k) after → Outcome s′ o′ 0 (pos k′) after′ → take k after ≡ take k′ after′ → meaning t ≡ meaning t′
-same-block-meaning s s′ o o′ k k′ after after′ t t′ small small′ r r′ h h′ e =
-    same-meaning s s′ (length o) (length o′) (take k after) t t′ small small′ r r′ (filled s o k after h .packed)
-    (filled s′ o′ k′ after′ h′ .packed ∙ ap Done (sym e))
+-- two calls that answer 0 and leave equal blocks were given equal meanings, whatever their modes were, their outputs held and their
+-- rooms were
+pub same-block-meaning : (m m′ : Mode) (s s′ o o′ : List ℕ) (k k′ : ℕ) (after after′ : List ℕ) (t t′ : Actions) → Bytes s → Bytes s′ → ReadsAs s t → ReadsAs s′ t′
+    → Outcome m s o 0 (pos k) after → Outcome m′ s′ o′ 0 (pos k′) after′ → take k after ≡ take k′ after′ → meaning t ≡ meaning t′
+same-block-meaning m m′ s s′ o o′ k k′ after after′ t t′ small small′ r r′ h h′ e =
+    same-meaning m m′ s s′ (length o) (length o′) (take k after) t t′ small small′ r r′ (filled m s o k after h .packed)
+    (filled m′ s′ o′ k′ after′ h′ .packed ∙ ap Done (sym e))
+
+-- ---- the mode
+
+-- "All else is as in plain mode, a Done's bytes too": a call in any mode answers 14, or tells and leaves what a call in plain mode
+-- does on the same sheet and output
+pub as-in-plain : (m : Mode) (s o : List ℕ) (n n′ : ℕ) (v v′ : ℤ) (after after′ : List ℕ) → Outcome m s o n v after → Outcome plainMode s o n′ v′ after′
+    → (n ≡ 14) ⊎ ((n ≡ n′) × (v ≡ v′) × (after ≡ after′))
+unfolding number refusalNumber
+as-in-plain m s o n n′ v v′ after after′ h h′ = go (as-plain m s (length o)) (h .told) (h .holds)
+  where
+    go : {a : Answer (List ℕ)} → AsPlain (pack plainMode s (length o)) a → Told lengthOf a n v → after ≡ output a o → (n ≡ 14) ⊎ ((n ≡ n′) × (v ≡ v′) × (after ≡ after′))
+    go same t e = inr (same-outcome (record { told = t; holds = e }) h′)
+    go (besides never-recorded) t e = inl (t .is-number)
+
+-- where the label of every branch is recorded, every mode tells and leaves what plain mode does
+pub as-if-recorded : (m : Mode) (s o : List ℕ) (t : Actions) (n n′ : ℕ) (v v′ : ℤ) (after after′ : List ℕ) → ReadsAs s t → TreeRecorded t
+    → Outcome m s o n v after → Outcome plainMode s o n′ v′ after′ → (n ≡ n′) × (v ≡ v′) × (after ≡ after′)
+as-if-recorded m s o t n n′ v v′ after after′ r e h h′ =
+    let p = recorded-plain m s t (length o) r e in
+    same-outcome (record { told = subst (λ (a : Answer (List ℕ)). Told lengthOf a n v) p (h .told); holds = h .holds ∙ ap (λ (a : Answer (List ℕ)). output a o) p }) h′
+
+-- a call in strict mode that answers 0 was given no branch to a label without a record
+pub done-is-recorded : (m : Mode) → m .strict ≡ true → (s o : List ℕ) (t : Actions) (k : ℕ) (after : List ℕ) → ReadsAs s t → Outcome m s o 0 (pos k) after → TreeRecorded t
+done-is-recorded m strict s o t k after r h = done-recorded m strict s t (length o) (take k after) r (filled m s o k after h .packed)
 
 -- ---- what a call leaves alone
 
 -- a call that does not answer 0 leaves every byte of the output
-pub refused-leaves : (s o : List ℕ) (n : ℕ) (v : ℤ) (after : List ℕ) → Outcome s o n v after → (n ≡ 0 → ⊥) → after ≡ o
+pub refused-leaves : (m : Mode) (s o : List ℕ) (n : ℕ) (v : ℤ) (after : List ℕ) → Outcome m s o n v after → (n ≡ 0 → ⊥) → after ≡ o
 unfolding number output
-refused-leaves s o n v after h z = go (pack s (length o)) (h .told .is-number) (h .holds)
+refused-leaves m s o n v after h z = go (pack m s (length o)) (h .told .is-number) (h .holds)
   where
     go : (a : Answer (List ℕ)) → n ≡ number a → after ≡ output a o → after ≡ o
     go (Done q) en eo = absurd (z en)
     go (Refused r) en eo = eo
 
 -- a call that answers 0 with value k leaves the bytes from k on, and the output's length
-pub done-leaves : (s o : List ℕ) (k : ℕ) (after : List ℕ) → Outcome s o 0 (pos k) after → (drop k after ≡ drop k o) × (length after ≡ length o) × (k ≤ length o)
-done-leaves s o k after h =
-    let f : Filled s o k after = filled s o k after h in
+pub done-leaves : (m : Mode) (s o : List ℕ) (k : ℕ) (after : List ℕ) → Outcome m s o 0 (pos k) after → (drop k after ≡ drop k o) × (length after ≡ length o) × (k ≤ length o)
+done-leaves m s o k after h =
+    let f : Filled m s o k after = filled m s o k after h in
     let l : length after ≡ length (take k after) + length (drop k after) = ap length (sym (take-append-drop k after)) ∙ length-append (take k after) (drop k after) in
     (f .is-rest, omega (arith, f .is-within, f .is-long, l, ap length (f .is-rest), length-drop k o), f .is-within)
 
@@ -148,10 +178,10 @@ pub record SourceWrites (t : Actions) (q : List ℕ) : Type 0 where
   pub is-output : encoder .output ≡ q
 
 -- for a sheet s of bytes that reads whole as a tree t, and a call that answers 0 with value k
-module _ (s o : List ℕ) (t : Actions) (k : ℕ) (after : List ℕ) (small : Bytes s) (r : ReadsAs s t) (h : Outcome s o 0 (pos k) after) where
+module _ (m : Mode) (s o : List ℕ) (t : Actions) (k : ℕ) (after : List ℕ) (small : Bytes s) (r : ReadsAs s t) (h : Outcome m s o 0 (pos k) after) where
   -- the first k bytes of the output are what the source's encoder writes for the tree
   pub done-source : SourceWrites t (take k after)
-  done-source = go (encode t) (Done (take k after)) refl refl (subst (Agrees (length o) (encode t)) (filled s o k after h .packed) (same-as-source s t (length o) small r))
+  done-source = go (encode t) (Done (take k after)) refl refl (subst (Agrees (length o) (encode t)) (done-plain m s (length o) (take k after) (filled m s o k after h .packed)) (same-as-source s t (length o) small r))
     where
       go : (x : Result) (a : Answer (List ℕ)) → encode t ≡ x → a ≡ Done (take k after) → Agrees (length o) x a → SourceWrites t (take k after)
       go (ok e) a i j (in-room w) = record { encoder = e; is-result = i; is-output = cc }
@@ -160,16 +190,16 @@ module _ (s o : List ℕ) (t : Actions) (k : ℕ) (after : List ℕ) (small : By
 
   -- and they follow the published layouts, GetUrl2's bits, a double's words and an End among the actions apart
   pub done-published : Block asWritten t (take k after)
-  done-published = follows-published s t (length o) (take k after) small r (filled s o k after h .packed)
+  done-published = follows-published m s t (length o) (take k after) small r (filled m s o k after h .packed)
 
   -- for a tree without GetUrl2, without a pushed double and without End, in these too
   pub done-undisputed : BodyUndisputed t → Block asPublished t (take k after)
-  done-undisputed u = no-other-difference s t (length o) (take k after) small r (filled s o k after h .packed) u
+  done-undisputed u = no-other-difference m s t (length o) (take k after) small r (filled m s o k after h .packed) u
 
--- any call on such a sheet tells and leaves the one answer that agrees with the source's result at its room: an overflow's number
+-- any call in plain mode on such a sheet tells and leaves the one answer that agrees with the source's result at its room: an overflow's number
 -- and value too
 pub as-source : (s o : List ℕ) (t : Actions) (n : ℕ) (v : ℤ) (after : List ℕ) (a : Answer (List ℕ)) → Bytes s → ReadsAs s t → Agrees (length o) (encode t) a
-    → Outcome s o n v after → Told lengthOf a n v × (after ≡ output a o)
+    → Outcome plainMode s o n v after → Told lengthOf a n v × (after ≡ output a o)
 as-source s o t n v after a small r g h =
-    let e : pack s (length o) ≡ a = agrees-once (length o) (encode t) (pack s (length o)) a (same-as-source s t (length o) small r) g in
+    let e : pack plainMode s (length o) ≡ a = agrees-once (length o) (encode t) (pack plainMode s (length o)) a (same-as-source s t (length o) small r) g in
     subst (λ (x : Answer (List ℕ)). Told lengthOf x n v × (after ≡ output x o)) e (h .told, h .holds)

@@ -7,6 +7,7 @@ use lib.ListN.{length}
 use lib.IntN.{ℤ, pos}
 use Rattle.layout.specs.Numbers.{u64At}
 use Rattle.layout.specs.Answers.{Answer, value, lengthOf, Told, valueBytes}
+use Rattle.layout.specs.Judge.{Mode}
 use Rattle.layout.specs.Pack.{pack, Outcome}
 use Rattle.layout.specs.Step.{step}
 use Rattle.layout.specs.Order.{IsI64, signed64, value-back}
@@ -30,15 +31,15 @@ read-back done a v v′ e i h =
 
 -- ---- merinovault_pack
 
-module _ {s o v : List ℕ} {n : ℕ} {v′ after : List ℕ} (h : PackCalled s o v n v′ after) where
+module _ {m : Mode} {s o v : List ℕ} {n : ℕ} {v′ after : List ℕ} (h : PackCalled m s o v n v′ after) where
   -- with a value slice of eight bytes
   module _ (is-eight : length v ≡ 8) where
     -- the slice then tells the answer's value
-    pub pack-value : valueIn v′ ≡ value lengthOf (pack s (length o))
-    pack-value = read-back lengthOf (pack s (length o)) v v′ is-eight (pack-i64 s (length o) (h .is-lent .bytes) (h .is-lent .short)) (h .is-value)
+    pub pack-value : valueIn v′ ≡ value lengthOf (pack m s (length o))
+    pack-value = read-back lengthOf (pack m s (length o)) v v′ is-eight (pack-i64 m s (length o) (h .is-lent .bytes) (h .is-lent .short)) (h .is-value)
 
     -- and the call leaves what a call of the packer leaves
-    pub pack-outcome : Outcome s o n (valueIn v′) after
+    pub pack-outcome : Outcome m s o n (valueIn v′) after
     pack-outcome =
         record {
           told = record { is-number = h .is-number ∙ eight v _ _ is-eight; is-value = pack-value };

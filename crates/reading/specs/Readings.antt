@@ -8,6 +8,7 @@ use lib.ListN.{length, take, drop}
 use Rattle.layout.specs.Answers.{Refusal, SheetTooLong, BadTrailer, ReadingFault, Refused}
 use Rattle.layout.specs.Tree.{ActionsOf}
 use Rattle.layout.specs.Read.{Text, edition1, deepest, Read, got, bad, readMain}
+use Rattle.layout.specs.Judge.{Mode}
 use Rattle.layout.specs.Cut.{Cut, main, uncut, cut}
 use Rattle.layout.specs.Pack.{pack, packCut, packRead}
 use Rattle.positions.specs.Scanned.{meant}
@@ -50,18 +51,18 @@ pub data SheetRead (s tab over : List ℕ) : Reading → Type 0 where
       → MainWhole (take (end - start) (drop start s)) w tab over → SheetRead s tab over (reading.Whole start end w)
   refused : {r : Reading} {x : Refusal} → said r ≡ some x → readSheet s ≡ some x → SheetRead s tab over r
 
--- ---- a sheet that is refused here is refused so by the packer, whatever its room
+-- ---- a sheet that is refused here is refused so by the packer, whatever its mode and room
 
-pub read-refused : (s : List ℕ) (r : Refusal) (room : ℕ) → readSheet s ≡ some r → pack s room ≡ Refused r
+pub read-refused : (m : Mode) (s : List ℕ) (r : Refusal) (room : ℕ) → readSheet s ≡ some r → pack m s room ≡ Refused r
 unfolding readSheet faultOfCut faultIn pack packCut packRead
-read-refused s r room e = of-cut (cut s) e
+read-refused m s r room e = of-cut (cut s) e
   where
-    of-read : (start : ℕ) (x : Read (ActionsOf Text ℕ)) → faultIn start x ≡ some r → packRead start x room ≡ Refused r
+    of-read : (start : ℕ) (x : Read (ActionsOf Text ℕ)) → faultIn start x ≡ some r → packRead m start x room ≡ Refused r
     of-read start (got t p) k =
         let z : _≡_ {A = ℕ} 0 1 = cc in
         absurd (omega arith)
     of-read start (bad f p) k = cc
 
-    of-cut : (c : Cut) → faultOfCut c ≡ some r → packCut c room ≡ Refused r
+    of-cut : (c : Cut) → faultOfCut c ≡ some r → packCut m c room ≡ Refused r
     of-cut (main start b) k = of-read start (readMain edition1 b deepest) k
     of-cut (uncut q) k = cc

@@ -1,8 +1,8 @@
 // Replays the oracle's answers: packs each sheet of a list, and holds number, value and every byte of the output to what the list
 // says. Writes a line for each number that was met, with its count, and then how many answers differ and the first that does.
 //
-// A record is the lengths of two patterns, the room, and the answer's number and value, in 21 bytes; then the pattern of the sheet
-// and that of the block.
+// A record is the lengths of two patterns, the room, the mode, and the answer's number and value, in 22 bytes; then the pattern of
+// the sheet and that of the block.
 ghost use mathlib.Core.Path.{_≡_};
 ghost use Prim.Native.Nat.{_≤_};
 ghost use lib.ListN.{length};
@@ -13,6 +13,7 @@ use fields::u32_at;
 use fields::u64_at;
 use io::print_decimal;
 use io::write_all;
+use judge::Mode;
 use libc::STDIN_FILENO;
 use libc::STDOUT_FILENO;
 use patterns::unroll_at;
@@ -52,54 +53,75 @@ fn tells(answer: Answer, number: u8, value: u64) -> bool {
 }
 
 // Whether packing into the first `room` bytes of the output gives this number, value and block, and leaves the bytes behind them.
-fn agrees(sheet: &[u8], room: usize, number: u8, value: u64, block: &[u8], out: &mut [u8]) -> bool {
+fn agrees(
+    sheet: &[u8],
+    mode: Mode,
+    room: usize,
+    number: u8,
+    value: u64,
+    block: &[u8],
+    out: &mut [u8],
+) -> bool {
     if out.len() < room {
         return false;
     }
     refresh(out);
-    if tells(pack::pack(sheet, &mut out[..room]), number, value) {
+    if tells(pack::pack(sheet, mode, &mut out[..room]), number, value) {
         return holds(out, block);
     }
     false
 }
 
-// Whether packing the sheet gives what the head of a record says, and this block. 64 bytes behind the room are looked at too.
+// Whether packing the sheet gives what the head of a record says, and this block. 64 bytes behind the room are looked at too. The
+// mode is 0, plain, or 1, strict.
 fn replay_sheet(head: &[u8], sheet: &[u8], block: &[u8], out: &mut [u8]) -> bool
-    requires { ⌜ 21 ≤ length (now head) ⌝ }
+    requires { ⌜ 22 ≤ length (now head) ⌝ }
 {
     let room = u32_at(head, 8) as usize;
-    let number = head[12];
-    let value = u64_at(head, 13);
+    let mode = head[12];
+    let number = head[13];
+    let value = u64_at(head, 14);
     if out.len() < room + 64 {
         return false;
     }
-    agrees(sheet, room, number, value, block, &mut out[..room + 64])
+    if 1 < mode {
+        return false;
+    }
+    agrees(
+        sheet,
+        Mode { strict: mode == 1 },
+        room,
+        number,
+        value,
+        block,
+        &mut out[..room + 64],
+    )
 }
 
 // Whether the record at the front of the input agrees.
 fn replay_one(input: &[u8], sheet: &mut [u8], block: &mut [u8], out: &mut [u8]) -> bool
-    requires { ⌜ 21 ≤ length (now input) ⌝ }
+    requires { ⌜ 22 ≤ length (now input) ⌝ }
 {
     let n = u32_at(input, 0) as usize;
     let m = u32_at(input, 4) as usize;
-    let long = unroll_at(input, 21, n, sheet);
-    let wide = unroll_at(input, 21 + n, m, block);
+    let long = unroll_at(input, 22, n, sheet);
+    let wide = unroll_at(input, 22 + n, m, block);
     replay_sheet(input, &sheet[..long], &block[..wide], out)
 }
 
 // The length of the record at the front of the input.
 fn record_length(input: &[u8]) -> usize
-    requires { ⌜ 21 ≤ length (now input) ⌝ }
-    ensures { λ r. ⌜ 21 ≤ r ⌝ }
+    requires { ⌜ 22 ≤ length (now input) ⌝ }
+    ensures { λ r. ⌜ 22 ≤ r ⌝ }
 {
-    21 + u32_at(input, 0) as usize + u32_at(input, 4) as usize
+    22 + u32_at(input, 0) as usize + u32_at(input, 4) as usize
 }
 
-// ---- counts: 0 to 11 are those of the numbers, 12 that of the answers that differ, 13 the first of these, counted from 1
+// ---- counts: 0 to 14 are those of the numbers, 15 that of the answers that differ, 16 the first of these, counted from 1
 
 // One more of a kind.
-fn bump(counts: &mut [usize; 14], kind: usize) {
-    if 14 <= kind {
+fn bump(counts: &mut [usize; 17], kind: usize) {
+    if 17 <= kind {
         return;
     }
     if counts[kind] < 4294967295 {
@@ -108,19 +130,19 @@ fn bump(counts: &mut [usize; 14], kind: usize) {
 }
 
 // Keeps the first answer that differs.
-fn note_first(counts: &mut [usize; 14], record: usize) {
-    if counts[13] == 0 {
-        counts[13] = record;
+fn note_first(counts: &mut [usize; 17], record: usize) {
+    if counts[16] == 0 {
+        counts[16] = record;
     }
 }
 
 // Counts an answer by its number, and one that differs.
-fn count(counts: &mut [usize; 14], number: u8, agree: bool, record: usize) {
+fn count(counts: &mut [usize; 17], number: u8, agree: bool, record: usize) {
     bump(counts, number as usize);
     if agree {
         return;
     }
-    bump(counts, 12);
+    bump(counts, 15);
     note_first(counts, record);
 }
 
@@ -145,13 +167,13 @@ fn write_differ(n: usize, first: usize) {
 }
 
 // A line for each number that was met, and one for the answers that differ.
-fn write_counts(counts: &[usize; 14]) {
+fn write_counts(counts: &[usize; 17]) {
     let mut i = 0;
-    while i < 12 {
+    while i < 15 {
         write_count(i, counts[i]);
         i += 1;
     }
-    write_differ(counts[12], counts[13]);
+    write_differ(counts[15], counts[16]);
 }
 
 // ---- the list
@@ -168,13 +190,13 @@ fn replay_all(
     sheet: &mut [u8],
     block: &mut [u8],
     out: &mut [u8],
-    counts: &mut [usize; 14],
+    counts: &mut [usize; 17],
 ) {
     let mut p = 0;
     let mut record = 0;
-    while p + 21 <= input.len() {
+    while p + 22 <= input.len() {
         let agree = replay_one(&input[p..], sheet, block, out);
-        let number = input[p + 12];
+        let number = input[p + 13];
         record += 1;
         count(counts, number, agree, record);
         let n = record_length(&input[p..]);
@@ -186,7 +208,7 @@ fn replay_all(
 }
 
 // The three spaces are not in `main`, which has one for the input.
-fn replay_list(input: &[u8], counts: &mut [usize; 14]) {
+fn replay_list(input: &[u8], counts: &mut [usize; 17]) {
     let mut sheet = space();
     let mut block = space();
     let mut out = space();
@@ -195,7 +217,7 @@ fn replay_list(input: &[u8], counts: &mut [usize; 14]) {
 
 fn main() {
     let mut input = space();
-    let mut counts = [0; 14];
+    let mut counts = [0; 17];
     let n = io::read_full(STDIN_FILENO, &mut input);
     replay_list(&input[..n], &mut counts);
     write_counts(&counts);

@@ -106,8 +106,55 @@ const BACKWARD: &[Shape] = &[
     },
 ];
 
+/// One branch that comes to an edge, and one that has no record, in both orders.
+const UNRECORDED: &[Shape] = &[
+    |n| {
+        let main = Body::new().label(0, n + 2).action(branch(0x9D, 9));
+        main.action(jump(0)).times(n, pop())
+    },
+    |n| {
+        let main = Body::new().label(0, n + 1).action(branch(0x9D, 0));
+        main.times(n, pop()).action(jump(9))
+    },
+    |n| {
+        let main = Body::new().label(0, 0).action(jump(9));
+        main.times(n, pop()).action(jump(0))
+    },
+    |n| {
+        let main = Body::new().label(0, 0).times(n, pop());
+        main.action(jump(0)).action(jump(9))
+    },
+    // both inside a body, with an entry past the count
+    |n| {
+        let inner = Body::new().label(9, 3).action(jump(9)).action(jump(0));
+        Body::new()
+            .label(0, n + 1)
+            .action(with(&inner))
+            .times(n, pop())
+    },
+    |n| {
+        let inner = Body::new().label(9, 3).action(jump(0)).action(jump(9));
+        Body::new()
+            .label(0, n + 1)
+            .action(with(&inner))
+            .times(n, pop())
+    },
+    // one inside a body, the other behind it
+    |n| {
+        let inner = Body::new().action(branch(0x9D, 9));
+        let main = Body::new().label(0, n + 2).action(with(&inner));
+        main.action(jump(0)).times(n, pop())
+    },
+    |n| {
+        let inner = Body::new().action(jump(0));
+        let function = define_function(b"f", &[], &inner);
+        let main = Body::new().label(0, n + 2).action(function);
+        main.action(jump(9)).times(n, pop())
+    },
+];
+
 pub fn distances(give: &mut dyn FnMut(Vec<u8>)) {
-    for (shapes, edge) in [(FORWARD, 32_767), (BACKWARD, 32_768)] {
+    for (shapes, edge) in [(FORWARD, 32_767), (BACKWARD, 32_768), (UNRECORDED, 32_767)] {
         for shape in shapes {
             // What a shape adds to its Pops is under 28 bytes.
             for n in edge - 28..=edge + 2 {

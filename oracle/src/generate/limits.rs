@@ -15,6 +15,7 @@ pub fn limits(give: &mut dyn FnMut(Vec<u8>)) {
     counts(give);
     depths(give);
     lengths(give);
+    unrecorded(give);
 }
 
 /// An action whose payload has this length.
@@ -70,9 +71,9 @@ fn payloads(give: &mut dyn FnMut(Body)) {
 }
 
 /// A main body in which a body stands at one of the places where one can.
-type Owner = fn(&Body) -> Vec<u8>;
+pub type Owner = fn(&Body) -> Vec<u8>;
 
-const OWNERS: &[Owner] = &[
+pub const OWNERS: &[Owner] = &[
     with,
     |body| define_function(b"f", &[b"x", b"y"], body),
     |body| define_function_2(b"", &[(1, b"x")], 2, 0x1FF, body),
@@ -250,6 +251,21 @@ fn lengths(give: &mut dyn FnMut(Vec<u8>)) {
     give(vec![0; LONGEST_SHEET]);
     give(vec![0; LONGEST_SHEET + 1]);
     give(vec![0; 4 * LONGEST_SHEET]);
+}
+
+/// A branch that has no record, before and behind the longest payload, one that is too long and a body that is; and far behind.
+fn unrecorded(give: &mut dyn FnMut(Vec<u8>)) {
+    let longest = set_target(&text(65_534));
+    let too_long = set_target(&text(65_535));
+    let in_body = with(&Body::new().action(longest.clone()));
+    for action in [longest.clone(), too_long, in_body] {
+        let before = Body::new().action(jump(9)).action(action.clone());
+        let behind = Body::new().action(action).action(jump(9));
+        give(sheet(&[], &before.bytes()));
+        give(sheet(&[], &behind.bytes()));
+    }
+    let far_behind = Body::new().times(15, longest).action(jump(9));
+    give(sheet(&[], &far_behind.bytes()));
 }
 
 fn text(length: usize) -> Vec<u8> {

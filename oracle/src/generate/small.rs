@@ -1,12 +1,15 @@
 //! Families of small sheets, each without a gap.
 
-use super::write::{Body, jump, pop, sheet, with};
+use super::limits::OWNERS;
+use super::write::{Body, branch, jump, pop, sheet, with};
+use std::ops::RangeInclusive;
 
 pub fn small(give: &mut dyn FnMut(Vec<u8>)) {
     every_code(give);
     every_trailer(give);
     every_label(give);
     every_body(give);
+    every_record(give);
 }
 
 /// Every opcode, push kind, Try shape, flag byte and flags word, with too few, enough and too many zero bytes after it.
@@ -93,4 +96,24 @@ fn every_body(give: &mut dyn FnMut(Vec<u8>)) {
             .flat_map(|run| bytes.map(|byte| [&run[..], &[byte]].concat()))
             .collect();
     }
+}
+
+/// Two labels in a main body and in a body inside, of each kind, with branches in both: recorded in both, in one, right behind
+/// a branch, and nowhere.
+fn every_record(give: &mut dyn FnMut(Vec<u8>)) {
+    for owner in OWNERS {
+        for (inner, other_inner) in pairs(0..=3, &[2, 3]) {
+            for (outer, other_outer) in pairs(0..=4, &[1, 3, 4]) {
+                let within = Body::new().label(0, inner).label(1, other_inner);
+                let within = within.action(branch(0x9D, 0)).action(jump(1));
+                let main = Body::new().label(0, outer).label(1, other_outer);
+                let main = main.action(jump(0)).action(owner(&within));
+                give(sheet(&[], &main.action(branch(0x9D, 1)).bytes()));
+            }
+        }
+    }
+}
+
+fn pairs(firsts: RangeInclusive<u16>, seconds: &[u16]) -> impl Iterator<Item = (u16, u16)> {
+    firsts.flat_map(|first| seconds.iter().map(move |second| (first, *second)))
 }

@@ -1,6 +1,8 @@
 //! Sheets, and packing into an output whose every byte is looked at.
 #![allow(dead_code)]
-use merinovault::{Refusal, pack};
+use merinovault::{Mode, Refusal, pack};
+
+pub const MODES: [Mode; 2] = [Mode::PLAIN, Mode::STRICT];
 
 pub const POP: &[u8] = &[0x17];
 pub const PLAY: &[u8] = &[0x06];
@@ -52,8 +54,19 @@ pub fn set_target(letters: usize) -> Vec<u8> {
     [&[0x8B][..], &string(letters)].concat()
 }
 
-/// A main body and its block: P1 to P12 of document 01.
-pub fn sums() -> Vec<(Vec<u8>, Vec<u8>)> {
+/// Jump to label 0, which stands past the body's end and so has no record: P7 of document 01.
+pub fn p7() -> Vec<u8> {
+    body(&[(0, 2)], &[&jump(0)])
+}
+
+/// A main body and its block: those of P1 to P12 of document 01 that the mode takes. Strict mode takes all but P7.
+pub fn sums(mode: Mode) -> Vec<(Vec<u8>, Vec<u8>)> {
+    let mut sums = all_sums();
+    sums.retain(|(main, _)| !mode.strict || *main != p7());
+    sums
+}
+
+fn all_sums() -> Vec<(Vec<u8>, Vec<u8>)> {
     let push = |value: &[u8]| [&[0x96, 1, 0], value].concat();
     let one = |action: &[u8]| body(&[], &[action]);
     let function2 = [
@@ -76,7 +89,7 @@ pub fn sums() -> Vec<(Vec<u8>, Vec<u8>)> {
             body(&[(0, 0)], &[&jump(0)]),
             vec![0x99, 2, 0, 0xFB, 0xFF, 0],
         ),
-        (body(&[(0, 2)], &[&jump(0)]), vec![0x99, 2, 0, 0, 0, 0]),
+        (p7(), vec![0x99, 2, 0, 0, 0, 0]),
         (one(&with(&one(POP))), vec![0x94, 2, 0, 1, 0, 0x17, 0]),
         (
             one(&function2),
@@ -96,11 +109,11 @@ pub fn sums() -> Vec<(Vec<u8>, Vec<u8>)> {
 
 /// Packs into an output of this room, twice, over two fills. Fails if a byte changed that must keep its value: past a Done
 /// length, on a refusal any, and around the output.
-pub fn packed(sheet: &[u8], room: usize) -> Result<Vec<u8>, Refusal> {
+pub fn packed(sheet: &[u8], mode: Mode, room: usize) -> Result<Vec<u8>, Refusal> {
     const AROUND: usize = 64;
     let once = |fill: u8| {
         let mut space = vec![fill; AROUND + room + AROUND];
-        let answer = pack(sheet, &mut space[AROUND..AROUND + room]);
+        let answer = pack(sheet, mode, &mut space[AROUND..AROUND + room]);
         let written = answer.unwrap_or(0);
         assert!(written <= room, "a Done length within the room");
         let block = space[AROUND..AROUND + written].to_vec();

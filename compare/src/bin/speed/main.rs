@@ -1,8 +1,10 @@
-//! Ratios in one run: the packer's C entry against the Rust's reading and encoding, and against its encoding alone.
+//! Ratios in one run: the packer's C entry against the Rust's reading and encoding, and against its encoding alone; and strict
+//! mode against plain.
 //! No buffer is cleared between rounds; the Rust grows a new Vec each time, as it does in service.
 
 mod sheets;
 
+use merinovault::{Mode, pack};
 use std::hint::black_box;
 use std::time::Instant;
 
@@ -35,16 +37,27 @@ impl Timer {
     }
 }
 
-/// Seconds of: our entry, the Rust's reading and encoding, its encoding alone; and the block's length.
-fn time(sheet: &[u8], rounds: u32) -> (f64, f64, f64, usize) {
+/// Seconds of a call, and the block's length.
+struct Times {
+    ours: f64,
+    /// None where strict mode refuses the sheet.
+    strict: Option<f64>,
+    both: f64,
+    encoding: f64,
+    block: usize,
+}
+
+/// Times our entry in both modes, the Rust's reading and encoding, and its encoding alone.
+fn time(sheet: &[u8], rounds: u32) -> Times {
     let mut out = vec![0; 4 * sheet.len() + 64];
     let whole = oracle::sheet::read(sheet, b'y').expect("a sheet that reads");
     let block = oracle::pack::encode(&whole).expect("a block");
-    let n = merinovault::pack(sheet, &mut out).expect("a block");
+    let n = pack(sheet, Mode::PLAIN, &mut out).expect("a block");
     assert_eq!(&out[..n], &block[..], "the two blocks differ");
+    let taken = oracle::pack::pack(sheet, oracle::answer::Mode::STRICT, out.len()).is_ok();
 
-    let mut ours = || {
-        black_box(merinovault::pack(black_box(sheet), &mut out).unwrap());
+    let mut ours = |mode| {
+        black_box(pack(black_box(sheet), mode, &mut out).unwrap());
     };
     let mut both = || {
         let whole = oracle::sheet::read(black_box(sheet), b'y').unwrap();
@@ -54,21 +67,32 @@ fn time(sheet: &[u8], rounds: u32) -> (f64, f64, f64, usize) {
         black_box(oracle::pack::encode(black_box(&whole)).unwrap());
     };
     let mut timers = [
-        Timer::new(&mut ours),
+        Timer::new(&mut || ours(Mode::PLAIN)),
         Timer::new(&mut both),
         Timer::new(&mut encoding),
     ];
+    let mut strict = taken.then(|| Timer::new(&mut || ours(Mode::STRICT)));
     for _ in 0..rounds {
-        timers[0].round(&mut ours);
+        timers[0].round(&mut || ours(Mode::PLAIN));
+        if let Some(timer) = &mut strict {
+            timer.round(&mut || ours(Mode::STRICT));
+        }
         timers[1].round(&mut both);
         timers[2].round(&mut encoding);
     }
-    (timers[0].least, timers[1].least, timers[2].least, n)
+    Times {
+        ours: timers[0].least,
+        strict: strict.map(|timer| timer.least),
+        both: timers[1].least,
+        encoding: timers[2].least,
+        block: n,
+    }
 }
 
 /// The cases, by name.
-const CASES: [(&str, fn() -> Vec<u8>); 6] = [
+const CASES: [(&str, fn() -> Vec<u8>); 7] = [
     ("screen", || sheets::screen(50)),
+    ("recorded", || sheets::screen(500)),
     ("large", || sheets::screen(2_570)),
     ("tiny", sheets::tiny),
     ("strings", sheets::strings),
@@ -98,7 +122,7 @@ fn run(case: &str, side: &str, times: u32) {
     let whole = oracle::sheet::read(sheet, b'y').expect("a sheet that reads");
     for _ in 0..times {
         match side {
-            "ours" => drop(black_box(merinovault::pack(black_box(sheet), &mut out))),
+            "ours" => drop(black_box(pack(black_box(sheet), Mode::PLAIN, &mut out))),
             "both" => {
                 let whole = oracle::sheet::read(black_box(sheet), b'y').unwrap();
                 drop(black_box(oracle::pack::encode(&whole)));
@@ -110,29 +134,37 @@ fn run(case: &str, side: &str, times: u32) {
 }
 
 fn ratios(rounds: u32) {
-    println!("how many times as fast as the Rust's (i) reading and encoding, (ii) encoding alone");
+    println!("how many times as fast as the Rust's (i) reading and encoding, (ii) encoding alone;");
+    println!("and strict mode's time against plain, unless it refuses the sheet");
     println!(
-        "{:<10} {:>9} {:>9} {:>7} {:>7}",
-        "case", "sheet", "block", "(i)", "(ii)"
+        "{:<10} {:>9} {:>9} {:>7} {:>7} {:>7}",
+        "case", "sheet", "block", "(i)", "(ii)", "strict"
     );
     for (name, made) in CASES {
         let sheet = made();
-        let (ours, both, encoding, n) = time(&sheet, rounds);
+        let times = time(&sheet, rounds);
+        let strict = times
+            .strict
+            .map(|strict| format!("{:.2}", strict / times.ours));
         println!(
-            "{:<10} {:>9} {:>9} {:>7.2} {:>7.2}",
+            "{:<10} {:>9} {:>9} {:>7.2} {:>7.2} {:>7}",
             name,
             sheet.len(),
-            n,
-            both / ours,
-            encoding / ours
+            times.block,
+            times.both / times.ours,
+            times.encoding / times.ours,
+            strict.as_deref().unwrap_or("refused")
         );
     }
     println!("\ntime for each byte of the block, against the first");
     let mut first = None;
     for handlers in [70, 140, 450, 1_400, 4_500, 8_000] {
-        let sheet = sheets::screen(handlers);
-        let (ours, _, _, n) = time(&sheet, rounds.min(5));
-        let each = ours / n as f64;
-        println!("{:>9} {:>7.2}", n, each / *first.get_or_insert(each));
+        let times = time(&sheets::screen(handlers), rounds.min(5));
+        let each = times.ours / times.block as f64;
+        println!(
+            "{:>9} {:>7.2}",
+            times.block,
+            each / *first.get_or_insert(each)
+        );
     }
 }

@@ -62,7 +62,8 @@ fn branch(opcode: u8, label: usize) -> Vec<u8> {
 }
 
 /// A handler of a keying desk's screen: a function that tests what was typed and sets members, with a branch either way.
-/// Its labels are two numbers of its own; from the 512th on none are left, and it has If to a label that is not met.
+/// Its labels are two numbers of its own; from the 512th on none are left, and it has If to a label that is not met, which strict
+/// mode refuses.
 fn handler(n: usize) -> Vec<u8> {
     let label = (n * 2).min(1_022);
     let labels = [(label, 12), (label + 1, 15)];

@@ -44,6 +44,9 @@ enum-known-a-10 c = search needs
 enum-known-a-11 : tie.Need-enum-known-a-11
 enum-known-a-11 c = search needs
 
+enum-known-a-12 : tie.Need-enum-known-a-12
+enum-known-a-12 c = search needs
+
 returns : tie.Need-returns
 unfolding value number valueBy pick
 returns c = rw (c .before .a .given .1) (natural-bits _ (omega arith), refl)
@@ -92,6 +95,10 @@ returns-12 : tie.Need-returns-12
 unfolding value number valueBy pick
 returns-12 c = rw (c .before .a11 .given .1) (natural-bits _ (omega arith), refl)
 
+returns-13 : tie.Need-returns-13
+unfolding value number valueBy pick
+returns-13 c = rw (c .before .a12 .given .1) (natural-bits _ (omega arith), refl)
+
 pub value-of-spec : {M : Type 1} → statement M
 value-of-spec =
     tie.close
@@ -108,6 +115,7 @@ value-of-spec =
     enum-known-a-9
     enum-known-a-10
     enum-known-a-11
+    enum-known-a-12
     returns
     returns-2
     returns-3
@@ -119,4 +127,5 @@ value-of-spec =
     returns-9
     returns-10
     returns-11
-    returns-12)
+    returns-12
+    returns-13)

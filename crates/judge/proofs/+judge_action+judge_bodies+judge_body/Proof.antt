@@ -1,6 +1,6 @@
 use Rattle.judge.proofs.Actions as laws
 use Rattle.judge.proofs.Loops as loops
-use Rattle.judge.specs.Judging.{Judging}
+use Rattle.judge.specs.Judging.{modeOf, Judging}
 use Rattle.laws.specs.Resolved.{bodyLength, bodyEvents}
 use Rattle.measure.specs.Walk.{measured, inBodies}
 use Rattle.layout.specs.Read.{edition1, placed, readBody, repeat}
@@ -82,14 +82,14 @@ judge-action-calls t = (scan-payload-reads.Asked, scan-payload-reads.Learnt, jud
 judge-action-shared-slice-read-op : (t : ℕ) → judge-action-lts.Need-shared-slice-read-op (judge-action-calls t) (judge-action-at t) judge-action.Post
 judge-action-shared-slice-read-op t c = laws.opcode-inside _ _ _ _ _ (c .before .before .before .pre .1)
 
-judge-action-add-t20 : (t : ℕ) → judge-action-lts.Need-add-t20 (judge-action-calls t) (judge-action-at t) judge-action.Post
-judge-action-add-t20 t c = omega (arith, laws.opcode-inside _ _ _ _ _ (c .before .before .before .before .pre .1), c .before .before .before .before .pre .1 .roomy .room)
+judge-action-add-next : (t : ℕ) → judge-action-lts.Need-add-next (judge-action-calls t) (judge-action-at t) judge-action.Post
+judge-action-add-next t c = omega (arith, laws.opcode-inside _ _ _ _ _ (c .before .before .before .before .pre .1), c .before .before .before .before .pre .1 .roomy .room)
 
-judge-action-add-t21 : (t : ℕ) → judge-action-lts.Need-add-t21 (judge-action-calls t) (judge-action-at t) judge-action.Post
-judge-action-add-t21 t c = omega (arith, c .before .before .before .before .before .pre .1 .roomy .room)
+judge-action-add-after : (t : ℕ) → judge-action-lts.Need-add-after (judge-action-calls t) (judge-action-at t) judge-action.Post
+judge-action-add-after t c = omega (arith, c .before .before .before .before .before .pre .1 .roomy .room)
 
 judge-action-returns : (t : ℕ) → judge-action-lts.Need-returns (judge-action-calls t) (judge-action-at t) judge-action.Post
-judge-action-returns t c = laws.small-near _ _ _ _ _ (c .before .before .before .before .before .pre .1) (c .before .if1 .taken)
+judge-action-returns t c = laws.small-passed _ _ _ _ _ (c .before .before .before .before .before .pre .1) _ (c .before .if1 .taken)
 
 judge-action-slice-aggregate-scan-payload :
     (t : ℕ) → judge-action-lts.Need-slice-aggregate-scan-payload (judge-action-calls t) (judge-action-at t) judge-action.Post
@@ -107,8 +107,11 @@ judge-action-enum-known-p-2 t c = search needs
 judge-action-enum-known-p-3 : (t : ℕ) → judge-action-lts.Need-enum-known-p-3 (judge-action-calls t) (judge-action-at t) judge-action.Post
 judge-action-enum-known-p-3 t c = search needs
 
+judge-action-add-operand : (t : ℕ) → judge-action-lts.Need-add-operand (judge-action-calls t) (judge-action-at t) judge-action.Post
+judge-action-add-operand t c = omega (arith, c .before .before .before .before .before .before .before .before .before .before .before .pre .1 .roomy .room)
+
 judge-action-judge-branch-requires : (t : ℕ) → judge-action-lts.Need-judge-branch-requires (judge-action-calls t) (judge-action-at t) judge-action.Post
-judge-action-judge-branch-requires t c κs = let q = laws.branch-asks _ _ _ _ _ (c .before .before .before .before .before .before .before .before .before .before .pre .1) _ _ _ (c .before .before .before .before .scan-payload .ensures) _ _ _ (c .before .p3 .given .1) in (c .before .before .before .before .before .before .before .before .before .before .pre .1 .table, q .0, q .1)
+judge-action-judge-branch-requires t c κs = let q = laws.branch-asks _ _ _ _ _ (c .before .before .before .before .before .before .before .before .before .before .before .pre .1) _ _ _ (c .before .before .before .before .before .scan-payload .ensures) _ _ _ (c .before .before .p3 .given .1) in (c .before .before .before .before .before .before .before .before .before .before .before .pre .1 .table, q .0, q .1)
 
 judge-action-enum-known-p-4 : (t : ℕ) → judge-action-lts.Need-enum-known-p-4 (judge-action-calls t) (judge-action-at t) judge-action.Post
 judge-action-enum-known-p-4 t c = search needs
@@ -120,31 +123,31 @@ judge-action-returns-2 : (t : ℕ) → judge-action-lts.Need-returns-2 (judge-ac
 judge-action-returns-2 t c = laws.never-stops _ _ _ _ _ (c .before .before .before .before .before .before .before .before .before .before .pre .1) _ _ _ (c .before .before .before .before .scan-payload .ensures) _ _ (c .before .p .given .1)
 
 judge-action-returns-3 : (t : ℕ) → judge-action-lts.Need-returns-3 (judge-action-calls t) (judge-action-at t) judge-action.Post
-judge-action-returns-3 t c = laws.flat-near _ _ _ _ _ (c .before .before .before .before .before .before .before .before .before .before .pre .1) _ _ _ (c .before .before .before .before .scan-payload .ensures) _ _ (c .before .p2 .given .1)
+judge-action-returns-3 t c = laws.flat-passed _ _ _ _ _ (c .before .before .before .before .before .before .before .before .before .before .pre .1) _ _ _ (c .before .before .before .before .scan-payload .ensures) _ _ _ (c .before .p2 .given .1)
 
 judge-action-returns-4 : (t : ℕ) → judge-action-lts.Need-returns-4 (judge-action-calls t) (judge-action-at t) judge-action.Post
-judge-action-returns-4 t c = laws.branch-found _ _ _ _ _ (c .before .before .before .before .before .before .before .before .before .before .before .pre .1) _ _ _ (c .before .before .before .before .before .scan-payload .ensures) _ _ _ _ (c .before .before .p3 .given .1) (c .judge-branch .ensures)
+judge-action-returns-4 t c = laws.branch-found _ _ _ _ _ (c .before .before .before .before .before .before .before .before .before .before .before .before .pre .1) _ _ _ (c .before .before .before .before .before .before .scan-payload .ensures) _ _ _ _ _ (c .before .before .before .p3 .given .1) (c .judge-branch .ensures)
 
 judge-action-returns-5 : (t : ℕ) → judge-action-lts.Need-returns-5 (judge-action-calls t) (judge-action-at t) judge-action.Post
-judge-action-returns-5 t c = laws.bodies-found _ _ _ _ _ (c .before .before .before .before .before .before .before .before .before .before .before .pre .1) _ _ _ (c .before .before .before .before .before .scan-payload .ensures) _ _ _ _ (c .before .before .p4 .given .1) (c .judge-bodies .ensures)
+judge-action-returns-5 t c = laws.bodies-found _ _ _ _ _ (c .before .before .before .before .before .before .before .before .before .before .before .pre .1) _ _ _ (c .before .before .before .before .before .scan-payload .ensures) _ _ _ _ _ (c .before .before .p4 .given .1) (c .judge-bodies .ensures)
 
 abbrev judge-bodies-Inv-loop : judge-bodies-lts.InvT-loop
-judge-bodies-Inv-loop b at depth n tab left₀ p₀ w₀ left p w = laws.Inner b depth tab (λ r. Judging tab (measured (total bodyLength) inBodies (w₀ .0) (repeat (readBody edition1 b depth) n (placed at))) r) left p w
+judge-bodies-Inv-loop b at depth n mode tab left₀ p₀ w₀ left p w = laws.Inner b depth (modeOf mode) tab (λ r. Judging (modeOf mode) tab (measured (total bodyLength) inBodies (w₀ .0) (repeat (readBody edition1 b depth) n (placed at))) r) left p w
 
 abbrev judge-bodies-μ-loop : judge-bodies-lts.MeasureT-loop
-judge-bodies-μ-loop b at depth n tab left₀ p₀ w₀ left p w = left
+judge-bodies-μ-loop b at depth n mode tab left₀ p₀ w₀ left p w = left
 
 judge-bodies-loop-holds : (t : ℕ) → judge-bodies-lts.Need-loop-holds (judge-bodies-calls t) (judge-bodies-at t) judge-bodies.Post judge-bodies-Inv-loop judge-bodies-μ-loop
-judge-bodies-loop-holds t c = laws.bodies-start _ _ _ _ _ _ (c .before .before .pre .1)
+judge-bodies-loop-holds t c = laws.bodies-start _ _ _ _ _ _ _ (c .before .before .pre .1)
 
 judge-bodies-judge-body-requires : (t : ℕ) → judge-bodies-lts.Need-judge-body-requires (judge-bodies-calls t) (judge-bodies-at t) judge-bodies.Post judge-bodies-Inv-loop judge-bodies-μ-loop
-judge-bodies-judge-body-requires t c κs = (omega arith, loops.loop-one _ _ _ _ _ _ _ _ _ _ (c .before .loop .inv) (c .loop-test .taken))
+judge-bodies-judge-body-requires t c κs = (omega arith, loops.loop-one _ _ _ _ _ _ _ _ _ _ _ (c .before .loop .inv) (c .loop-test .taken))
 
-judge-bodies-enum-known-bits : (t : ℕ) → judge-bodies-lts.Need-enum-known-bits (judge-bodies-calls t) (judge-bodies-at t) judge-bodies.Post judge-bodies-Inv-loop judge-bodies-μ-loop
-judge-bodies-enum-known-bits t c = search needs
+judge-bodies-enum-known-bad : (t : ℕ) → judge-bodies-lts.Need-enum-known-bad (judge-bodies-calls t) (judge-bodies-at t) judge-bodies.Post judge-bodies-Inv-loop judge-bodies-μ-loop
+judge-bodies-enum-known-bad t c = search needs
 
 judge-bodies-returns : (t : ℕ) → judge-bodies-lts.Need-returns (judge-bodies-calls t) (judge-bodies-at t) judge-bodies.Post judge-bodies-Inv-loop judge-bodies-μ-loop
-judge-bodies-returns t c = loops.loop-far _ _ _ _ _ _ _ _ _ _ (c .before .before .before .before .before .loop .inv) (c .before .before .before .before .loop-test .taken) _ (c .before .before .before .judge-body .ensures) _ (c .before .bits .given .1)
+judge-bodies-returns t c = loops.loop-bad _ _ _ _ _ _ _ _ _ _ _ (c .before .before .before .before .before .loop .inv) (c .before .before .before .before .loop-test .taken) _ (c .before .before .before .judge-body .ensures) _ (c .before .bad .given .1)
 
 judge-bodies-enum-known-q : (t : ℕ) → judge-bodies-lts.Need-enum-known-q (judge-bodies-calls t) (judge-bodies-at t) judge-bodies.Post judge-bodies-Inv-loop judge-bodies-μ-loop
 judge-bodies-enum-known-q t c = search needs
@@ -156,16 +159,16 @@ judge-bodies-loop-less : (t : ℕ) → judge-bodies-lts.Need-loop-less (judge-bo
 judge-bodies-loop-less t c = search needs
 
 judge-bodies-loop-again : (t : ℕ) → judge-bodies-lts.Need-loop-again (judge-bodies-calls t) (judge-bodies-at t) judge-bodies.Post judge-bodies-Inv-loop judge-bodies-μ-loop
-judge-bodies-loop-again t c = loops.loop-more _ _ _ _ _ _ _ _ _ _ (c .before .before .before .before .before .loop .inv) (c .before .before .before .before .loop-test .taken) _ (c .before .before .before .judge-body .ensures) _ _ (c .before .q .given .1)
+judge-bodies-loop-again t c = loops.loop-more _ _ _ _ _ _ _ _ _ _ _ (c .before .before .before .before .before .loop .inv) (c .before .before .before .before .loop-test .taken) _ (c .before .before .before .judge-body .ensures) _ _ (c .before .q .given .1)
 
 judge-bodies-returns-2 : (t : ℕ) → judge-bodies-lts.Need-returns-2 (judge-bodies-calls t) (judge-bodies-at t) judge-bodies.Post judge-bodies-Inv-loop judge-bodies-μ-loop
-judge-bodies-returns-2 t c = loops.loop-end _ _ _ _ _ _ _ _ _ _ (c .before .loop .inv) (c .loop-test .left)
+judge-bodies-returns-2 t c = loops.loop-end _ _ _ _ _ _ _ _ _ _ _ (c .before .loop .inv) (c .loop-test .left)
 
 abbrev judge-body-Inv-loop : judge-body-lts.InvT-loop
-judge-body-Inv-loop b at depth tab front left₀ p₀ w₀ left p w = laws.Acting b (depth - 1) tab (λ r. Judging tab (measured bodyLength bodyEvents (w₀ .0) (readBody edition1 b depth (placed at))) r) left p w
+judge-body-Inv-loop b at depth mode tab front left₀ p₀ w₀ left p w = laws.Acting b (depth - 1) (modeOf mode) tab (λ r. Judging (modeOf mode) tab (measured bodyLength bodyEvents (w₀ .0) (readBody edition1 b depth (placed at))) r) left p w
 
 abbrev judge-body-μ-loop : judge-body-lts.MeasureT-loop
-judge-body-μ-loop b at depth tab front left₀ p₀ w₀ left p w = left
+judge-body-μ-loop b at depth mode tab front left₀ p₀ w₀ left p w = left
 
 judge-body-add-front : (t : ℕ) → judge-body-lts.Need-add-front (judge-body-calls t) (judge-body-at t) judge-body.Post judge-body-Inv-loop judge-body-μ-loop
 judge-body-add-front t c = omega (arith, laws.front-inside _ _ _ _ _ (c .before .before .pre .1), c .before .before .pre .1 .roomy .room)
@@ -186,19 +189,19 @@ judge-body-add-p : (t : ℕ) → judge-body-lts.Need-add-p (judge-body-calls t) 
 judge-body-add-p t c = omega (arith, laws.front-inside _ _ _ _ _ (c .before .before .before .before .pre .1), c .before .u16-at .ensures .0, c .before .before .before .before .pre .1 .roomy .room)
 
 judge-body-loop-holds : (t : ℕ) → judge-body-lts.Need-loop-holds (judge-body-calls t) (judge-body-at t) judge-body.Post judge-body-Inv-loop judge-body-μ-loop
-judge-body-loop-holds t c = laws.body-start _ _ _ _ _ (c .before .before .before .before .pre .1) _ _ _ _ (c .before .u16-at .ensures .0) refl (c .u16-at2 .ensures .0) refl
+judge-body-loop-holds t c = laws.body-start _ _ _ _ _ (c .before .before .before .before .pre .1) _ _ _ _ _ (c .before .u16-at .ensures .0) refl (c .u16-at2 .ensures .0) refl
 
 judge-body-sub-judge-action : (t : ℕ) → judge-body-lts.Need-sub-judge-action (judge-body-calls t) (judge-body-at t) judge-body.Post judge-body-Inv-loop judge-body-μ-loop
 judge-body-sub-judge-action t c = laws.is-deep _ _ _ _ _ (c .before .before .before .before .before .before .pre .1)
 
 judge-body-judge-action-requires : (t : ℕ) → judge-body-lts.Need-judge-action-requires (judge-body-calls t) (judge-body-at t) judge-body.Post judge-body-Inv-loop judge-body-μ-loop
-judge-body-judge-action-requires t c κs = (omega (arith, laws.is-deep _ _ _ _ _ (c .before .before .before .before .before .before .pre .1), c .before .before .before .before .before .before .pre .0), loops.loop-one _ _ _ _ _ _ _ _ _ _ (c .before .loop .inv) (c .loop-test .taken))
+judge-body-judge-action-requires t c κs = (omega (arith, laws.is-deep _ _ _ _ _ (c .before .before .before .before .before .before .pre .1), c .before .before .before .before .before .before .pre .0), loops.loop-one _ _ _ _ _ _ _ _ _ _ _ (c .before .loop .inv) (c .loop-test .taken))
 
-judge-body-enum-known-bits : (t : ℕ) → judge-body-lts.Need-enum-known-bits (judge-body-calls t) (judge-body-at t) judge-body.Post judge-body-Inv-loop judge-body-μ-loop
-judge-body-enum-known-bits t c = search needs
+judge-body-enum-known-bad : (t : ℕ) → judge-body-lts.Need-enum-known-bad (judge-body-calls t) (judge-body-at t) judge-body.Post judge-body-Inv-loop judge-body-μ-loop
+judge-body-enum-known-bad t c = search needs
 
 judge-body-returns : (t : ℕ) → judge-body-lts.Need-returns (judge-body-calls t) (judge-body-at t) judge-body.Post judge-body-Inv-loop judge-body-μ-loop
-judge-body-returns t c = loops.loop-far _ _ _ _ _ _ _ _ _ _ (c .before .before .before .before .before .loop .inv) (c .before .before .before .before .loop-test .taken) _ (c .before .before .before .judge-action .ensures) _ (c .before .bits .given .1)
+judge-body-returns t c = loops.loop-bad _ _ _ _ _ _ _ _ _ _ _ (c .before .before .before .before .before .loop .inv) (c .before .before .before .before .loop-test .taken) _ (c .before .before .before .judge-action .ensures) _ (c .before .bad .given .1)
 
 judge-body-enum-known-q : (t : ℕ) → judge-body-lts.Need-enum-known-q (judge-body-calls t) (judge-body-at t) judge-body.Post judge-body-Inv-loop judge-body-μ-loop
 judge-body-enum-known-q t c = search needs
@@ -210,24 +213,25 @@ judge-body-loop-less : (t : ℕ) → judge-body-lts.Need-loop-less (judge-body-c
 judge-body-loop-less t c = search needs
 
 judge-body-loop-again : (t : ℕ) → judge-body-lts.Need-loop-again (judge-body-calls t) (judge-body-at t) judge-body.Post judge-body-Inv-loop judge-body-μ-loop
-judge-body-loop-again t c = loops.loop-more _ _ _ _ _ _ _ _ _ _ (c .before .before .before .before .before .loop .inv) (c .before .before .before .before .loop-test .taken) _ (c .before .before .before .judge-action .ensures) _ _ (c .before .q .given .1)
+judge-body-loop-again t c = loops.loop-more _ _ _ _ _ _ _ _ _ _ _ (c .before .before .before .before .before .loop .inv) (c .before .before .before .before .loop-test .taken) _ (c .before .before .before .judge-action .ensures) _ _ (c .before .q .given .1)
 
 judge-body-returns-2 : (t : ℕ) → judge-body-lts.Need-returns-2 (judge-body-calls t) (judge-body-at t) judge-body.Post judge-body-Inv-loop judge-body-μ-loop
-judge-body-returns-2 t c = loops.loop-end _ _ _ _ _ _ _ _ _ _ (c .before .loop .inv) (c .loop-test .left)
+judge-body-returns-2 t c = loops.loop-end _ _ _ _ _ _ _ _ _ _ _ (c .before .loop .inv) (c .loop-test .left)
 
 pub +judge-action+judge-bodies+judge-body-spec : {M : Type 1} → statement M
 +judge-action+judge-bodies+judge-body-spec =
     close μ-judge-action μ-judge-bodies μ-judge-body (λ t. judge-action-lts.spec (judge-action-calls t) (judge-action-at t)
     judge-action.Post
     (judge-action-shared-slice-read-op t)
-    (judge-action-add-t20 t)
-    (judge-action-add-t21 t)
+    (judge-action-add-next t)
+    (judge-action-add-after t)
     (judge-action-returns t)
     (judge-action-slice-aggregate-scan-payload t)
     (judge-action-scan-payload-requires t)
     (judge-action-enum-known-p t)
     (judge-action-enum-known-p-2 t)
     (judge-action-enum-known-p-3 t)
+    (judge-action-add-operand t)
     (judge-action-judge-branch-requires t)
     (judge-action-enum-known-p-4 t)
     (judge-action-judge-bodies-requires t)
@@ -242,7 +246,7 @@ pub +judge-action+judge-bodies+judge-body-spec : {M : Type 1} → statement M
     judge-bodies-μ-loop
     (judge-bodies-loop-holds t)
     (judge-bodies-judge-body-requires t)
-    (judge-bodies-enum-known-bits t)
+    (judge-bodies-enum-known-bad t)
     (judge-bodies-returns t)
     (judge-bodies-enum-known-q t)
     (judge-bodies-sub-left t)
@@ -263,7 +267,7 @@ pub +judge-action+judge-bodies+judge-body-spec : {M : Type 1} → statement M
     (judge-body-loop-holds t)
     (judge-body-sub-judge-action t)
     (judge-body-judge-action-requires t)
-    (judge-body-enum-known-bits t)
+    (judge-body-enum-known-bad t)
     (judge-body-returns t)
     (judge-body-enum-known-q t)
     (judge-body-sub-left t)

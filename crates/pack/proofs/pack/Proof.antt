@@ -64,19 +64,19 @@ pack-whole-requires : tie.Need-pack-whole-requires
 pack-whole-requires c κs = here (c .before .before .before .before) .2
 
 returns : tie.Need-returns
-returns c = packs.read-long _ _ _ _ (c .before .before .before .before .before .read-sheet .ensures) _ _ (c .before .n .given .1)
+returns c = packs.read-long _ _ _ _ (c .before .before .before .before .before .read-sheet .ensures) _ _ _ (c .before .n .given .1)
 
 returns-2 : tie.Need-returns-2
-returns-2 c = packs.read-bad _ _ _ _ (c .before .before .before .before .read-sheet .ensures) _ (c .enum-told .given .1)
+returns-2 c = packs.read-bad _ _ _ _ (c .before .before .before .before .read-sheet .ensures) _ _ (c .enum-told .given .1)
 
 returns-3 : tie.Need-returns-3
-returns-3 c = packs.read-stops _ _ _ _ (c .before .before .before .before .before .before .read-sheet .ensures) _ _ _ (c .before .before .f .given .1) _ (c .fault-answer .ensures)
+returns-3 c = packs.read-stops _ _ _ _ (c .before .before .before .before .before .before .read-sheet .ensures) _ _ _ _ (c .before .before .f .given .1) _ (c .fault-answer .ensures)
 
 same-length : tie.Need-same-length
 same-length c = search needs
 
 returns-4 : tie.Need-returns-4
-returns-4 c = packs.whole-outcome _ _ _ _ (c .before .before .before .before .before .before .before .before .before .before .before .before .read-sheet .ensures) _ _ _ (c .before .before .before .before .before .before .before .before .start .given .1) _ _ _ (c .before .before .pack-whole .ensures)
+returns-4 c = packs.whole-outcome _ _ _ _ (c .before .before .before .before .before .before .before .before .before .before .before .before .read-sheet .ensures) _ _ _ (c .before .before .before .before .before .before .before .before .start .given .1) _ _ _ _ (c .before .before .pack-whole .ensures)
 
 pub pack-spec : {M : Type 1} → statement M
 pack-spec =

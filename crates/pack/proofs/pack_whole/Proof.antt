@@ -11,10 +11,10 @@ shared-slice-read-n : tie.Need-shared-slice-read-n
 shared-slice-read-n c = search needs
 
 returns : tie.Need-returns
-returns c = packs.whole-8 _ _ _ _ (c .before .before .before .before .before .before .before .pre) (c .if1 .taken) _
+returns c = packs.whole-8 _ _ _ _ (c .before .before .before .before .before .before .before .pre) (c .if1 .taken) _ _
 
 returns-2 : tie.Need-returns-2
-returns-2 c = packs.whole-9 _ _ _ _ (c .before .before .before .before .before .before .before .before .pre) (c .if2 .taken) _
+returns-2 c = packs.whole-9 _ _ _ _ (c .before .before .before .before .before .before .before .before .pre) (c .if2 .taken) _ _
 
 pack-short-requires : tie.Need-pack-short-requires
 pack-short-requires c κs =

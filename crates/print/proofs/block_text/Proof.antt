@@ -38,8 +38,8 @@ returns-2 : tie.Need-returns-2
 returns-2 c = (text-refused _ _ (c .before .before .before .before .before .before .before .before .before .before .before .before .before .before .before .pre .1) (c .before .before .before .before .before .before .before .before .before .before .before .before .before .before .before .pre .0) (c .before .before .before .before .before .before .before .before .before .before .before .if1 .left) (c .before .before .before .before .before .before .before .before .before .pack .ensures) (λ e. c .if2 .taken (c .before .before .before .before .before .before .number-of .ensures ∙ e)) (line-of _ (c .before .before .before .before .before .before .number-of .ensures) (c .before .before .before .before .before .value-of .ensures .1) (c .before .before .before .put-line2 .ensures .0)), (counts-line _ (c .before .before .before .before .before .before .before .before .before .before .before .before .before .before .before .pre .2) (c .before .before .before .put-line2 .kept .0) (c .before .before .before .put-line2 .ensures .1), packed-output _ _ (c .before .before .before .before .before .before .before .before .before .before .before .before .before .before .before .pre .1) (c .before .before .before .before .before .before .before .before .before .before .before .before .before .before .before .pre .0) (c .before .before .before .before .before .before .before .before .before .before .before .if1 .left) (c .before .before .before .before .before .before .before .before .before .pack .ensures)))
 
 -- a Done: the block fills the front of the output
-fills : (c : tie.After-put-block-arg) → Filled (c .before .before .before .before .before .before .before .before .before .before .before .before .before .before .before .before .args .input .now) (c .before .before .before .before .before .before .before .before .before .before .before .before .before .before .before .before .args .out .now) (c .before .before .before .before .before .before .value-of .result) (c .before .before .before .before .before .before .before .before .before .before .pack .last .1 .0)
-fills c = filled _ _ _ (c .before .before .before .before .before .before .before .before .before .before .pack .ensures) (sym (c .before .before .before .before .before .before .before .number-of .ensures) ∙ c .before .if2 .left) (c .before .before .before .before .before .before .value-of .ensures .0) (c .before .before .before .before .before .before .before .before .before .before .pack .kept .1 .0) (c .before .before .before .before .before .before .before .before .before .before .before .before .before .before .before .before .pre .1)
+fills : (c : tie.After-put-block-arg) → Filled (c .before .before .before .before .before .before .before .before .before .before .before .before .before .before .before .before .args .input .now) (c .before .before .before .before .before .before .before .before .before .before .before .before .before .before .before .before .args .out .now) (c .before .before .before .before .before .before .value-of .result) (c .before .before .before .before .before .before .before .before .before .before .pack .last .1 .1 .0)
+fills c = filled _ _ _ (c .before .before .before .before .before .before .before .before .before .before .pack .ensures) (sym (c .before .before .before .before .before .before .before .number-of .ensures) ∙ c .before .if2 .left) (c .before .before .before .before .before .before .value-of .ensures .0) (c .before .before .before .before .before .before .before .before .before .before .pack .kept .1 .1 .0) (c .before .before .before .before .before .before .before .before .before .before .before .before .before .before .before .before .pre .1)
 
 slice-reshare-prefix-put-block : tie.Need-slice-reshare-prefix-put-block
 slice-reshare-prefix-put-block c = fills c .is-within

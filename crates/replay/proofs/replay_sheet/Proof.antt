@@ -12,6 +12,9 @@ u32-at-requires c κs = search needs
 cast-room : tie.Need-cast-room
 cast-room c = search needs
 
+shared-slice-read-mode : tie.Need-shared-slice-read-mode
+shared-slice-read-mode c = search needs
+
 shared-slice-read-number : tie.Need-shared-slice-read-number
 shared-slice-read-number c = search needs
 
@@ -23,6 +26,9 @@ add-if1 c = search needs
 
 returns : tie.Need-returns
 returns c = search needs
+
+returns-2 : tie.Need-returns-2
+returns-2 c = search needs
 
 add-agrees : tie.Need-add-agrees
 add-agrees c = search needs
@@ -39,8 +45,8 @@ agrees-requires c κs = search needs
 same-length : tie.Need-same-length
 same-length c = search needs
 
-returns-2 : tie.Need-returns-2
-returns-2 c = search needs
+returns-3 : tie.Need-returns-3
+returns-3 c = search needs
 
 pub replay-sheet-spec : {M : Type 1} → statement M
 replay-sheet-spec =
@@ -48,13 +54,15 @@ replay-sheet-spec =
     (tie.spec
     u32-at-requires
     cast-room
+    shared-slice-read-mode
     shared-slice-read-number
     u64-at-requires
     add-if1
     returns
+    returns-2
     add-agrees
     slice-relend-prefix-agrees
     slice-aggregate-agrees
     agrees-requires
     same-length
-    returns-2)
+    returns-3)

@@ -1,0 +1,26 @@
+-- `pack::branch_answer` meets its contract: 10 with its distance, 14 with its operand's position. Assumes nothing.
+use mathlib.Core.Path.{refl}
+use Rattle.layout.specs.Answers.{refusalNumber, refusalValue}
+use Rattle.layout.specs.Answers as answers
+use Rattle.answer.specs.Answered.{number, value}
+use Rattle.judge.specs.Judging.{refusalOf}
+use borrow.Author.Needs.{needs}
+use Rattle.pack.proofs.branch_answer.Statement.{statement}
+use Rattle.pack.proofs.branch_answer.Tie as tie
+
+enum-known-bad : tie.Need-enum-known-bad
+enum-known-bad c = search needs
+
+enum-known-bad-2 : tie.Need-enum-known-bad-2
+enum-known-bad-2 c = search needs
+
+returns : tie.Need-returns
+unfolding number value refusalOf answers.number answers.value refusalNumber refusalValue
+returns c = rw (c .before .bad .given .1) (record { is-number = refl; is-value = refl })
+
+returns-2 : tie.Need-returns-2
+unfolding number value refusalOf answers.number answers.value refusalNumber refusalValue
+returns-2 c = rw (c .before .bad2 .given .1) (record { is-number = refl; is-value = refl })
+
+pub branch-answer-spec : {M : Type 1} → statement M
+branch-answer-spec = tie.close (tie.spec enum-known-bad enum-known-bad-2 returns returns-2)
