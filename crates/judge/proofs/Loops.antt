@@ -9,7 +9,7 @@ use Rattle.layout.specs.Read as read
 use Rattle.layout.specs.Write.{Event}
 use Rattle.layout.specs.Judge.{Mode, orElse, judgedIn, firstRefused, badBy}
 use Rattle.layout.specs.Lengths.{total}
-use Rattle.laws.specs.Nears.{refused-append}
+use Rattle.laws.specs.Branches.{refused-append}
 use Rattle.labels.specs.Table.{recordAt}
 use Rattle.positions.specs.declared.BytePosition.{BytePosition}
 use Rattle.positions.specs.Scanned.{Roomy}

@@ -27,7 +27,7 @@ use Rattle.measure.specs.Walk.{measure, branches, measured}
 use Rattle.pcode.proofs.Readings.{given}
 use Rattle.pcode.proofs.Trees.{UnderBody, main-body, body-under}
 use Rattle.pcode.proofs.Labels as labels
-use Rattle.pcode.proofs.Labels.{BranchesUnder, refused-same}
+use Rattle.pcode.proofs.Labels.{BranchesUnder, refused-under}
 use Rattle.judge.specs.declared.BadBranch.{BadBranch}
 use Rattle.judge.specs.declared.Judged.{Judged}
 use Rattle.judge.specs.declared.Judged.the-variants as code
@@ -133,7 +133,7 @@ module _ (b : List ℕ) (end : BytePosition) (tab : List ℕ) (m : MainMeasured 
     by-table =
         only-branches (judgedIn mode) (recordAt tab) (bodyEvents (m .reads .read) 0)
         ∙ ap (λ (t : Actions). badBy mode (recordAt tab) (traceBody t (position 0))) (m .reads .is-tree)
-        ∙ (unfold events in refused-same 1024 (judgedIn mode) (recordAt tab) (λ l. lookup l (events (m .tree))) (table-record 1024 tab (events (m .tree)) (m .holds)) (events (m .tree)) under)
+        ∙ (unfold events in refused-under 1024 (judgedIn mode) (recordAt tab) (λ l. lookup l (events (m .tree))) (table-record 1024 tab (events (m .tree)) (m .holds)) (events (m .tree)) under)
 
     module _ (r : Judged) (j : Judging mode tab (measured bodyLength bodyEvents 0 (readBody edition1 b 16 (placed 0))) r) where
       here : Judging mode tab (got (measure (0 + bodyLength (m .reads .read)) (branches (bodyEvents (m .reads .read) 0))) (m .reads .next)) r

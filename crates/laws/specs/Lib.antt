@@ -1,6 +1,7 @@
 pub mod Meaning
 pub mod Unpack
 pub mod Fits
+pub mod Branches
 pub mod Nears
 pub mod Modes
 pub mod Within

@@ -1,22 +1,23 @@
 -- The modes. A mode's answer is plain mode's, or a refusal of the mode's own; where every branch's label is recorded it is plain
 -- mode's; and in strict mode a Done has every branch's label recorded. Assumes nothing.
-use mathlib.Core.Path.{_≡_, refl, sym, ap, ap₂, _∙_, subst}
+use mathlib.Core.Path.{_≡_, refl, sym, ap, _∙_, subst}
 use Prim.Native.Nat.{ℕ, _+_}
 use native.Mathlib.Omega.{arith}
 use mathlib.Core.Bool.{Bool, true, false}
 use mathlib.Core.Option.{Option, none, some, Option·none-ne-some}
-use mathlib.Core.List.{List, [], _∷_}
+use mathlib.Core.List.{List, [], _∷_, _++_}
+use lib.IntN.{ℤ}
 use lib.Dec.{leb}
 use Rattle.layout.specs.Answers.{Refusal, NeverRecorded, Answer, Done, Refused}
 use Rattle.layout.specs.Tree.{Actions, ActionsOf}
 use Rattle.layout.specs.Read.{Text, Read, got, bad, edition1, deepest, readMain}
 use Rattle.layout.specs.Strings.{mapBody}
-use Rattle.layout.specs.Write.{Position, Event, labelAt, branchAt, payloadTooLong, bodyTooLong, lookup, events, blockBytes, blockSize}
-use Rattle.layout.specs.Judge.{judged, orElse, tooLong, Mode, plainMode, refusalIf, barred, judgedIn, firstRefused, farBy, badBy, judge}
+use Rattle.layout.specs.Write.{Position, position, Event, labelAt, branchAt, payloadTooLong, bodyTooLong, lookup, events, blockBytes, blockSize}
+use Rattle.layout.specs.Judge.{distance, isNear, farUnless, judged, orElse, tooLong, Mode, plainMode, refusalIf, barred, judgedIn, farBy, badBy, badBranch, judge}
 use Rattle.layout.specs.Cut.{Cut, main, uncut, cut}
 use Rattle.layout.specs.Pack.{unless, ifRoom, packTree, spelling, packRead, packCut, pack, ReadsAs}
 use Rattle.layout.specs.Order.{tree-next}
-use Rattle.laws.specs.Nears.{or-left, or-right}
+use Rattle.laws.specs.Branches.{or-right, EachBranch, each-of, each-then, each-refused, refused-same, none-refused, decided, Decided}
 
 -- ---- what a mode refuses besides
 
@@ -51,12 +52,7 @@ module _ (m : Mode) where
   branch-beside (some r) s = same
 
   pub branches-beside : (final : ℕ → Option Position) (es : List Event) → Beside (farBy final es) (badBy m final es)
-  unfolding firstRefused
-  branches-beside final [] = same
-  branches-beside final (labelAt l s ∷ es) = branches-beside final es
-  branches-beside final (branchAt l s ∷ es) = or-beside (branch-beside (final l) s) (branches-beside final es)
-  branches-beside final (payloadTooLong n s ∷ es) = branches-beside final es
-  branches-beside final (bodyTooLong n s ∷ es) = branches-beside final es
+  branches-beside final es = each-refused Beside same (λ x x′ y y′ h k. or-beside h k) _ (judgedIn m) final final es (each-of _ (λ l s. branch-beside (final l) s) es)
 
   -- where the mode refuses no branch, none goes too far
   pub none-far : (final : ℕ → Option Position) (es : List Event) → badBy m final es ≡ none → farBy final es ≡ none
@@ -75,12 +71,7 @@ plain-judged none s = refl
 plain-judged (some r) s = refl
 
 pub plain-far : (final : ℕ → Option Position) (es : List Event) → badBy plainMode final es ≡ farBy final es
-unfolding firstRefused
-plain-far final [] = refl
-plain-far final (labelAt l s ∷ es) = plain-far final es
-plain-far final (branchAt l s ∷ es) = ap₂ orElse (plain-judged (final l) s) (plain-far final es)
-plain-far final (payloadTooLong n s ∷ es) = plain-far final es
-plain-far final (bodyTooLong n s ∷ es) = plain-far final es
+plain-far final es = refused-same (judgedIn plainMode) _ final final es (each-of _ (λ l s. plain-judged (final l) s) es)
 
 -- ---- a sheet's answer
 
@@ -145,30 +136,17 @@ module _ (m : Mode) where
 pub data HasRecord : Option Position → Type 0 where
   has-record : {s : Position} → HasRecord (some s)
 
--- and so has the label of every branch among the events
-abbrev pub AllRecorded : (ℕ → Option Position) → List Event → Type 0
-AllRecorded final [] = Unit {0}
-AllRecorded final (labelAt l s ∷ es) = AllRecorded final es
-AllRecorded final (branchAt l s ∷ es) = HasRecord (final l) × AllRecorded final es
-AllRecorded final (payloadTooLong n s ∷ es) = AllRecorded final es
-AllRecorded final (bodyTooLong n s ∷ es) = AllRecorded final es
-
--- the label of every branch in a tree
+-- and so has the label of every branch in a tree
 abbrev pub TreeRecorded : Actions → Type 0
-TreeRecorded t = AllRecorded (λ l. lookup l (events t)) (events t)
+TreeRecorded t = EachBranch (λ l s. HasRecord (lookup l (events t))) (events t)
 
 module _ (m : Mode) where
   recorded-judged : {o : Option Position} (s : Position) → HasRecord o → judgedIn m o s ≡ judged o (s .at + 2)
   unfolding judgedIn barred orElse
   recorded-judged s has-record = refl
 
-  recorded-far : (final : ℕ → Option Position) (es : List Event) → AllRecorded final es → badBy m final es ≡ farBy final es
-  unfolding firstRefused
-  recorded-far final [] h = refl
-  recorded-far final (labelAt l s ∷ es) h = recorded-far final es h
-  recorded-far final (branchAt l s ∷ es) h = ap₂ orElse (recorded-judged s (h .0)) (recorded-far final es (h .1))
-  recorded-far final (payloadTooLong n s ∷ es) h = recorded-far final es h
-  recorded-far final (bodyTooLong n s ∷ es) h = recorded-far final es h
+  recorded-far : (final : ℕ → Option Position) (es : List Event) → EachBranch (λ l s. HasRecord (final l)) es → badBy m final es ≡ farBy final es
+  recorded-far final es h = refused-same (judgedIn m) _ final final es (each-then (λ l s. HasRecord (final l)) _ (λ l s k. recorded-judged s k) es h)
 
   tree-recorded : (t : Actions) (room : ℕ) → TreeRecorded t → packTree m t room ≡ packTree plainMode t room
   unfolding packTree judge
@@ -185,14 +163,8 @@ module _ (m : Mode) where
     judged-recorded none s e = absurd (Option·none-ne-some (NeverRecorded (s .at)) (sym (rw strict at e)))
     judged-recorded (some r) s e = has-record
 
-    none-unrecorded : (final : ℕ → Option Position) (es : List Event) → badBy m final es ≡ none → AllRecorded final es
-    unfolding firstRefused
-    none-unrecorded final [] e = tt
-    none-unrecorded final (labelAt l s ∷ es) e = none-unrecorded final es e
-    none-unrecorded final (branchAt l s ∷ es) e =
-        (judged-recorded (final l) s (or-left (judgedIn m (final l) s) (badBy m final es) e), none-unrecorded final es (or-right (judgedIn m (final l) s) (badBy m final es) e))
-    none-unrecorded final (payloadTooLong n s ∷ es) e = none-unrecorded final es e
-    none-unrecorded final (bodyTooLong n s ∷ es) e = none-unrecorded final es e
+    none-unrecorded : (final : ℕ → Option Position) (es : List Event) → badBy m final es ≡ none → EachBranch (λ l s. HasRecord (final l)) es
+    none-unrecorded final es e = each-then _ (λ l s. HasRecord (final l)) (λ l s k. judged-recorded (final l) s k) es (none-refused (judgedIn m) final es e)
 
     tree-done-recorded : (t : Actions) (room : ℕ) (q : List ℕ) → packTree m t room ≡ Done q → TreeRecorded t
     unfolding packTree unless judge
@@ -208,3 +180,95 @@ module _ (m : Mode) where
     -- a strict Done has no branch to a label without a record
     pub done-recorded : (s : List ℕ) (t : Actions) (room : ℕ) (q : List ℕ) → ReadsAs s t → pack m s room ≡ Done q → TreeRecorded t
     done-recorded s t room q h e = tree-done-recorded t room q (sym (tree-next m s room t h) ∙ e)
+
+-- ---- what 14 says
+
+-- the branch whose operand stands at a position is to a label without a record, and every branch before it has a record that is
+-- near
+pub record FirstUnrecorded (t : Actions) (operand : ℕ) : Type 0 where
+  pub before : List Event
+  pub label : ℕ
+  pub later : List Event
+  pub is-among : events t ≡ before ++ (branchAt label (position operand) ∷ later)
+  pub is-unrecorded : lookup label (events t) ≡ none
+  pub are-recorded : EachBranch (λ l s. HasRecord (lookup l (events t))) before
+  pub are-near : EachBranch (λ l s. judged (lookup l (events t)) (s .at + 2) ≡ none) before
+
+module _ (m : Mode) (p : ℕ) where
+  far-other : (z : Bool) (d : ℤ) → farUnless z d ≡ some (NeverRecorded p) → ⊥
+  unfolding farUnless
+  far-other true d e = Option·none-ne-some (NeverRecorded p) e
+  far-other false d e =
+      let z : _≡_ {A = ℕ} 0 1 = cc in
+      omega arith
+
+  -- one branch is refused so only in strict mode, and only without a record
+  judged-14 : (o : Option Position) (s : Position) → judgedIn m o s ≡ some (NeverRecorded p) → (m .strict ≡ true) × (o ≡ none) × (s ≡ position p)
+  unfolding judgedIn barred refusalIf orElse judged
+  judged-14 none s e =
+      let k = go (m .strict) refl e in
+      (k .0, refl, k .1)
+    where
+      go : (t : Bool) → m .strict ≡ t → orElse (refusalIf t (NeverRecorded (s .at))) none ≡ some (NeverRecorded p) → (m .strict ≡ true) × (s ≡ position p)
+      go true i k =
+          let same : s .at ≡ p = cc in
+          (i, ap position same)
+      go false i k = absurd (Option·none-ne-some (NeverRecorded p) k)
+  judged-14 (some r) s e = absurd (far-other (isNear (r .at) (s .at + 2)) (distance (some r) (s .at + 2)) e)
+
+  -- so is the first among a tree's branches
+  tree-14 : (t : Actions) → badBranch m (events t) (events t) ≡ some (NeverRecorded p) → (m .strict ≡ true) × FirstUnrecorded t p
+  tree-14 t e = go (decided (judgedIn m) final (events t) (NeverRecorded p) e)
+    where
+      final : ℕ → Option Position
+      final l = lookup l (events t)
+
+      go : Decided (judgedIn m) final (events t) (NeverRecorded p) → (m .strict ≡ true) × FirstUnrecorded t p
+      go d =
+          let j = judged-14 (final (d .label)) (d .operand) (d .is-refused) in (
+            j .0,
+            record {
+              before = d .before;
+              label = d .label;
+              later = d .later;
+              is-among = d .is-among ∙ ap (λ (s : Position). d .before ++ (branchAt (d .label) s ∷ d .later)) (j .2);
+              is-unrecorded = j .1;
+              are-recorded = each-then _ (λ l s. HasRecord (final l)) (λ l s k. judged-recorded m (j .0) (final l) s k) (d .before) (d .are-taken);
+              are-near = each-then _ (λ l s. judged (final l) (s .at + 2) ≡ none) (λ l s k. beside-none (branch-beside m (final l) s) k) (d .before) (d .are-taken);
+            },
+          )
+
+  long-other : (es : List Event) → tooLong es ≡ some (NeverRecorded p) → ⊥
+  unfolding tooLong
+  long-other [] e = Option·none-ne-some (NeverRecorded p) e
+  long-other (labelAt l s ∷ es) e = long-other es e
+  long-other (branchAt l s ∷ es) e = long-other es e
+  long-other (payloadTooLong n s ∷ es) e =
+      let z : _≡_ {A = ℕ} 0 1 = cc in
+      omega arith
+  long-other (bodyTooLong n s ∷ es) e =
+      let z : _≡_ {A = ℕ} 0 1 = cc in
+      omega arith
+
+  branch-14 : (t : Actions) (room : ℕ) → packTree m t room ≡ Refused (NeverRecorded p) → badBranch m (events t) (events t) ≡ some (NeverRecorded p)
+  unfolding packTree unless judge orElse ifRoom
+  branch-14 t room e = go (tooLong (events t)) (badBranch m (events t) (events t)) (leb (blockSize t) room) refl refl e
+    where
+      go : (x y : Option Refusal) (z : Bool) → tooLong (events t) ≡ x → badBranch m (events t) (events t) ≡ y
+          → unless (orElse x y) (ifRoom z (blockBytes t) (blockSize t)) ≡ Refused (NeverRecorded p) → badBranch m (events t) (events t) ≡ some (NeverRecorded p)
+      go (some r) y z i j k =
+          let same : r ≡ NeverRecorded p = cc in
+          absurd (long-other (events t) (i ∙ ap some same))
+      go none (some r) z i j k =
+          let same : r ≡ NeverRecorded p = cc in
+          j ∙ ap some same
+      go none none true i j k =
+          let z : _≡_ {A = ℕ} 0 1 = cc in
+          absurd (omega arith)
+      go none none false i j k =
+          let z : _≡_ {A = ℕ} 0 1 = cc in
+          absurd (omega arith)
+
+  -- 14 is answered in strict mode alone, and its value is the position of the operand of the first such branch
+  pub unrecorded-first : (s : List ℕ) (t : Actions) (room : ℕ) → ReadsAs s t → pack m s room ≡ Refused (NeverRecorded p) → (m .strict ≡ true) × FirstUnrecorded t p
+  unrecorded-first s t room h e = tree-14 t (branch-14 t room (sym (tree-next m s room t h) ∙ e))

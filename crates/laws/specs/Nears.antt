@@ -1,6 +1,5 @@
--- Judging in parts: the first of two refusals, the first branch that is refused, and branches of which none goes too far.
--- Assumes nothing.
-use mathlib.Core.Path.{_≡_, refl, sym, ap, _∙_}
+-- Branches that do not go too far: one, and all among events. Assumes nothing.
+use mathlib.Core.Path.{_≡_, refl, sym, _∙_}
 use Prim.Native.Nat.{ℕ, _+_, _≤_, _<_}
 use mathlib.Core.Bool.{Bool, true, false, false≢true, _&&_}
 use mathlib.Core.Option.{Option, none, some, Option·none-ne-some}
@@ -9,26 +8,10 @@ use lib.IntN.{subℕ}
 use lib.Dec.{leb}
 use borrow.Author.Tests.{leb-true}
 use native.Mathlib.Omega.{arith}
-use Rattle.layout.specs.Answers.{Refusal, JumpOffsetOverflow}
-use Rattle.layout.specs.Write.{Position, Event, labelAt, branchAt, payloadTooLong, bodyTooLong, moved, distanceBits}
-use Rattle.layout.specs.Judge.{distance, isNear, farUnless, judged, orElse, firstRefused, farBy}
-
--- ---- the first of two refusals
-
-pub or-left : (x y : Option Refusal) → orElse x y ≡ none → x ≡ none
-unfolding orElse
-or-left none y e = refl
-or-left (some r) y e = e
-
-pub or-right : (x y : Option Refusal) → orElse x y ≡ none → y ≡ none
-unfolding orElse
-or-right none y e = e
-or-right (some r) y e = absurd (Option·none-ne-some r (sym e))
-
-pub or-assoc : (x y z : Option Refusal) → orElse (orElse x y) z ≡ orElse x (orElse y z)
-unfolding orElse
-or-assoc none y z = refl
-or-assoc (some r) y z = refl
+use Rattle.layout.specs.Answers.{JumpOffsetOverflow}
+use Rattle.layout.specs.Write.{Position, Event, branchAt, moved, distanceBits}
+use Rattle.layout.specs.Judge.{distance, isNear, farUnless, judged, firstRefused, farBy}
+use Rattle.laws.specs.Branches.{or-left, or-right, refused-append}
 
 -- ---- one branch that does not go too far
 
@@ -54,20 +37,6 @@ pub bits-small : (o : Option Position) (after : ℕ) → distanceBits o after < 
 unfolding distanceBits
 bits-small none after = omega arith
 bits-small (some s) after = omega arith
-
--- ---- the first branch that a rule refuses, by the final records
-
-module _ (rule : Option Position → Position → Option Refusal) (final : ℕ → Option Position) where
-  -- of two parts, the first part's, or else the second's
-  pub refused-append : (xs ys : List Event) → firstRefused rule final (xs ++ ys) ≡ orElse (firstRefused rule final xs) (firstRefused rule final ys)
-  unfolding firstRefused
-  refused-append [] ys = unfold orElse in refl
-  refused-append (labelAt l s ∷ xs) ys = refused-append xs ys
-  refused-append (branchAt l s ∷ xs) ys =
-      ap (orElse (rule (final l) s)) (refused-append xs ys)
-      ∙ sym (or-assoc (rule (final l) s) (firstRefused rule final xs) (firstRefused rule final ys))
-  refused-append (payloadTooLong n s ∷ xs) ys = refused-append xs ys
-  refused-append (bodyTooLong n s ∷ xs) ys = refused-append xs ys
 
 -- ---- branches of which none goes too far
 

@@ -1,5 +1,5 @@
 -- The labels of a tree's branches, among its events: under the bound if the tree's are. Assumes nothing.
-use mathlib.Core.Path.{_≡_, refl}
+use mathlib.Core.Path.{_≡_, ap}
 use Prim.Native.Nat.{ℕ, _+_, _<_}
 use mathlib.Core.Bool.{Bool, true, false}
 use mathlib.Core.Option.{Option}
@@ -9,25 +9,18 @@ use lib.Dec.{ltb, eqb}
 use Rattle.layout.specs.Answers.{Refusal}
 use Rattle.layout.specs.Tree.{ActionIndex, firstAction, nextAction, Entry, entry, Action, flat, branch, owner, Try, ActionList, empty, more, Actions, body, Catch, noCatch, catch, Finally, noFinally, finally}
 use Rattle.layout.specs.Payload.{ownerFields, catchName}
-use Rattle.layout.specs.Write.{size, bodySize, catchSize, Position, moved, Event, labelAt, branchAt, payloadTooLong, bodyTooLong, eventIf, payloadTest, bodyTest, labelsAt, trace, traces, traceBody, traceCatch, traceFinally}
+use Rattle.layout.specs.Write.{size, bodySize, catchSize, Position, moved, Event, labelAt, payloadTooLong, bodyTooLong, eventIf, payloadTest, bodyTest, labelsAt, trace, traces, traceBody, traceCatch, traceFinally}
 use Rattle.layout.specs.Judge.{firstRefused}
+use Rattle.laws.specs.Branches.{EachBranch, each-append, each-then, refused-same}
 use Rattle.pcode.proofs.Trees.{Under, UnderActions, UnderBody, UnderCatch, UnderFinally}
 
 module _ (n : ℕ) where
   -- Every branch among these events is to a label under the bound.
   abbrev pub BranchesUnder : List Event → Type 0
-  BranchesUnder [] = Unit {0}
-  BranchesUnder (labelAt l s ∷ es) = BranchesUnder es
-  BranchesUnder (branchAt l s ∷ es) = (l < n) × BranchesUnder es
-  BranchesUnder (payloadTooLong m s ∷ es) = BranchesUnder es
-  BranchesUnder (bodyTooLong m s ∷ es) = BranchesUnder es
+  BranchesUnder = EachBranch (λ l s. l < n)
 
   both : (xs ys : List Event) → BranchesUnder xs → BranchesUnder ys → BranchesUnder (xs ++ ys)
-  both [] ys h k = k
-  both (labelAt l s ∷ xs) ys h k = both xs ys h k
-  both (branchAt l s ∷ xs) ys h k = (h .0, both xs ys (h .1) k)
-  both (payloadTooLong m s ∷ xs) ys h k = both xs ys h k
-  both (bodyTooLong m s ∷ xs) ys h k = both xs ys h k
+  both xs ys h k = each-append (λ l s. l < n) xs ys h k
 
   payload-under : (m : ℕ) (s : Position) → BranchesUnder (payloadTest m s)
   unfolding payloadTest
@@ -88,11 +81,6 @@ module _ (n : ℕ) where
     finally-under (finally b) s u = body-under b s u
 
   -- Final records that agree under the bound leave the same first branch that a rule refuses.
-  pub refused-same : (rule : Option Position → Position → Option Refusal) (f g : ℕ → Option Position) → ((l : ℕ) → l < n → f l ≡ g l) → (es : List Event) → BranchesUnder es
+  pub refused-under : (rule : Option Position → Position → Option Refusal) (f g : ℕ → Option Position) → ((l : ℕ) → l < n → f l ≡ g l) → (es : List Event) → BranchesUnder es
       → firstRefused rule f es ≡ firstRefused rule g es
-  unfolding firstRefused
-  refused-same rule f g same [] h = refl
-  refused-same rule f g same (labelAt l s ∷ es) h = refused-same rule f g same es h
-  refused-same rule f g same (branchAt l s ∷ es) h = rw (same l (h .0), refused-same rule f g same es (h .1))
-  refused-same rule f g same (payloadTooLong m s ∷ es) h = refused-same rule f g same es h
-  refused-same rule f g same (bodyTooLong m s ∷ es) h = refused-same rule f g same es h
+  refused-under rule f g same es h = refused-same rule rule f g es (each-then (λ l s. l < n) _ (λ l s k. ap (λ (o : Option Position). rule o s) (same l k)) es h)

@@ -10,7 +10,7 @@ use mathlib.Core.List.{List, _++_}
 use lib.ListN.{length, take, drop, length-append, length-drop, take-append-drop}
 use lib.Seq.{take-at, drop-at}
 use lib.IntN.{ℤ, pos}
-use Rattle.layout.specs.Answers.{Fault, CutShort, UnknownCode, BadField, TooDeep, LeftOver, Refusal, SheetTooLong, BadTrailer, ReadingFault, ActionLenOverflow, BlockLenOverflow, JumpOffsetOverflow, NoRoom, InputFull, Unclean, NeverRecorded, Answer, Done, Refused, faultNumber, refusalNumber, number, value, lengthOf, Told}
+use Rattle.layout.specs.Answers.{Fault, CutShort, UnknownCode, BadField, TooDeep, LeftOver, Refusal, SheetTooLong, BadTrailer, ReadingFault, ActionLenOverflow, BlockLenOverflow, JumpOffsetOverflow, NoRoom, InputFull, Unclean, NeverRecorded, Answer, Done, Refused, faultNumber, refusalNumber, refusalValue, number, value, lengthOf, Told}
 use Rattle.layout.specs.Tree.{Actions}
 use Rattle.layout.specs.Judge.{Mode, plainMode}
 use Rattle.layout.specs.Pack.{pack, output, Outcome, ReadsAs}
@@ -18,7 +18,7 @@ use Rattle.layout.specs.Order.{same-outcome}
 use Rattle.layout.specs.Lengths.{length-block}
 use Rattle.laws.specs.Meaning.{meaning}
 use Rattle.laws.specs.Fits.{Bytes}
-use Rattle.laws.specs.Modes.{never-recorded, AsPlain, same, besides, as-plain, done-plain, TreeRecorded, recorded-plain, done-recorded}
+use Rattle.laws.specs.Modes.{never-recorded, AsPlain, same, besides, as-plain, done-plain, TreeRecorded, recorded-plain, done-recorded, FirstUnrecorded, unrecorded-first}
 use Rattle.laws.specs.Packed.{Written, refused-done, Packed, is-packed, sheetDistance}
 use Rattle.laws.specs.Demands.{same-meaning, length-done, noteLength, same-note, same-note-output}
 use Rattle.agreement.specs.Source.{ActionEncoder, Result, ok, err, encode}
@@ -26,21 +26,22 @@ use Rattle.agreement.specs.SourceAgrees.{Agrees, in-room, no-room, overflowed, 
 use Rattle.agreement.specs.Published.{Block, asWritten, asPublished, BodyUndisputed}
 use Rattle.agreement.specs.PublishedFollows.{follows-published, no-other-difference}
 
--- ---- 0 is Done's number alone
+-- ---- 0 is Done's number alone, and 14 NeverRecorded's
 
-fault-over : (f : Fault) → 0 < faultNumber f
+-- "3 to 7"
+fault-number : (f : Fault) → (3 ≤ faultNumber f) × (faultNumber f ≤ 7)
 unfolding faultNumber
-fault-over CutShort = omega arith
-fault-over UnknownCode = omega arith
-fault-over BadField = omega arith
-fault-over TooDeep = omega arith
-fault-over LeftOver = omega arith
+fault-number CutShort = (omega arith, omega arith)
+fault-number UnknownCode = (omega arith, omega arith)
+fault-number BadField = (omega arith, omega arith)
+fault-number TooDeep = (omega arith, omega arith)
+fault-number LeftOver = (omega arith, omega arith)
 
 refusal-over : (r : Refusal) → 0 < refusalNumber r
 unfolding refusalNumber
 refusal-over (SheetTooLong n) = omega arith
 refusal-over BadTrailer = omega arith
-refusal-over (ReadingFault f p) = fault-over f
+refusal-over (ReadingFault f p) = omega (arith, fault-number f .0)
 refusal-over (ActionLenOverflow n) = omega arith
 refusal-over (BlockLenOverflow n) = omega arith
 refusal-over (JumpOffsetOverflow z) = omega arith
@@ -48,6 +49,19 @@ refusal-over (NoRoom n) = omega arith
 refusal-over InputFull = omega arith
 refusal-over (Unclean p) = omega arith
 refusal-over (NeverRecorded p) = omega arith
+
+refusal-14 : (r : Refusal) → 14 ≡ refusalNumber r → (p : ℕ) × (r ≡ NeverRecorded p)
+unfolding refusalNumber
+refusal-14 (NeverRecorded p) e = (p, refl)
+refusal-14 (SheetTooLong n) e = absurd (omega (arith, e))
+refusal-14 BadTrailer e = absurd (omega (arith, e))
+refusal-14 (ReadingFault f p) e = absurd (omega (arith, e, fault-number f .1))
+refusal-14 (ActionLenOverflow n) e = absurd (omega (arith, e))
+refusal-14 (BlockLenOverflow n) e = absurd (omega (arith, e))
+refusal-14 (JumpOffsetOverflow z) e = absurd (omega (arith, e))
+refusal-14 (NoRoom n) e = absurd (omega (arith, e))
+refusal-14 InputFull e = absurd (omega (arith, e))
+refusal-14 (Unclean p) e = absurd (omega (arith, e))
 
 -- ---- a call that answers 0 with value k, which is `Outcome m s o 0 (pos k) after`
 
@@ -150,6 +164,22 @@ as-if-recorded m s o t n n′ v v′ after after′ r e h h′ =
 -- a call in strict mode that answers 0 was given no branch to a label without a record
 pub done-is-recorded : (m : Mode) → m .strict ≡ true → (s o : List ℕ) (t : Actions) (k : ℕ) (after : List ℕ) → ReadsAs s t → Outcome m s o 0 (pos k) after → TreeRecorded t
 done-is-recorded m strict s o t k after r h = done-recorded m strict s t (length o) (take k after) r (filled m s o k after h .packed)
+
+-- a call that answers 14 was made in strict mode, and its value is the position of the operand of the first branch to a label
+-- without a record
+pub answers-14 : (m : Mode) (s o : List ℕ) (t : Actions) (p : ℕ) (after : List ℕ) → ReadsAs s t → Outcome m s o 14 (pos p) after → (m .strict ≡ true) × FirstUnrecorded t p
+unfolding number value refusalValue
+answers-14 m s o t p after r h = go (pack m s (length o)) refl (h .told .is-number) (h .told .is-value)
+  where
+    of-refusal : (x : Refusal) → pack m s (length o) ≡ Refused x → pos p ≡ refusalValue x → (q : ℕ) → x ≡ NeverRecorded q → (m .strict ≡ true) × FirstUnrecorded t p
+    of-refusal x e v q i =
+        let k : pos p ≡ pos q = v ∙ ap refusalValue i in
+        let same : q ≡ p = cc in
+        unrecorded-first m p s t (length o) r (e ∙ ap Refused (i ∙ ap NeverRecorded same))
+
+    go : (a : Answer (List ℕ)) → pack m s (length o) ≡ a → 14 ≡ number a → pos p ≡ value lengthOf a → (m .strict ≡ true) × FirstUnrecorded t p
+    go (Done q) e n v = absurd (omega (arith, n))
+    go (Refused x) e n v = of-refusal x e v (refusal-14 x n .0) (refusal-14 x n .1)
 
 -- ---- what a call leaves alone
 

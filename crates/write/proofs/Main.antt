@@ -23,7 +23,7 @@ use Rattle.write.specs.Bodies.{nearOf, bodyOf, Room, Wrote, MainWritable
 use Rattle.positions.specs.declared.Ends.{Ends}
 use Rattle.pcode.proofs.Trees.{UnderBody, main-body, body-under}
 use Rattle.pcode.proofs.Labels as labels
-use Rattle.pcode.proofs.Labels.{refused-same}
+use Rattle.pcode.proofs.Labels.{refused-under}
 use Rattle.write.proofs.Labels.{agree-body}
 
 -- ---- the main body
@@ -56,7 +56,7 @@ module _ (b tab out : List ℕ) (m : MainWritable b tab out) where
       near-main : (x : ActionsOf Text ℕ) (t : Actions) → mapBody spelling x ≡ t → UnderBody 1024 (mapBody spelling x) → TableHolds 1024 tab (events t)
           → tooFar (events t) (events t) ≡ none → nearOf tab x 0
       near-main x t i u h k =
-          rw i (refused-same 1024 _ (recordAt tab) (λ l. lookup l (events t)) (table-record 1024 tab (events t) h) (traceBody t (position 0))
+          rw i (refused-under 1024 _ (recordAt tab) (λ l. lookup l (events t)) (table-record 1024 tab (events t) h) (traceBody t (position 0))
           (labels.body-under 1024 t (position 0) (subst (UnderBody 1024) i u)) ∙ (unfold events in k))
 
   module _ (mid : List ℕ) (e : Ends) (w : Wrote (readBody edition1 b deepest) bodyLength (λ x. sets out 0 (bodyOf tab x 0)) 0 0 mid e) where
