@@ -21,7 +21,6 @@ use Rattle.layout.specs.Judge.{judged}
 use Rattle.laws.specs.ReadFits.{length-each}
 use Rattle.labels.specs.Table.{recordAt}
 use Rattle.pcode.specs.declared.CatchTarget.{CatchTarget}
-use Rattle.pcode.specs.declared.CatchTarget.the-variants as target
 use Rattle.pcode.specs.declared.Action.{Action}
 use Rattle.pcode.specs.declared.Action.the-variants as code
 use Rattle.pcode.specs.Shown.{after, isText, ShownTarget, nothing, variable, register, Shown, small, gotoFrame, getUrl, storeRegister, constantPool, waitForFrame, setTarget, gotoLabel, waitForFrame2, defineFunction2, try, with, push, jump, getUrl2, defineFunction, if, gotoFrame2}

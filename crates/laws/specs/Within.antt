@@ -1,33 +1,18 @@
 -- Where the events of a tree lie: its labels and branches within what is written, and no length longer than that. Assumes nothing.
-use mathlib.Core.Path.{_≡_, refl, sym, subst}
-use Prim.Native.Nat.{ℕ, suc, _+_, _-_, _*_, _≤_, _<_}
+use mathlib.Core.Path.{_≡_, refl}
+use Prim.Native.Nat.{ℕ, _+_, _≤_}
 use native.Mathlib.Omega.{arith}
-use mathlib.Core.Bool.{Bool, true, false, _&&_}
+use mathlib.Core.Bool.{Bool, true, false}
 use mathlib.Core.Option.{Option, none, some}
 use mathlib.Core.List.{List, [], _∷_, _++_}
-use lib.ListN.{length, drop}
-use lib.IntN.{pos, subℕ}
-use lib.Dec.{leb, ltb, eqb}
-use borrow.Author.Tests.{ltb-true, ltb-false}
+use lib.ListN.{length}
+use lib.Dec.{ltb, eqb}
 use Rattle.layout.specs.Lists.{All}
-use Rattle.layout.specs.Answers.{Refusal, refusalValue, Answer, value, lengthOf}
 use Rattle.layout.specs.OpCode.{OpCode, byte}
-use Rattle.layout.specs.Tree.{Flat, Small, GotoFrame, GetUrl, StoreRegister, ConstantPool, WaitForFrame, SetTarget, GotoLabel, WaitForFrame2, Push, GetUrl2, GotoFrame2, ActionIndex, firstAction, nextAction, Entry, entry, Action, flat, branch, owner, Try, ActionList, empty, more, Actions, ActionsOf, body, Catch, noCatch, catch, Finally, noFinally, finally}
-use Rattle.layout.specs.Read.{Text, edition1, deepest, Read}
-use Rattle.layout.specs.Strings.{mapBody}
+use Rattle.layout.specs.Tree.{Flat, Small, GotoFrame, GetUrl, StoreRegister, ConstantPool, WaitForFrame, SetTarget, GotoLabel, WaitForFrame2, Push, GetUrl2, GotoFrame2, ActionIndex, firstAction, nextAction, Entry, entry, Action, flat, branch, owner, Try, ActionList, empty, more, Actions, body, Catch, noCatch, catch, Finally, noFinally, finally}
 use Rattle.layout.specs.Payload.{opcode, payload, ownerFields, catchName, framed}
-use Rattle.layout.specs.Write.{size, sizes, bodySize, catchSize, finallySize, Position, position, moved, Event, labelAt, branchAt, payloadTooLong, bodyTooLong, eventIf, payloadTest, bodyTest, labelsAt, trace, traces, traceBody, traceCatch, traceFinally, events, later, recordIf, lookup, blockBytes, blockSize}
-use Rattle.layout.specs.Judge.{tooLong, distance, isNear, farUnless, judged, orElse, farBy, judge}
-use Rattle.layout.specs.Cut.{Cut, main, uncut, sheetLimit, trailerDistance, isMarked, cutIf, cutAt, cutIfTrailer, cutIfShort, cut}
-use Rattle.layout.specs.Pack.{unless, ifRoom, packTree, spelling, packRead, packCut, pack}
-use Rattle.layout.specs.Step.{step}
-use Rattle.layout.specs.Stepping.{AtMost, made, unclean, step-most}
-use Rattle.layout.specs.Lengths.{length-framed, length-block}
-use Rattle.layout.specs.Order.{IsI64, zeroUp, below}
-use Rattle.laws.specs.Fits.{Bytes, WellBody}
-use Rattle.laws.specs.ReadFits.{Good, fine, refused, main-good}
-use Rattle.laws.specs.Packed.{IsMain, is-main, main-bytes, spells}
-use Rattle.laws.specs.Demands.{sub-up, sub-down}
+use Rattle.layout.specs.Write.{size, sizes, bodySize, catchSize, finallySize, Position, moved, Event, labelAt, branchAt, payloadTooLong, bodyTooLong, eventIf, payloadTest, bodyTest, labelsAt, trace, traces, traceBody, traceCatch, traceFinally, events, later, recordIf, lookup}
+use Rattle.layout.specs.Lengths.{length-framed}
 
 -- ---- a payload is no longer than its action
 
