@@ -5,8 +5,8 @@ use answer::Answer;
 use positions::BytePosition;
 use write::write_main;
 
-// A main body in which no branch goes too far: 11 or 0. The writer is lent the front of the output that
-// the block fills, and nothing past it.
+// A main body in which no branch goes too far: 11 or 0. The writer is lent the front of the output that the block fills, and
+// nothing past it.
 pub fn pack_near(b: &[u8], end: BytePosition, tab: &[usize], out: &mut [u8]) -> Answer
     requires { ⌜ MainNear (now b) end (now tab) ⌝ }
     ensures { λ r. ⌜ MainAnswered blockIn (now (b .entry)) (now (out .entry)) r (now (out .exit)) ⌝ }

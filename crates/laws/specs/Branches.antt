@@ -1,4 +1,5 @@
--- Judging in parts: the first of two refusals, the branches among events, and the first of them that a rule refuses. Assumes nothing.
+-- Judging in parts: the first of two refusals, the branches among events, and the first of them that a rule refuses.
+-- Assumes nothing.
 use mathlib.Core.Path.{_≡_, refl, sym, ap, ap₂, _∙_}
 use Prim.Native.Nat.{ℕ}
 use mathlib.Core.Option.{Option, none, some, Option·none-ne-some}

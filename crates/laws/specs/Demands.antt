@@ -181,7 +181,7 @@ same-meaning m m′ s s′ room room′ q t t′ small small′ h h′ e e′ =
 pub length-done : (m : Mode) (s : List ℕ) (room : ℕ) (q : List ℕ) → Bytes s → pack m s room ≡ Done q → length q + 11 ≤ 3 * sheetDistance s
 unfolding blockSize
 length-done m s room q small e =
-    let k : Packed m s room q = is-packed m s room q e in
+    let k : Packed s room q = is-packed m s room q e in
     let h : ReadsAs s (k .tree) = k .reads in
     omega (
       arith,

@@ -69,15 +69,15 @@ same-tree b t u h k = go (h .read) (h .next) (h .is-read) (h .is-tree) (k .read)
 
 -- ---- a sheet that is packed
 
--- a Done sheet reads whole
-pub record Packed (m : Mode) (s : List ℕ) (room : ℕ) (q : List ℕ) : Type 0 where
+-- a Done sheet reads whole, whatever the mode
+pub record Packed (s : List ℕ) (room : ℕ) (q : List ℕ) : Type 0 where
   pub tree : Actions
   pub reads : ReadsAs s tree
   pub written : Written tree room q
 
 module _ (m : Mode) (s : List ℕ) (room : ℕ) (q : List ℕ) where
   read-packed : (start : ℕ) (b : List ℕ) (r : Read (ActionsOf Text ℕ)) → cut s ≡ main start b → readMain edition1 b deepest ≡ r
-      → packRead m start r room ≡ Done q → Packed m s room q
+      → packRead m start r room ≡ Done q → Packed s room q
   unfolding packRead
   read-packed start b (got t p) c e k =
       record {
@@ -87,12 +87,12 @@ module _ (m : Mode) (s : List ℕ) (room : ℕ) (q : List ℕ) where
       }
   read-packed start b (bad f p) c e k = refused-done k
 
-  cut-packed : (c : Cut) → cut s ≡ c → packCut m c room ≡ Done q → Packed m s room q
+  cut-packed : (c : Cut) → cut s ≡ c → packCut m c room ≡ Done q → Packed s room q
   unfolding packCut
   cut-packed (main start b) e k = read-packed start b (readMain edition1 b deepest) e refl k
   cut-packed (uncut r) e k = refused-done k
 
-  pub is-packed : pack m s room ≡ Done q → Packed m s room q
+  pub is-packed : pack m s room ≡ Done q → Packed s room q
   unfolding pack
   is-packed e = cut-packed (cut s) refl e
 

@@ -110,6 +110,7 @@ abbrev pub AllAnswer : List Case → Type 0
 AllAnswer [] = Unit {0}
 AllAnswer (x ∷ xs) = Answers x × AllAnswer xs
 
+-- both tables, so that what is unfolded is listed once
 both : AllHold byHand × AllAnswer byMode
 unfolding byMode byHand sheetOf each pick firstWith le16 le32 bit smallByte byte smallOpCodes opcodes opcodeOf kindByte pushKinds kindOf edition1 ifWhole ifWithin tested repeat firstZero ifNoZero ifNothingLeft readU8 readU16 readU32 readU64 readBytes readFlag readSpelling readCounted hasCatch hasFinally hasRegister isShape readString readValueOf readValueIf readValue readParam readLabel readEntries readCatchTarget readCatch readFinally readTry readFields readFieldsIf readAction readActions readBodyWith readBody readMain mapValue mapParam mapFlat mapOwner mapTarget mapAction zeroEnded stringsBytes constantBytes doubleBytes pushBytes pushesBytes opcode gotoFrame2Bytes getUrl2Bits payload ownerOpCode paramsBytes ownerFields ownerPayload branchOpCode catchShape finallyShape catchName tryPayload headed framed moved eventIf payloadTest bodyTest labelsAt events later recordIf lookup distanceBits branchBits blockBytes blockSize size trace bytes tooLong distance isNear farUnless judged orElse refusalIf barred judgedIn firstRefused judge trailerDistance isMarked cutIf cutAt cutIfTrailer cutIfShort cut unless ifRoom packTree spelling packRead packCut pack output number value lengthOf refusalNumber refusalValue
 both = ((refl, (refl, (refl, (refl, (refl, (refl, (refl, (refl, (refl, (refl, (refl, (refl, tt)))))))))))), ((refl, refl), ((refl, refl), ((refl, refl), ((refl, refl), ((refl, refl), ((refl, refl), ((refl, refl), ((refl, refl), tt)))))))))

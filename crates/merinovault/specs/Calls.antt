@@ -26,8 +26,8 @@ pub record Lent (s : List ℕ) : Type 0 where
 abbrev pub modeBy : Bool → Mode
 modeBy strict = record { strict = strict }
 
--- merinovault_pack, in a mode, on a sheet s, with an output that held o and a value slice that held v: it returns n, and the value slice then
--- holds v′ and the output `after`
+-- merinovault_pack, in a mode, on a sheet s, with an output that held o and a value slice that held v: it returns n, and the value
+-- slice then holds v′ and the output `after`
 pub record PackCalled (mode : Mode) (s o v : List ℕ) (n : ℕ) (v′ after : List ℕ) : Type 0 where
   pub is-lent : Lent s
   pub is-number : n ≡ ifEight v (number (pack mode s (length o))) 11

@@ -38,8 +38,8 @@ fn put_line(text: &mut [u8], number: u32, bits: u64) -> usize
     q + 1
 }
 
-// Packs the input in plain mode into `out`, and makes the program's text at the front of `text`: three bytes for each byte of a block, and a
-// line. An input that fills its 65,536 bytes is not packed: its line is that of 12. Returns the length of the text.
+// Packs the input in plain mode into `out`, and makes the program's text at the front of `text`: three bytes for each byte of a
+// block, and a line. An input that fills its 65,536 bytes is not packed: its line is that of 12. Returns the length of the text.
 pub fn block_text(input: &[u8], out: &mut [u8], text: &mut [u8]) -> usize
     requires { ⌜ (length (now input) ≤ 65536) × (length (now out) ≡ 65536) × Room 196651 0 (now text) ⌝ }
     ensures text { λ r. ⌜ Put (blockText (now (input .entry))) 0 (now (text .entry)) (now (text .exit)) r ⌝ }

@@ -1,6 +1,6 @@
--- What a call of the packer promises, over `Outcome m s o n v after`: a mode m, a sheet s, an output that held o, the number n, the value v,
--- and what the output holds afterwards. That any two calls on one m, s and o tell and leave the same is `same-outcome`, in layout's
--- Order. Assumes nothing.
+-- What a call of the packer promises, over `Outcome m s o n v after`: a mode m, a sheet s, an output that held o, the number n, the
+-- value v, and what the output holds afterwards. That any two calls on one m, s and o tell and leave the same is `same-outcome`, in
+-- layout's Order. Assumes nothing.
 use mathlib.Core.Path.{_≡_, refl, sym, ap, _∙_, subst}
 use mathlib.Core.Bool.{true}
 use mathlib.Core.Logic.{_⊎_, inl, inr}
@@ -99,7 +99,7 @@ filled m s o k after h = go (pack m s (length o)) refl (h .told .is-number) (h .
     go (Refused r) e en ev eo = absurd (omega (arith, refusal-over r, en))
 
 -- its sheet reads whole, nothing in it is too long or too far, and the first k bytes of the output are its tree's block
-pub done-packed : (m : Mode) (s o : List ℕ) (k : ℕ) (after : List ℕ) → Outcome m s o 0 (pos k) after → Packed m s (length o) (take k after)
+pub done-packed : (m : Mode) (s o : List ℕ) (k : ℕ) (after : List ℕ) → Outcome m s o 0 (pos k) after → Packed s (length o) (take k after)
 done-packed m s o k after h = is-packed m s (length o) (take k after) (filled m s o k after h .packed)
 
 -- ---- the value
@@ -226,8 +226,8 @@ module _ (m : Mode) (s o : List ℕ) (t : Actions) (k : ℕ) (after : List ℕ) 
   pub done-undisputed : BodyUndisputed t → Block asPublished t (take k after)
   done-undisputed u = no-other-difference m s t (length o) (take k after) small r (filled m s o k after h .packed) u
 
--- any call in plain mode on such a sheet tells and leaves the one answer that agrees with the source's result at its room: an overflow's number
--- and value too
+-- any call in plain mode on such a sheet tells and leaves the one answer that agrees with the source's result at its room: an
+-- overflow's number and value too
 pub as-source : (s o : List ℕ) (t : Actions) (n : ℕ) (v : ℤ) (after : List ℕ) (a : Answer (List ℕ)) → Bytes s → ReadsAs s t → Agrees (length o) (encode t) a
     → Outcome plainMode s o n v after → Told lengthOf a n v × (after ≡ output a o)
 as-source s o t n v after a small r g h =
