@@ -9,8 +9,8 @@
  * first that does.
  *
  * Each sheet and block ends where memory ends, so a byte read past it stops the program. Each sheet and block is also stepped
- * through, and the answer held to a stepper written here. Status 0: all is well; 1: a fault, told on standard error; 2: a bad
- * list or call.
+ * through, and so is every block of up to 4 bytes from a choice of seven; the answer is held to a stepper written here.
+ * Status 0: all is well; 1: a fault, told on standard error; 2: a bad list or call.
  */
 #define _DEFAULT_SOURCE /* for MAP_ANONYMOUS */
 #include <inttypes.h>
@@ -95,10 +95,11 @@ static struct answer pack(const uint8_t *sheet, size_t len, bool strict, uint8_t
     return a;
 }
 
-/* Stepping by document 01's words. */
+/* Stepping by the words of documents 01 and 02. */
 static struct answer stepped(const uint8_t *block, size_t len)
 {
     size_t at = 0, steps = 0;
+    bool ended = false; /* whether the last step was an End */
     while (at < len) {
         size_t left = len - at, size = 1;
         uint8_t opcode = block[at];
@@ -108,11 +109,9 @@ static struct answer stepped(const uint8_t *block, size_t len)
             return (struct answer){MERINOVAULT_UNCLEAN, (int64_t)at, 0};
         at += size;
         steps++;
-        if (opcode == 0)
-            return at == len ? (struct answer){MERINOVAULT_DONE, (int64_t)steps, 0}
-                             : (struct answer){MERINOVAULT_UNCLEAN, (int64_t)at, 0};
+        ended = opcode == 0;
     }
-    return (struct answer){MERINOVAULT_UNCLEAN, (int64_t)len, 0};
+    return ended ? (struct answer){MERINOVAULT_DONE, (int64_t)steps, 0} : (struct answer){MERINOVAULT_UNCLEAN, (int64_t)len, 0};
 }
 
 /* Steps through a block by the entry too; it must end where memory ends. */
@@ -135,6 +134,18 @@ static void step_all(const uint8_t *block, size_t len, uint8_t *end, size_t line
         memcpy(end - n, block, n);
         step(end - n, n, line);
     }
+}
+
+/* Steps through every block of up to 4 of these bytes: End, opcodes on both sides of 0x80, lengths that fit and that do not. */
+static void step_short(uint8_t *end)
+{
+    static const uint8_t bytes[] = {0x00, 0x01, 0x02, 0x17, 0x7F, 0x80, 0xFF};
+    for (size_t len = 0, blocks = 1; len <= 4; len++, blocks *= sizeof bytes)
+        for (size_t n = 0; n < blocks; n++) {
+            for (size_t i = 1, rest = n; i <= len; i++, rest /= sizeof bytes)
+                *(end - i) = bytes[rest % sizeof bytes];
+            step(end - len, len, 0);
+        }
 }
 
 /* A value slice that has not 8 bytes, and runs without a byte, in one mode. */
@@ -214,6 +225,7 @@ int main(int argc, char **argv)
     uint8_t *copy = malloc(SPACE), *block = malloc(SPACE), head[HEAD];
     if (copy == NULL || block == NULL)
         stop("no memory");
+    step_short(block_end);
     size_t counts[NUMBERS] = {0}, differ = 0, first_to_differ = 0;
     for (size_t line = 1; take(head, HEAD); line++) {
         size_t room = u32_at(head + 8), n = unroll(u32_at(head), copy), m = unroll(u32_at(head + 4), block);

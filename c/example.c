@@ -1,4 +1,4 @@
-/* example.c: packs a small sheet, steps through the block, and shows refusals. */
+/* example.c: packs a small sheet, steps through blocks, and shows refusals. */
 #include <inttypes.h>
 #include <stdio.h>
 
@@ -11,6 +11,14 @@ static int64_t number_in(const uint8_t value[MERINOVAULT_VALUE_LEN])
     for (size_t i = MERINOVAULT_VALUE_LEN; i > 0; i--)
         bits = bits << 8 | value[i - 1];
     return (int64_t)bits;
+}
+
+/* Steps through the block and prints the answer: 0 with the number of steps, or 13 with a place. */
+static void show_steps(const uint8_t *block, size_t block_len)
+{
+    uint8_t value[MERINOVAULT_VALUE_LEN];
+    uint32_t number = merinovault_step(block, block_len, value, sizeof value);
+    printf("stepped: answer %" PRIu32 ", value %" PRId64 "\n", number, number_in(value));
 }
 
 /* Packs the sheet and prints the block with its steps, or the answer that refused it. */
@@ -26,8 +34,8 @@ static void show(const uint8_t *sheet, size_t sheet_len, bool strict)
     printf("packed %zu bytes:", len);
     for (size_t i = 0; i < len; i++)
         printf(" %02X", block[i]);
-    number = merinovault_step(block, len, value, sizeof value);
-    printf("\nstepped: answer %" PRIu32 ", value %" PRId64 "\n", number, number_in(value));
+    printf("\n");
+    show_steps(block, len);
 }
 
 int main(void)
@@ -46,5 +54,16 @@ int main(void)
     show(sheet, sizeof sheet, true); /* NeverRecorded: the Jump's operand, at byte 3 of the block */
     sheet[8] = 0x98;                 /* no opcode: UnknownCode at byte 8 of the sheet */
     show(sheet, sizeof sheet, true);
+
+    const uint8_t block[] = {
+        0x96, 0x02, 0x00, 0x04, 0x01, /* Push register 1 */
+        0x9D, 0x02, 0x00, 0x01, 0x00, /* If, past the End that follows it */
+        0x00,                         /* End */
+        0x06,                         /* Play */
+        0x00,                         /* End, the last step */
+    };
+    show_steps(block, sizeof block);     /* clean, 5 steps: an End may stand in the middle */
+    show_steps(block, sizeof block - 1); /* Unclean: the last step is Play, so the value is the block's length */
+    show_steps(block, 4);                /* Unclean: Push, at byte 0, passes the end */
     return 0;
 }

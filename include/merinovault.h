@@ -31,7 +31,7 @@ extern "C" {
 #define MERINOVAULT_VALUE_LEN 8u
 
 /* The answers' numbers, and the value of each. A place counts bytes from 0, the first byte of the sheet or block. */
-#define MERINOVAULT_DONE 0u                  /* length of the block written; of a step: the number of steps made */
+#define MERINOVAULT_DONE 0u                  /* length of the block written; of stepping: the number of all steps */
 #define MERINOVAULT_SHEET_TOO_LONG 1u        /* length of the sheet, over 1,048,576 */
 #define MERINOVAULT_BAD_TRAILER 2u           /* 0 */
 #define MERINOVAULT_CUT_SHORT 3u             /* place of a field that would reach into the trailer */
@@ -44,7 +44,7 @@ extern "C" {
 #define MERINOVAULT_JUMP_OFFSET_OVERFLOW 10u /* signed distance of a branch, outside -32,768 to 32,767 */
 #define MERINOVAULT_NO_ROOM 11u              /* length that the block needs, more than out_len */
 #define MERINOVAULT_INPUT_FULL 12u           /* 65,536; of the block program, and returned by no function here */
-#define MERINOVAULT_UNCLEAN 13u              /* place where stepping stopped; of merinovault_step alone */
+#define MERINOVAULT_UNCLEAN 13u              /* place of an opcode whose step passes the end, or block_len; of stepping alone */
 #define MERINOVAULT_NEVER_RECORDED 14u       /* place in the block of a branch's operand; of strict mode alone */
 
 /*
@@ -59,8 +59,12 @@ uint32_t merinovault_pack(const uint8_t *sheet, size_t sheet_len, bool strict, u
                           size_t value_len);
 
 /*
- * Steps through block, an opcode and its payload at a time: Done if the first End is its last byte, otherwise Unclean.
- * A value_len other than 8 gives NO_ROOM.
+ * Steps through block to its last byte. A step is one byte for an opcode under 0x80; else it is 3 bytes and as many more as the
+ * two bytes after the opcode say, little-endian, so it goes straight into bodies.
+ *
+ * DONE if the last step is an End, byte 00, with the number of all steps; an End may stand in the middle too, with a branch
+ * past it. Otherwise UNCLEAN: with the place of an opcode whose step passes the end, or whose two length bytes are not all
+ * there; with block_len if the last step is no End; with 0 if the block is empty. A value_len other than 8 gives NO_ROOM.
  */
 uint32_t merinovault_step(const uint8_t *block, size_t block_len, uint8_t *value, size_t value_len);
 

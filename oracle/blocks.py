@@ -64,6 +64,11 @@ def text(s):
     return subprocess.run([ORACLE], input=s, stdout=subprocess.PIPE, check=True).stdout.decode()
 
 
+def records(inputs):
+    """Each input's pattern after its length in four bytes."""
+    return b"".join(struct.pack("<I", len(p)) + p for p in map(pattern, inputs))
+
+
 def write(crate, stdin, stdout):
     assert len(stdin) <= SPACE, (crate, len(stdin))
     open(f"crates/{crate}/stdin", "wb").write(stdin)
@@ -83,8 +88,7 @@ def main():
         assert text(s) == line + "\n", (line, text(s))
         cases.append(s)
     cases.append(SAMPLE)
-    patterns = [pattern(s) for s in cases]
-    write("block_cases", b"".join(struct.pack("<I", len(p)) + p for p in patterns), "".join(map(text, cases)))
+    write("block_cases", records(cases), "".join(map(text, cases)))
 
 
 if __name__ == "__main__":

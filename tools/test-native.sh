@@ -1,6 +1,6 @@
 #!/usr/bin/env bash
 # test-native.sh: proves and builds the archive, and calls it from C and Rust on this machine: the header as C11 and C++17, the
-# Rust crate's tests, its example on two samples, the C example, and the C driver on the oracle's answers of crates/replay, plain
+# Rust crate's tests, its examples on samples, the C example, and the C driver on the oracle's answers of crates/replay, plain
 # and under the address and undefined-behaviour sanitizers. On Arm all this is done with the native archive of native-lib.sh; then
 # the C example and the driver are also compiled for x86-64, linked with the archive that is shipped, and run by the kit's emulator.
 # Needs rt, a C and a C++ compiler (CC, CXX), cargo and xxd; on Arm clang too. Its last line is 'test-native.sh: all is well'.
@@ -35,22 +35,31 @@ export MERINOVAULT_LIB_DIR=$PWD/target/native
 cargo test --offline --manifest-path rust/Cargo.toml
 say "the Rust crate's tests pass"
 
-# The Rust example, given a sample, prints this text and ends with this status.
-tells() { # TEXT STATUS NAME [WORD ..]
+# A Rust example, given these words and the bytes of standard input, prints this text and ends with this status.
+tells() { # TEXT STATUS EXAMPLE [WORD ..]
   local status=0
-  samples/hex.sh "samples/$3.hex" |
-    cargo run --quiet --offline --manifest-path rust/Cargo.toml --example pack -- "${@:4}" - >"$made/told" || status=$?
+  cargo run --quiet --offline --manifest-path rust/Cargo.toml --example "$3" -- "${@:4}" - >"$made/told" || status=$?
   cmp "$made/told" "$1"
-  [ "$status" -eq "$2" ] || { say "the Rust example ends with status $status, not $2: $3 ${*:4}"; exit 1; }
+  [ "$status" -eq "$2" ] || { say "the Rust example ends with status $status, not $2: ${*:3}"; exit 1; }
 }
-for name in reject_falls_into_accept reject_is_rejected; do
+for name in reject_falls_into_accept reject_is_rejected end_in_the_middle; do
+  samples/hex.sh "samples/$name.hex" >"$made/$name.sheet"
   sed '1s/^0 \(.*\)/Done: a block of \1 bytes/' "samples/$name.out" >"$made/$name"
-  tells "$made/$name" 0 "$name"
+  tells "$made/$name" 0 pack <"$made/$name.sheet"
 done
-tells "$made/reject_is_rejected" 0 reject_is_rejected --strict
-tells samples/reject_falls_into_accept.strict.out 1 reject_falls_into_accept --strict
-tells /dev/null 2 reject_is_rejected --other 2>/dev/null
-say "the Rust example tells of two samples what it must, in both modes"
+tells "$made/reject_is_rejected" 0 pack --strict <"$made/reject_is_rejected.sheet"
+tells samples/reject_falls_into_accept.strict.out 1 pack --strict <"$made/reject_falls_into_accept.sheet"
+tells /dev/null 2 pack --other </dev/null 2>/dev/null
+say "the Rust example pack tells of three samples what it must, of two in strict mode too"
+
+# The block of a sample, whole and without its last byte.
+sed 1d samples/end_in_the_middle.out | xxd -r -p >"$made/block"
+head -c -1 "$made/block" >"$made/cut"
+text='byte 22 of the block: the step that begins here passes the end, or the block ends here without an End as its last step'
+tells <(echo 'Done: 6 steps') 0 step <"$made/block"
+tells <(echo "13 Unclean, value 22: $text") 1 step <"$made/cut"
+tells /dev/null 2 step --other </dev/null 2>/dev/null
+say "the Rust example step goes past an End in the middle of a block, and tells when the last End is missing"
 
 say "the C example and the driver, plain and under the sanitizers:"
 run() { "$@"; }

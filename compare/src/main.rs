@@ -1,10 +1,12 @@
 //! `compare [SHEETS]` packs generated sheets by the C entry and by the oracle, a million unless told otherwise, each in both
-//! modes: number, value, block, and every byte that must keep its value. It prints counts by answer and mode, and the smallest
-//! sheet that is answered differently.
+//! modes: number, value, block, and every byte that must keep its value. It steps through each sheet and each block by the C
+//! entry and by the oracle's plain stepper; a block must be clean. It prints counts by answer and mode, and the smallest sheet
+//! that is answered differently.
 
-use merinovault::{Mode, pack};
+use merinovault::{Mode, pack, step};
 use oracle::answer::{self, Answer, number, value};
 use oracle::generate::{Family, questions};
+use oracle::steps::{self, Stepped};
 use oracle::stream::Question;
 use std::process::ExitCode;
 
@@ -26,6 +28,9 @@ struct Counts {
     sheets: u64,
     /// By number, in each of the modes.
     answers: [[u64; MODES.len()]; 15],
+    /// Sheets and blocks that were stepped through, and those of them that are clean.
+    stepped: u64,
+    clean: u64,
     /// Answers that differ.
     differences: u64,
     /// The smallest sheet that is answered differently, its room and what differs.
@@ -39,12 +44,35 @@ impl Counts {
         let sheet = &question.sheet;
         let room = (question.room as usize).min(3 * sheet.len() + 64);
         self.sheets += 1;
+        self.compare_steps(sheet, room, None);
         for (column, (name, ours, theirs)) in MODES.into_iter().enumerate() {
             let theirs = oracle::pack::pack(sheet, theirs, room);
             self.answers[usize::from(number(&theirs))][column] += 1;
             if let Some(what) = self.difference(sheet, ours, room, &theirs) {
                 self.differs(sheet, room, format!("{name}: {what}"));
             }
+            // A strict block is the same bytes.
+            if ours == Mode::PLAIN
+                && let Ok(block) = &theirs
+            {
+                self.compare_steps(sheet, room, Some(block));
+            }
+        }
+    }
+
+    /// Steps through a sheet's bytes, or through its block, by the C entry and by the oracle's stepper. A block must be clean.
+    fn compare_steps(&mut self, sheet: &[u8], room: usize, block: Option<&[u8]>) {
+        let (name, bytes) = block.map_or(("sheet", sheet), |block| ("block", block));
+        let ours = step(bytes).map_err(|unclean| unclean.place);
+        let theirs = steps::step(bytes);
+        self.stepped += 1;
+        self.clean += u64::from(theirs.is_ok());
+        if ours != theirs {
+            let what = format!("{}, not {}", told(ours), told(theirs));
+            self.differs(sheet, room, format!("stepping through the {name}: {what}"));
+        } else if block.is_some() && theirs.is_err() {
+            let what = format!("stepping through the block: {}, not clean", told(theirs));
+            self.differs(sheet, room, what);
         }
     }
 
@@ -111,6 +139,10 @@ fn main() -> ExitCode {
     print_answers(&counts.answers);
     println!("each sheet was packed in both modes; a difference is an answer that differs");
     println!(
+        "{} sheets and blocks stepped through, {} of them clean",
+        counts.stepped, counts.clean
+    );
+    println!(
         "{} sheets, {} differences",
         counts.sheets, counts.differences
     );
@@ -120,6 +152,14 @@ fn main() -> ExitCode {
     let hex: Vec<String> = sheet.iter().map(|b| format!("{b:02X}")).collect();
     println!("smallest, at room {room}: {what}\n{}", hex.join(" "));
     ExitCode::FAILURE
+}
+
+/// Number and value of an answer of stepping.
+fn told(stepped: Stepped) -> String {
+    match stepped {
+        Ok(steps) => format!("0 {steps}"),
+        Err(place) => format!("13 {place}"),
+    }
 }
 
 /// A line for each number that was met.

@@ -1,11 +1,12 @@
 //! The Rust ActionEncoder, as it stands, behind a reader of sheets of its own; and a generator of sheets.
-//! Document 01 gives the sheet, the answers and their order, document 02 strict mode. Nothing here leans on anything in
-//! `crates/`.
+//! Document 01 gives the sheet, the answers and their order, document 02 strict mode and stepping. Nothing here leans on
+//! anything in `crates/`.
 
 pub mod answer;
 pub mod generate;
 pub mod pack;
 pub mod sheet;
+pub mod steps;
 pub mod stream;
 
 mod branches;

@@ -1,23 +1,20 @@
 //! Packs a sheet and prints the answer in words: `pack [--strict] FILE`, where - is standard input.
 //!
 //! Its status is 0 for a block, 1 for a refusal, so that a build stops, and 2 for wrong usage or a file that cannot be read.
+mod common;
+use common::read;
 use merinovault::{Mode, pack};
-use std::io::Read;
-use std::path::{Path, PathBuf};
+use std::env;
+use std::path::PathBuf;
 use std::process::ExitCode;
-use std::{env, fs, io};
 
 fn main() -> ExitCode {
     let Some((mode, file)) = arguments() else {
         eprintln!("usage: pack [--strict] FILE, where - is standard input");
         return ExitCode::from(2);
     };
-    let sheet = match read(&file) {
-        Ok(sheet) => sheet,
-        Err(error) => {
-            eprintln!("{}: {error}", file.display());
-            return ExitCode::from(2);
-        }
+    let Some(sheet) = read(&file) else {
+        return ExitCode::from(2);
     };
     // A block is never longer than this.
     let mut out = vec![0; 3 * sheet.len()];
@@ -48,15 +45,6 @@ fn arguments() -> Option<(Mode, PathBuf)> {
     }
     let [file] = <[PathBuf; 1]>::try_from(files).ok()?;
     Some((mode, file))
-}
-
-fn read(file: &Path) -> io::Result<Vec<u8>> {
-    if file.as_os_str() != "-" {
-        return fs::read(file);
-    }
-    let mut sheet = vec![];
-    io::stdin().read_to_end(&mut sheet)?;
-    Ok(sheet)
 }
 
 /// Two upper-case digits a byte, 16 bytes a line.

@@ -60,7 +60,21 @@ pub fn pack(sheet: &[u8], mode: Mode, out: &mut [u8]) -> Result<usize, Refusal> 
     }
 }
 
-/// Steps through a block, an opcode and its payload at a time, and returns the number of steps to the End that is its last byte.
+/// Steps through a block to its last byte, and returns the number of all steps if the last is an End, byte 00.
+///
+/// A step is one byte for an opcode under 0x80; else it is 3 bytes and as many more as the two bytes after the opcode say,
+/// little-endian, so it goes straight into bodies. An End may stand in the middle too, with a branch past it.
+///
+/// ```
+/// use merinovault::{Unclean, step};
+///
+/// // If, past the End that follows it; End; Play; End.
+/// let block = [0x9D, 2, 0, 1, 0, 0, 6, 0];
+/// assert_eq!(step(&block), Ok(4));
+/// // Here the last step is Play, and here the step of If passes the end.
+/// assert_eq!(step(&block[..7]), Err(Unclean { place: 7 }));
+/// assert_eq!(step(&block[..4]), Err(Unclean { place: 0 }));
+/// ```
 pub fn step(block: &[u8]) -> Result<usize, Unclean> {
     let mut value = [0; VALUE_LEN];
     let number = raw::step(block, &mut value);

@@ -222,22 +222,28 @@ impl fmt::Display for Refusal {
 
 impl Error for Refusal {}
 
-/// A block that does not step cleanly to one End at its last byte: document 01's answer 13.
+/// A block that is not stepped cleanly to an End as its last step: answer 13, by the rule of document 02.
 #[derive(Clone, Copy, Debug, PartialEq, Eq, Hash)]
 pub struct Unclean {
-    /// The place after the first End, of an opcode whose step passes the end, or the length of a block without an End.
+    /// The place of an opcode whose step passes the end, or whose two length bytes are not all there; the block's length if its
+    /// last step is no End; 0 if the block is empty.
     pub place: usize,
 }
 
 impl Unclean {
     pub(crate) const NUMBER: u32 = 13;
 
-    /// The answer's number in document 01.
+    /// The answer's number.
     pub fn number(&self) -> u32 {
         Self::NUMBER
     }
 
-    /// The answer's value in document 01.
+    /// The answer's name.
+    pub fn name(&self) -> &'static str {
+        "Unclean"
+    }
+
+    /// The answer's value.
     pub fn value(&self) -> i64 {
         self.place as i64
     }
@@ -247,7 +253,7 @@ impl fmt::Display for Unclean {
     fn fmt(&self, f: &mut fmt::Formatter<'_>) -> fmt::Result {
         write!(
             f,
-            "byte {} of the block: stepping does not come to an End that is the last byte",
+            "byte {} of the block: the step that begins here passes the end, or the block ends here without an End as its last step",
             self.place
         )
     }

@@ -280,17 +280,32 @@ fn stepping() {
     for (main, _) in sums(Mode::PLAIN) {
         assert!(step(&taken_plain(&sheet(&main))).is_ok());
     }
-    assert_eq!(step(&[0]), Ok(1));
-    assert_eq!(step(&[0x99, 2, 0, 5, 0, 0x94, 2, 0, 1, 0, 6, 0]), Ok(4));
-    assert_eq!(step(&[0x80, 0, 0, 0]), Ok(2));
-    // no End; a step past the end; length bytes that are not there; bytes after the first End
-    let unclean: [(&[u8], usize); 6] = [
+    // If, to the action past an End
+    let past = body(&[(0, 2)], &[&[0x9D, 0, 0], &[0], PLAY]);
+    assert_eq!(step(&taken(&sheet(&past))), Ok(4));
+    // an End alone; an End in the middle; opcodes that are not listed; straight into a body
+    let clean: [(&[u8], usize); 6] = [
+        (&[0], 1),
+        (&[0, 0], 2),
+        (&[0x9E, 0, 0, 0, 0x17, 0], 4),
+        (&[1, 0], 2),
+        (&[0x80, 0, 0, 0], 2),
+        (&[0x99, 2, 0, 5, 0, 0x94, 2, 0, 1, 0, 6, 0], 4),
+    ];
+    for (block, steps) in clean {
+        assert_eq!(step(block), Ok(steps));
+    }
+    // no step; a last step that is no End, also where the last byte is 00; a step past the end; length bytes that are not there
+    let unclean: [(&[u8], usize); 9] = [
         (&[], 0),
+        (&[0x17], 1),
         (&[0x17, 0x17], 2),
+        (&[0, 0x17], 2),
+        (&[0x80, 1, 0, 0], 4),
+        (&[0x96, 5, 0, 1], 0),
         (&[0x17, 0x9E, 1, 0], 1),
         (&[0x17, 0x9E, 0], 1),
-        (&[0, 0], 1),
-        (&[0x9E, 0, 0, 0, 0x17, 0], 4),
+        (&[0, 0x80], 1),
     ];
     for (block, place) in unclean {
         let found = step(block).expect_err("unclean");

@@ -71,9 +71,11 @@ fn refusals() {
 
 #[test]
 fn unclean() {
-    let error: &dyn Error = &Unclean { place: 3 };
+    let unclean = Unclean { place: 3 };
+    assert_eq!(unclean.name(), "Unclean");
+    let error: &dyn Error = &unclean;
     assert_eq!(
         error.to_string(),
-        "byte 3 of the block: stepping does not come to an End that is the last byte"
+        "byte 3 of the block: the step that begins here passes the end, or the block ends here without an End as its last step"
     );
 }

@@ -12,6 +12,8 @@ pub mod Judge
 pub mod Cut
 pub mod Pack
 pub mod Step
+pub mod StepSums
+pub mod Stepped
 pub mod Stepping
 pub mod Sums
 pub mod Lengths

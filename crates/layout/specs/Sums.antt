@@ -7,7 +7,7 @@ use mathlib.Core.Option.{some}
 use mathlib.Core.List.{List, [], _∷_, _++_}
 use lib.ListN.{length}
 use lib.IntN.{ℤ, pos}
-use Rattle.layout.specs.Lists.{each, pick, firstWith}
+use Rattle.layout.specs.Lists.{All, each, pick, firstWith}
 use Rattle.layout.specs.Numbers.{le16, le32, bit}
 use Rattle.layout.specs.Answers.{NeverRecorded, JumpOffsetOverflow, Done, refusalNumber, refusalValue, number, value, lengthOf}
 use Rattle.layout.specs.OpCode.{smallByte, byte, smallOpCodes, opcodes, opcodeOf}
@@ -98,27 +98,19 @@ byMode =
 abbrev pub Holds : Sum → Type 0
 Holds (sum main block) = pack plainMode (sheetOf main) (length block) ≡ Done block
 
-abbrev pub AllHold : List Sum → Type 0
-AllHold [] = Unit {0}
-AllHold (x ∷ xs) = Holds x × AllHold xs
-
 -- a case is answered by its number and value
 abbrev pub Answers : Case → Type 0
 Answers (case mode main room n v) = (number (pack mode (sheetOf main) room) ≡ n) × (value lengthOf (pack mode (sheetOf main) room) ≡ v)
 
-abbrev pub AllAnswer : List Case → Type 0
-AllAnswer [] = Unit {0}
-AllAnswer (x ∷ xs) = Answers x × AllAnswer xs
-
 -- both tables, so that what is unfolded is listed once
-both : AllHold byHand × AllAnswer byMode
+both : All Holds byHand × All Answers byMode
 unfolding byMode byHand sheetOf each pick firstWith le16 le32 bit smallByte byte smallOpCodes opcodes opcodeOf kindByte pushKinds kindOf edition1 ifWhole ifWithin tested repeat firstZero ifNoZero ifNothingLeft readU8 readU16 readU32 readU64 readBytes readFlag readSpelling readCounted hasCatch hasFinally hasRegister isShape readString readValueOf readValueIf readValue readParam readLabel readEntries readCatchTarget readCatch readFinally readTry readFields readFieldsIf readAction readActions readBodyWith readBody readMain mapValue mapParam mapFlat mapOwner mapTarget mapAction zeroEnded stringsBytes constantBytes doubleBytes pushBytes pushesBytes opcode gotoFrame2Bytes getUrl2Bits payload ownerOpCode paramsBytes ownerFields ownerPayload branchOpCode catchShape finallyShape catchName tryPayload headed framed moved eventIf payloadTest bodyTest labelsAt events later recordIf lookup distanceBits branchBits blockBytes blockSize size trace bytes tooLong distance isNear farUnless judged orElse refusalIf barred judgedIn firstRefused judge trailerDistance isMarked cutIf cutAt cutIfTrailer cutIfShort cut unless ifRoom packTree spelling packRead packCut pack output number value lengthOf refusalNumber refusalValue
 both = ((refl, (refl, (refl, (refl, (refl, (refl, (refl, (refl, (refl, (refl, (refl, (refl, tt)))))))))))), ((refl, refl), ((refl, refl), ((refl, refl), ((refl, refl), ((refl, refl), ((refl, refl), ((refl, refl), ((refl, refl), tt)))))))))
 
-pub sums-hold : AllHold byHand
+pub sums-hold : All Holds byHand
 sums-hold = both .0
 
-pub cases-answer : AllAnswer byMode
+pub cases-answer : All Answers byMode
 cases-answer = both .1
 
 -- ---- "first branch in writing order": label 0 has no record, label 1 one that both branches are too far from

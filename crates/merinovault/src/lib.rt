@@ -26,7 +26,7 @@ pub extern "C" fn merinovault_pack(
     number_of(a)
 }
 
-// Steps through a block.
+// Steps through a block to its last byte, and tells whether its last step is an End.
 #[no_mangle]
 pub extern "C" fn merinovault_step(block: &[u8], value: &mut [u8]) -> u32
     ensures { λ r. ⌜ StepCalled (now (block .entry)) (now (value .entry)) r (now (value .exit)) ⌝ }

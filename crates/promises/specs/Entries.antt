@@ -1,15 +1,18 @@
 -- What a C-callable entry promises, from its contract, `PackCalled` or `StepCalled`: its value is read back from eight bytes, and so
 -- every theorem of Calls holds of the packer's entry. Assumes nothing.
-use mathlib.Core.Path.{_≡_, ap, _∙_}
+use mathlib.Core.Path.{_≡_, refl, sym, ap, _∙_, subst}
 use Prim.Native.Nat.{ℕ}
+use native.Mathlib.Omega.{arith}
 use mathlib.Core.List.{List}
 use lib.ListN.{length}
 use lib.IntN.{ℤ, pos}
 use Rattle.layout.specs.Numbers.{u64At}
-use Rattle.layout.specs.Answers.{Answer, value, lengthOf, Told, valueBytes}
+use Rattle.layout.specs.Answers.{Answer, Done, refusalNumber, number, value, lengthOf, Told, valueBytes}
 use Rattle.layout.specs.Judge.{Mode}
 use Rattle.layout.specs.Pack.{pack, Outcome}
 use Rattle.layout.specs.Step.{step}
+use Rattle.layout.specs.Stepped.{Stepped, IsClean}
+use Rattle.layout.specs.Stepping.{stepped-step, done-clean, AtMost, made, unclean, step-most}
 use Rattle.layout.specs.Order.{IsI64, signed64, value-back}
 use Rattle.laws.specs.Values.{pack-i64, step-i64}
 use Rattle.merinovault.specs.Calls.{ifEight, PackCalled, StepCalled}
@@ -60,6 +63,21 @@ module _ {s v : List ℕ} {n : ℕ} {v′ : List ℕ} (h : StepCalled s v n v′
     -- number and value are those of the stepping check
     pub step-told : Told pos (step s) n (valueIn v′)
     step-told = record { is-number = h .is-number ∙ eight v _ _ is-eight; is-value = step-value }
+
+    -- and so those of the answer that is due
+    pub step-due : {a : Answer ℕ} → Stepped s a → Told pos a n (valueIn v′)
+    step-due g = subst (λ (a : Answer ℕ). Told pos a n (valueIn v′)) (stepped-step g) step-told
+
+    -- 0 with k is told only of k steps of which the last is an End
+    pub done-is-clean : (k : ℕ) → n ≡ 0 → valueIn v′ ≡ pos k → IsClean s k
+    done-is-clean k e f = go (step-most s) refl (sym (step-told .is-number) ∙ e) (sym step-value ∙ f)
+      where
+        go : {a : Answer ℕ} → AtMost (length s) a → step s ≡ a → number a ≡ 0 → value pos a ≡ pos k → IsClean s k
+        go (made {k = j} l) g i x =
+            unfold value in
+            let same : j ≡ k = cc in
+            done-clean s k (g ∙ ap Done same)
+        go (unclean l) g i x = unfold number refusalNumber in absurd (omega (arith, i))
 
   pub step-other : (length v ≡ 8 → ⊥) → (n ≡ 11) × (v′ ≡ v)
   step-other e = (h .is-number ∙ other v _ _ e, h .is-value ∙ other v _ _ e)

@@ -1,4 +1,4 @@
-// The stepping check: steps through a block, straight into bodies, and says whether it ends cleanly.
+// The stepping check: steps through a block to its last byte, straight into bodies, and says whether its last step is an End.
 ghost use mathlib.Core.Path.{_≡_};
 ghost use Prim.Native.Nat.{_<_};
 ghost use lib.ListN.{length};
@@ -6,9 +6,8 @@ ghost use Rattle.layout.specs.Step.{step};
 ghost use Rattle.step.specs.Steps.{lookAt, told};
 use fields::u16_at;
 
-// What stands at a place: an End, an opcode that reaches as far as a place, or one whose step passes the end.
+// How far the step at a place goes: to the place after it, or past the end.
 pub enum Look {
-    End,
     Next(usize),
     Cut,
 }
@@ -23,11 +22,7 @@ fn look_at(block: &[u8], at: usize) -> Look
     requires { ⌜ at < length (now block) ⌝ }
     ensures { λ r. ⌜ r ≡ lookAt (now (block .entry)) at ⌝ }
 {
-    let op = block[at];
-    if op == 0 {
-        return Look::End;
-    }
-    if op < 0x80 {
+    if block[at] < 0x80 {
         return Look::Next(at + 1);
     }
     let left = block.len() - at;
@@ -41,24 +36,24 @@ fn look_at(block: &[u8], at: usize) -> Look
     Look::Next(at + (3 + n))
 }
 
-// Steps from byte 0 to the first End.
+// Steps from byte 0 to the last byte. `ended` says whether the last step was an End, which may stand in the middle too, with a
+// branch past it.
 pub fn step(block: &[u8]) -> Stepped
     ensures { λ r. ⌜ told r ≡ step (now (block .entry)) ⌝ }
 {
     let mut at = 0;
     let mut count = 0;
+    let mut ended = false;
     let answer = loop {
         if block.len() <= at {
-            break Stepped::Unclean(at);
+            if ended {
+                break Stepped::Done(count);
+            }
+            break Stepped::Unclean(block.len());
         }
         match look_at(block, at) {
-            Look::End => {
-                if at + 1 == block.len() {
-                    break Stepped::Done(count + 1);
-                }
-                break Stepped::Unclean(at + 1);
-            }
             Look::Next(next) => {
+                ended = block[at] == 0;
                 at = next;
                 count += 1;
             }
