@@ -136,7 +136,8 @@ static void step_all(const uint8_t *block, size_t len, uint8_t *end, size_t line
     }
 }
 
-/* Steps through every block of up to 4 of these bytes: End, opcodes on both sides of 0x80, lengths that fit and that do not. */
+/* Steps through every block of up to 4 of these bytes: End, opcodes on both sides of 0x80, lengths that fit and that do not. A
+ * fault is told as of line 0. */
 static void step_short(uint8_t *end)
 {
     static const uint8_t bytes[] = {0x00, 0x01, 0x02, 0x17, 0x7F, 0x80, 0xFF};
@@ -213,52 +214,63 @@ static size_t unroll(size_t len, uint8_t *bytes)
     return at;
 }
 
+/* What the records are unrolled into, and the ends of what is lent to the entries. */
+struct space {
+    uint8_t *copy, *block, *sheet_end, *out_end, *block_end;
+};
+
+/* Whether packing the sheet of a record gives what its head says, and its block; steps through the sheet and the block too. */
+static bool agrees(const uint8_t *head, const struct space *space, size_t line)
+{
+    size_t room = u32_at(head + 8), n = unroll(u32_at(head), space->copy), m = unroll(u32_at(head + 4), space->block);
+    if (room > SPACE || head[12] > STRICT || head[13] >= NUMBERS)
+        stop("a record with a room of more than 4 MiB, or with a mode or an answer that is none");
+    bool strict = head[12] == STRICT;
+    uint8_t *sheet = memcpy(space->sheet_end - n, space->copy, n), *out = space->out_end - GUARD - room;
+
+    /* A byte that is written with what it holds already shows in the other of two fills. */
+    struct answer first = pack(sheet, n, strict, out, room, 0x5A), a = pack(sheet, n, strict, out, room, 0xA5);
+    if (first.number != a.number || first.value != a.value)
+        fault(line, "a second call tells something else");
+    if (first.changed + a.changed != 0)
+        fault(line, "a byte changed that must keep its value");
+    if (memcmp(sheet, space->copy, n) != 0)
+        fault(line, "the sheet changed");
+
+    size_t written = a.number == MERINOVAULT_DONE ? (size_t)a.value : 0;
+    bool same = a.number == head[13] && a.value == number_in(head + 14) && written == m && memcmp(out, space->block, m) == 0;
+    step(sheet, n, line);
+    if (a.number == MERINOVAULT_DONE)
+        step_all(out, written, space->block_end, line);
+    return same;
+}
+
 int main(int argc, char **argv)
 {
     if (argc > 1)
         stop("usage: driver < LIST");
     (void)argv;
+    struct space space = {malloc(SPACE), malloc(SPACE), memory_end(SPACE), memory_end(GUARD + SPACE + GUARD), memory_end(SPACE)};
+    if (space.copy == NULL || space.block == NULL)
+        stop("no memory");
     edges(false);
     edges(true);
+    step_short(space.block_end);
 
-    uint8_t *sheet_end = memory_end(SPACE), *out_end = memory_end(GUARD + SPACE + GUARD), *block_end = memory_end(SPACE);
-    uint8_t *copy = malloc(SPACE), *block = malloc(SPACE), head[HEAD];
-    if (copy == NULL || block == NULL)
-        stop("no memory");
-    step_short(block_end);
+    uint8_t head[HEAD];
     size_t counts[NUMBERS] = {0}, differ = 0, first_to_differ = 0;
     for (size_t line = 1; take(head, HEAD); line++) {
-        size_t room = u32_at(head + 8), n = unroll(u32_at(head), copy), m = unroll(u32_at(head + 4), block);
-        uint8_t mode = head[12], number = head[13];
-        if (room > SPACE || mode > STRICT || number >= NUMBERS)
-            stop("a record with a room of more than 4 MiB, or with a mode or an answer that is none");
-        bool strict = mode == STRICT;
-        uint8_t *sheet = memcpy(sheet_end - n, copy, n), *out = out_end - GUARD - room;
-
-        /* A byte that is written with what it holds already shows in the other of two fills. */
-        struct answer first = pack(sheet, n, strict, out, room, 0x5A), a = pack(sheet, n, strict, out, room, 0xA5);
-        if (first.number != a.number || first.value != a.value)
-            fault(line, "a second call tells something else");
-        if (first.changed + a.changed != 0)
-            fault(line, "a byte changed that must keep its value");
-        if (memcmp(sheet, copy, n) != 0)
-            fault(line, "the sheet changed");
-
-        size_t written = a.number == MERINOVAULT_DONE ? (size_t)a.value : 0;
-        bool agrees = a.number == number && a.value == number_in(head + 14) && written == m && memcmp(out, block, m) == 0;
-        counts[number]++;
-        differ += !agrees;
-        if (!agrees && first_to_differ == 0)
+        bool same = agrees(head, &space, line);
+        counts[head[13]]++;
+        differ += !same;
+        if (!same && first_to_differ == 0)
             first_to_differ = line;
-        step(sheet, n, line);
-        if (a.number == MERINOVAULT_DONE)
-            step_all(out, written, block_end, line);
     }
     for (size_t number = 0; number < NUMBERS; number++)
         if (counts[number] != 0)
             printf("%zu %zu\n", number, counts[number]);
     printf("differ %zu, first %zu\n", differ, first_to_differ);
-    free(copy);
-    free(block);
+    free(space.copy);
+    free(space.block);
     return status;
 }

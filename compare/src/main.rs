@@ -31,7 +31,7 @@ struct Counts {
     /// Sheets and blocks that were stepped through, and those of them that are clean.
     stepped: u64,
     clean: u64,
-    /// Answers that differ.
+    /// Answers that differ, and blocks that are not clean.
     differences: u64,
     /// The smallest sheet that is answered differently, its room and what differs.
     smallest: Option<(Vec<u8>, usize, String)>,
@@ -137,13 +137,13 @@ fn main() -> ExitCode {
     }
     println!("random families: seeds {SEED} to {}", seed - 1);
     print_answers(&counts.answers);
-    println!("each sheet was packed in both modes; a difference is an answer that differs");
+    println!("each sheet was packed in both modes");
     println!(
         "{} sheets and blocks stepped through, {} of them clean",
         counts.stepped, counts.clean
     );
     println!(
-        "{} sheets, {} differences",
+        "{} sheets, {} differences: answers that differ, or blocks that are not clean",
         counts.sheets, counts.differences
     );
     let Some((sheet, room, what)) = counts.smallest else {

@@ -1,4 +1,4 @@
--- The stepping check answers what `Stepped` says and nothing else; its allowance of steps is never used up; and it counts no
+-- The stepping check answers what `Stepped` says and nothing else; its allowance of steps is always enough; and it counts no
 -- further than there are bytes. Assumes nothing.
 use mathlib.Core.Path.{_≡_, refl, sym, ap, _∙_, subst}
 use Prim.Native.Nat.{ℕ, zero, suc, _+_, _-_, _*_, _≤_, _<_}
