@@ -27,7 +27,11 @@ returns : tie.Need-returns
 unfolding listed isSome opcodeOf opcodes smallOpCodes byte smallByte each firstWith pick word bit
 returns c =
     let op : ℕ = c .before .before .args .op in
-    ⊎-elim (λ s. in-word 0 op (s .1) (s .0 .keys1)) (⊎-elim (λ s. in-word 1 op (s .1) (s .0 .keys2)) (⊎-elim (λ s. in-word 2 op (s .1) (s .0 .keys3)) (λ s. in-word 3 op (s .1) (omega (arith, s .0 .rest))))) (c .before .match .came)
+    ⊎-elim (λ s. in-word 0 op (s .1) (s .0 .keys1))
+    (⊎-elim (λ s. in-word 1 op (s .1) (s .0 .keys2))
+    (⊎-elim (λ s. in-word 2 op (s .1) (s .0 .keys3))
+    (λ s. in-word 3 op (s .1) (omega (arith, s .0 .rest)))))
+    (c .before .match .came)
 
 pub is-listed-spec : {M : Type 1} → statement M
 is-listed-spec = tie.close (tie.spec cast-result shr-result returns)
