@@ -12,22 +12,23 @@ unfoldable pub word : (ℕ → Bool) → ℕ → ℕ → ℕ
 word f i zero = 0
 word f i (suc n) = bit (f i) + 2 * word f (suc i) n
 
--- the lowest bit of a word, and what stands above it
+-- the lowest bit is 1 if the test passes at the first number
 lowest : (t : Bool) (w : ℕ) → eqb ((bit t + 2 * w) / 1 % 2) 1 ≡ t
 unfolding bit
 lowest true w =
-    let one : (1 + 2 * w) / 1 % 2 ≡ 1 = omega arith in
-    rw one
+    let low : (1 + 2 * w) / 1 % 2 ≡ 1 = omega arith in
+    rw low
 lowest false w =
-    let none : (0 + 2 * w) / 1 % 2 ≡ 0 = omega arith in
-    rw none
+    let low : (0 + 2 * w) / 1 % 2 ≡ 0 = omega arith in
+    rw low
 
+-- above it stands the word of the other numbers
 above : (t : Bool) (w : ℕ) → (bit t + 2 * w) / 2 ≡ w
 unfolding bit
 above true w = omega arith
 above false w = omega arith
 
--- the bit of a number is 1 if the test passes there
+-- bit k is 1 if the test passes at i + k
 pub word-at : (f : ℕ → Bool) (i n k j : ℕ) → k < n → i + k ≡ j → eqb (word f i n / 2 ^ k % 2) 1 ≡ f j
 unfolding word
 word-at f i zero k j l e = absurd (omega arith)
