@@ -51,16 +51,6 @@ then-stops size pos s p x k {r} {f} {q} e h =
 
 -- ---- payloads without a body
 
--- "GotoFrame2 3, or 1 when bias is 0"
-pub goto-zero : (n : ℕ) → n ≡ 0 → gotoFrame2Length n ≡ 1
-unfolding gotoFrame2Length
-goto-zero n e = rw e
-
-pub goto-bias : (n : ℕ) → (n ≡ 0 → ⊥) → gotoFrame2Length n ≡ 3
-unfolding gotoFrame2Length
-goto-bias zero h = absurd (h refl)
-goto-bias (suc n) h = refl
-
 module _ (b : List ℕ) (at pos : ℕ) where
   pub wait-out : length b < at + 2 → scan.Stops fault.CutShort at ≡ scanned flatSize pos (readWaitForFrame b (placed at))
   unfolding readWaitForFrame faultOf
@@ -78,7 +68,7 @@ module _ (b : List ℕ) (at pos : ℕ) where
   unfolding readGotoFrame2 faultOf
   goto-out h = stops flatSize pos (ap (λ z. chain z (λ n q. chain (readFlag b q) (λ k r. got (GotoFrame2 n k) r))) (reading.u16-out b at h))
 
-  module _ (n m : ℕ) (r : Scan) (h : at + 2 ≤ length b) (e : n ≡ u16At b at) (f : gotoFrame2Length n ≡ m) where
+  module _ (n m : ℕ) (r : Scan) (h : at + 2 ≤ length b) (e : n ≡ u16At b at) (f : m ≡ gotoFrame2Length n) where
     pub goto-in : r ≡ scanned (λ _. 0) (pos + m) (readFlag b (placed (at + 2))) → r ≡ scanned flatSize pos (readGotoFrame2 b (placed at))
     unfolding readGotoFrame2 flatSize mapFlat payloadLength
     goto-in g =
@@ -88,16 +78,16 @@ module _ (b : List ℕ) (at pos : ℕ) where
 
 module _ (b : List ℕ) (pos : ℕ) where
   -- GetUrl2: after the two flags, the method is measured as the whole
-  pub url2-in : (v t : Bool) (w q : ℕ) (r : Scan) → w ≡ pos → r ≡ scanned (λ _. 0) (w + 1) (readBytes b 1 (placed q))
+  pub url-2-in : (v t : Bool) (w q : ℕ) (r : Scan) → w ≡ pos → r ≡ scanned (λ _. 0) (w + 1) (readBytes b 1 (placed q))
       → r ≡ scanned flatSize pos (chain (readU8 b (placed q)) (λ m u. got (GetUrl2 v t m) u))
   unfolding readBytes readU8 flatSize mapFlat payloadLength
-  url2-in v t w q r f e = e ∙ number-as _ _ _ _ _ _ ∙ scanned-as flatSize pos (GetUrl2 v t) (λ _. 0) (w + 1) (readU8 b (placed q)) (λ m. omega arith)
+  url-2-in v t w q r f e = e ∙ number-as _ _ _ _ _ _ ∙ scanned-as flatSize pos (GetUrl2 v t) (λ _. 0) (w + 1) (readU8 b (placed q)) (λ m. omega arith)
 
-  -- GetUrl: after the first string, the second
-  pub url-in : (s : Text) (w q : ℕ) (r : Scan) → w ≡ pos + stringSize s → r ≡ scanned stringSize w (readString edition1 b (placed q))
-      → r ≡ scanned flatSize pos (chain (readString edition1 b (placed q)) (λ t u. got (GetUrl s t) u))
+  -- GetUrl: two strings of lengths m and n, and the payload's length l
+  pub url-in : (s t : Text) (q u l m n : ℕ) {w : BytePosition} → readString edition1 b (placed q) ≡ got t (placed u) → stringSize s ≡ m + 1 → stringSize t ≡ n + 1 → l ≡ m + n + 2 → w .0 ≡ pos + l
+      → scan.Ends u w ≡ scanned flatSize pos (chain (readString edition1 b (placed q)) (λ t u. got (GetUrl s t) u))
   unfolding flatSize mapFlat payloadLength stringSize stringLength
-  url-in s w q r f e = e ∙ scanned-as flatSize pos (GetUrl s) stringSize w (readString edition1 b (placed q)) (λ t. omega arith)
+  url-in s t q u l m n e f g h k = ends flatSize pos {a = GetUrl s t} (rw e) (omega (arith, f, g, h, k))
 
 -- ---- lists of strings and of parameters, as the code scans them
 
@@ -182,23 +172,24 @@ unfolding total each namedSize stringSize stringLength mapParam paramLength
 params-total b [] = refl
 params-total b (functionParam r s ∷ ps) = omega (arith, params-total b ps)
 
-module _ (b : List ℕ) (pos : ℕ) (s : Text) (w q : ℕ) (f : w ≡ pos + stringSize s) where
-  pub function-in : (r : Scan) → r ≡ scanned (total (namedSize 0)) (w + 4) (readCounted b (readNamed b 0) (placed q))
+-- the code scans the parameters from a position w on: that of a function without any
+module _ (b : List ℕ) (pos : ℕ) (s : Text) (w q : ℕ) where
+  pub function-in : (r : Scan) → w ≡ pos + (stringSize s + 4) → r ≡ scanned (total (namedSize 0)) w (readCounted b (readNamed b 0) (placed q))
       → r ≡ scanned ownerSize pos (chain (readCounted b (readString edition1 b) (placed q)) (λ ps u. got (DefineFunction s ps) u))
   unfolding ownerSize mapOwner ownerLength stringSize stringLength
-  function-in r e =
+  function-in r f e =
       e
-      ∙ scanned-list (λ s. s) (readString edition1 b) (readNamed b 0) (named-plain b) b (namedSize 0) (w + 4) (placed q)
-      ∙ scanned-as ownerSize pos (DefineFunction s) (total (λ s. namedSize 0 s)) (w + 4) (readCounted b (readString edition1 b) (placed q)) (λ ps. omega (arith, strings-total ps))
+      ∙ scanned-list (λ s. s) (readString edition1 b) (readNamed b 0) (named-plain b) b (namedSize 0) w (placed q)
+      ∙ scanned-as ownerSize pos (DefineFunction s) (total (λ s. namedSize 0 s)) w (readCounted b (readString edition1 b) (placed q)) (λ ps. omega (arith, strings-total ps))
 
   -- DefineFunction2's registers and flags come after its parameters
-  pub function2-in : (ps : List (FunctionParamOf Text)) (x u : ℕ) (r : Scan) → x ≡ w + 4 + total (λ x. namedSize 1 (nameOf b x)) ps
-      → r ≡ scanned (λ _. 3) x (readRegisters b (placed u))
+  pub function-2-in : (ps : List (FunctionParamOf Text)) (x u : ℕ) (r : Scan) → w ≡ pos + (stringSize s + 7) → x ≡ w + total (λ x. namedSize 1 (nameOf b x)) ps
+      → r ≡ scanned (λ _. 0) x (readRegisters b (placed u))
       → r ≡ scanned ownerSize pos (chain (readU8 b (placed u)) (λ k v. chain (tested (λ f. ltb f 512) (readU16 b) v) (λ f z. got (DefineFunction2 s ps k f) z)))
   unfolding ownerSize mapOwner ownerLength stringSize stringLength readRegisters
-  function2-in ps x u r g e =
+  function-2-in ps x u r f g e =
       e
-      ∙ scanned-as ownerSize pos (λ (y : ℕ × ℕ). DefineFunction2 s ps (y .0) (y .1)) (λ _. 3) x (readRegisters b (placed u)) (λ y. omega (arith, params-total b ps))
+      ∙ scanned-as ownerSize pos (λ (y : ℕ × ℕ). DefineFunction2 s ps (y .0) (y .1)) (λ _. 0) x (readRegisters b (placed u)) (λ y. omega (arith, params-total b ps))
       ∙ ap (scanned ownerSize pos) (regroup (readU8 b (placed u)))
     where
       inner : (k : ℕ) (x : Read ℕ) → chain (chain {B = ℕ × ℕ} x (λ f z. got (k, f) z)) (λ y z. got (DefineFunction2 s ps (y .0) (y .1)) z) ≡ chain x (λ f z. got (DefineFunction2 s ps k f) z)
@@ -211,14 +202,14 @@ module _ (b : List ℕ) (pos : ℕ) (s : Text) (w q : ℕ) (f : w ≡ pos + stri
       regroup (bad f v) = refl
 
   -- the parameters, as the code scans them
-  pub params-scan : {r : Scan} → r ≡ scanned (total (namedSize 1)) (w + 4) (readCounted b (readNamed b 1) (placed q))
-      → r ≡ scanned (total (λ x. namedSize 1 (nameOf b x))) (w + 4) (readCounted b (readParam edition1 b) (placed q))
-  params-scan e = e ∙ scanned-list (nameOf b) (readParam edition1 b) (readNamed b 1) (named-param b) b (namedSize 1) (w + 4) (placed q)
+  pub params-scan : {r : Scan} → r ≡ scanned (total (namedSize 1)) w (readCounted b (readNamed b 1) (placed q))
+      → r ≡ scanned (total (λ x. namedSize 1 (nameOf b x))) w (readCounted b (readParam edition1 b) (placed q))
+  params-scan e = e ∙ scanned-list (nameOf b) (readParam edition1 b) (readNamed b 1) (named-param b) b (namedSize 1) w (placed q)
 
 -- ---- registers and flags
 
 module _ (b : List ℕ) (at pos : ℕ) where
-  pub registers-out : length b < at + 1 → scan.Stops fault.CutShort at ≡ scanned (λ _. 3) pos (readRegisters b (placed at))
+  pub registers-out : length b < at + 1 → scan.Stops fault.CutShort at ≡ scanned (λ _. 0) pos (readRegisters b (placed at))
   unfolding readRegisters faultOf
   registers-out h = stops _ pos (ap (λ z. chain {B = ℕ × ℕ} z (λ k v. chain (tested (λ f. ltb f 512) (readU16 b) v) (λ f z. got (k, f) z))) (reading.u8-out b at h))
 
@@ -227,22 +218,22 @@ module _ (b : List ℕ) (at pos : ℕ) where
     unfolding readRegisters
     registers-if x e = rw (reading.u8-in b at h, e)
 
-    pub flags-out : length b < at + 1 + 2 → scan.Stops fault.CutShort (at + 1) ≡ scanned (λ _. 3) pos (readRegisters b (placed at))
+    pub flags-out : length b < at + 1 + 2 → scan.Stops fault.CutShort (at + 1) ≡ scanned (λ _. 0) pos (readRegisters b (placed at))
     unfolding faultOf tested
     flags-out l = stops _ pos (registers-if (bad answers.CutShort (placed (at + 1))) (rw (reading.u16-out b (at + 1) l)))
 
     module _ (l : at + 1 + 2 ≤ length b) (n : ℕ) (e : n ≡ u16At b (at + 1)) where
-      pub flags-big : 511 < n → scan.Stops fault.BadField (at + 1) ≡ scanned (λ _. 3) pos (readRegisters b (placed at))
+      pub flags-big : 511 < n → scan.Stops fault.BadField (at + 1) ≡ scanned (λ _. 0) pos (readRegisters b (placed at))
       unfolding faultOf tested ifWithin
       flags-big k =
           let m : 512 ≤ u16At b (at + 1) = omega arith in
           stops _ pos (registers-if (bad answers.BadField (placed (at + 1))) (rw (reading.u16-in b (at + 1) l, le-ltb (u16At b (at + 1)) 512 m)))
 
-      pub flags-in : n ≤ 511 → scan.Ends (at + 1 + 2) (record { 0 = pos + 3 }) ≡ scanned (λ _. 3) pos (readRegisters b (placed at))
+      pub flags-in : n ≤ 511 → {w : BytePosition} → w .0 ≡ pos → scan.Ends (at + 1 + 2) w ≡ scanned (λ _. 0) pos (readRegisters b (placed at))
       unfolding tested ifWithin
-      flags-in k =
+      flags-in k f =
           let m : u16At b (at + 1) < 512 = omega arith in
-          ends _ pos (registers-if (got (u16At b (at + 1)) (placed (at + 1 + 2))) (rw (reading.u16-in b (at + 1) l, lt-ltb (u16At b (at + 1)) 512 m))) refl
+          ends _ pos (registers-if (got (u16At b (at + 1)) (placed (at + 1 + 2))) (rw (reading.u16-in b (at + 1) l, lt-ltb (u16At b (at + 1)) 512 m))) (omega (arith, f))
 
 -- ---- a Try's shape and target
 
@@ -258,17 +249,17 @@ module _ (b : List ℕ) (at pos : ℕ) where
     caught-if n c r e s i j = rw (reading.u8-in b at h, e, s, i, j)
 
     -- no catch: one zero byte
-    pub caught-none : (n : ℕ) → getD b at 0 ≡ n → isShape n ≡ true → hasCatch n ≡ false → scan.Ends (at + 1) (record { 0 = pos + 8 }) ≡ scanned caughtSize pos (readCaught b (placed at))
+    pub caught-none : (n : ℕ) {w : BytePosition} → getD b at 0 ≡ n → isShape n ≡ true → hasCatch n ≡ false → w .0 ≡ pos + 8 → scan.Ends (at + 1) w ≡ scanned caughtSize pos (readCaught b (placed at))
     unfolding readCatchTarget caughtSize targetSize stringSize stringLength spelling
-    caught-none n e s c = ends caughtSize pos (caught-if n false (hasRegister n) e s c refl) refl
+    caught-none n e s c f = ends caughtSize pos (caught-if n false (hasRegister n) e s c refl) f
 
     -- a name
-    pub caught-name : (n : ℕ) (r : Scan) → getD b at 0 ≡ n → isShape n ≡ true → hasCatch n ≡ true → hasRegister n ≡ false
-        → r ≡ scanned stringSize (pos + 7) (readString edition1 b (placed (at + 1))) → r ≡ scanned caughtSize pos (readCaught b (placed at))
+    pub caught-name : (n w : ℕ) (r : Scan) → getD b at 0 ≡ n → isShape n ≡ true → hasCatch n ≡ true → hasRegister n ≡ false → w ≡ pos + 7
+        → r ≡ scanned stringSize w (readString edition1 b (placed (at + 1))) → r ≡ scanned caughtSize pos (readCaught b (placed at))
     unfolding readCatchTarget caughtSize targetSize
-    caught-name n r e s c g m =
+    caught-name n w r e s c g f m =
         m
-        ∙ scanned-as caughtSize pos (λ t. (n, Variable t)) stringSize (pos + 7) (readString edition1 b (placed (at + 1))) (λ t. omega arith)
+        ∙ scanned-as caughtSize pos (λ t. (n, Variable t)) stringSize w (readString edition1 b (placed (at + 1))) (λ t. omega (arith, f))
         ∙ ap (scanned caughtSize pos) (sym (caught-if n true false e s c g ∙ regroup (readString edition1 b (placed (at + 1)))))
       where
         regroup : (x : Read Text) → chain {B = ℕ × CatchTargetOf Text} (chain {B = CatchTargetOf Text} x (λ t q. got (Variable t) q)) (λ t q. got (n, t) q) ≡ chain x (λ t q. got (n, Variable t) q)
@@ -276,13 +267,13 @@ module _ (b : List ℕ) (at pos : ℕ) where
         regroup (bad f q) = refl
 
     -- a register
-    pub caught-register : (n : ℕ) (r : Scan) → getD b at 0 ≡ n → isShape n ≡ true → hasCatch n ≡ true → hasRegister n ≡ true
-        → r ≡ scanned (λ _. 0) (pos + 8) (readBytes b 1 (placed (at + 1))) → r ≡ scanned caughtSize pos (readCaught b (placed at))
+    pub caught-register : (n w : ℕ) (r : Scan) → getD b at 0 ≡ n → isShape n ≡ true → hasCatch n ≡ true → hasRegister n ≡ true → w ≡ pos + 8
+        → r ≡ scanned (λ _. 0) w (readBytes b 1 (placed (at + 1))) → r ≡ scanned caughtSize pos (readCaught b (placed at))
     unfolding readCatchTarget caughtSize targetSize readBytes readU8
-    caught-register n r e s c g m =
+    caught-register n w r e s c g f m =
         m
         ∙ number-as _ _ _ _ _ _
-        ∙ scanned-as caughtSize pos (λ t. (n, Register t)) (λ _. 0) (pos + 8) (readU8 b (placed (at + 1))) (λ t. omega arith)
+        ∙ scanned-as caughtSize pos (λ t. (n, Register t)) (λ _. 0) w (readU8 b (placed (at + 1))) (λ t. omega (arith, f))
         ∙ ap (scanned caughtSize pos) (sym (caught-if n true true e s c g ∙ regroup (readU8 b (placed (at + 1)))))
       where
         regroup : (x : Read ℕ) → chain {B = ℕ × CatchTargetOf Text} (chain {B = CatchTargetOf Text} x (λ t q. got (Register t) q)) (λ t q. got (n, t) q) ≡ chain x (λ t q. got (n, Register t) q)

@@ -6,6 +6,7 @@ ghost use Rattle.positions.specs.Scanned.{scanned, Roomy};
 ghost use Rattle.action_fields.specs.Fields.{readWaitForFrame, readGotoFrame2, readGetUrl2, readGetUrl, flatSize, readFunction, readRegisters, readFunction2, ownerSize, readCaught, caughtSize};
 use fields::u16_at;
 use lists::scan_strings;
+use opcode::OpCode;
 use operands::scan_bytes;
 use operands::scan_flag;
 use operands::scan_string;
@@ -23,7 +24,12 @@ pub fn scan_wait_for_frame(b: &[u8], at: usize, pos: BytePosition) -> Scan
     if b.len() - at < 2 {
         return Scan::Stops(Fault::CutShort, at);
     }
-    scan_bytes(b, at + 2, 1, BytePosition(pos.0 + 3))
+    scan_bytes(
+        b,
+        at + 2,
+        1,
+        BytePosition(pos.0 + OpCode::WAIT_FOR_FRAME_LEN),
+    )
 }
 
 // GotoFrame2: a bias and whether to play; the bias is written when it is not 0.
@@ -34,10 +40,8 @@ pub fn scan_goto_frame_2(b: &[u8], at: usize, pos: BytePosition) -> Scan
     if b.len() - at < 2 {
         return Scan::Stops(Fault::CutShort, at);
     }
-    if u16_at(b, at) == 0 {
-        return scan_flag(b, at + 2, BytePosition(pos.0 + 1));
-    }
-    scan_flag(b, at + 2, BytePosition(pos.0 + 3))
+    let len = OpCode::goto_frame_2_len(u16_at(b, at));
+    scan_flag(b, at + 2, BytePosition(pos.0 + len))
 }
 
 // GetUrl2: two flags and a method.
@@ -49,7 +53,7 @@ pub fn scan_get_url_2(b: &[u8], at: usize, pos: BytePosition) -> Scan
         Scan::Stops(f, p) => Scan::Stops(f, p),
         Scan::Ends(p, w) => match scan_flag(b, p, w) {
             Scan::Stops(f, q) => Scan::Stops(f, q),
-            Scan::Ends(q, x) => scan_bytes(b, q, 1, BytePosition(x.0 + 1)),
+            Scan::Ends(q, x) => scan_bytes(b, q, 1, BytePosition(x.0 + OpCode::U8_LEN)),
         },
     }
 }
@@ -61,7 +65,13 @@ pub fn scan_get_url(b: &[u8], at: usize, pos: BytePosition) -> Scan
 {
     match scan_string(b, at, pos) {
         Scan::Stops(f, p) => Scan::Stops(f, p),
-        Scan::Ends(p, w) => scan_string(b, p, w),
+        Scan::Ends(p, w) => match scan_string(b, p, w) {
+            Scan::Stops(f, q) => Scan::Stops(f, q),
+            Scan::Ends(q, _) => {
+                let len = OpCode::get_url_len(u16_at(b, at), u16_at(b, p));
+                Scan::Ends(q, BytePosition(pos.0 + len))
+            }
+        },
     }
 }
 
@@ -74,14 +84,17 @@ pub fn scan_define_function(b: &[u8], at: usize, pos: BytePosition) -> Scan
 {
     match scan_string(b, at, pos) {
         Scan::Stops(f, p) => Scan::Stops(f, p),
-        Scan::Ends(p, w) => scan_strings(b, p, 0, BytePosition(w.0 + 4)),
+        Scan::Ends(p, _) => {
+            let len = OpCode::define_function_len(u16_at(b, at), 0);
+            scan_strings(b, p, 0, BytePosition(pos.0 + len))
+        }
     }
 }
 
-// A register count, and flags of which bits 9 to 15 are zero.
+// A register count, and flags of which bits 9 to 15 are zero. They are measured before the parameters, as they are written.
 fn scan_registers(b: &[u8], at: usize, pos: BytePosition) -> Scan
     requires { ⌜ Roomy (now b) at pos ⌝ }
-    ensures { λ r. ⌜ r ≡ scanned (λ _. 3) (pos .0) (readRegisters (now (b .entry)) (placed at)) ⌝ }
+    ensures { λ r. ⌜ r ≡ scanned (λ _. 0) (pos .0) (readRegisters (now (b .entry)) (placed at)) ⌝ }
 {
     if b.len() <= at {
         return Scan::Stops(Fault::CutShort, at);
@@ -93,7 +106,7 @@ fn scan_registers(b: &[u8], at: usize, pos: BytePosition) -> Scan
     if 511 < u16_at(b, p) {
         return Scan::Stops(Fault::BadField, p);
     }
-    Scan::Ends(p + 2, BytePosition(pos.0 + 3))
+    Scan::Ends(p + 2, pos)
 }
 
 // A function's name, its parameters after their registers, its register count and flags.
@@ -103,10 +116,13 @@ pub fn scan_define_function_2(b: &[u8], at: usize, pos: BytePosition) -> Scan
 {
     match scan_string(b, at, pos) {
         Scan::Stops(f, p) => Scan::Stops(f, p),
-        Scan::Ends(p, w) => match scan_strings(b, p, 1, BytePosition(w.0 + 4)) {
-            Scan::Stops(f, q) => Scan::Stops(f, q),
-            Scan::Ends(q, x) => scan_registers(b, q, x),
-        },
+        Scan::Ends(p, _) => {
+            let len = OpCode::define_function_2_len(u16_at(b, at), 0);
+            match scan_strings(b, p, 1, BytePosition(pos.0 + len)) {
+                Scan::Stops(f, q) => Scan::Stops(f, q),
+                Scan::Ends(q, x) => scan_registers(b, q, x),
+            }
+        }
     }
 }
 
@@ -119,13 +135,15 @@ pub fn scan_catch(b: &[u8], at: usize, pos: BytePosition) -> Scan
         return Scan::Stops(Fault::CutShort, at);
     }
     let p = at + 1;
+    let name = BytePosition(pos.0 + OpCode::try_len(0));
+    let byte = BytePosition(pos.0 + OpCode::try_len(1));
     match b[at] {
-        0 => Scan::Ends(p, BytePosition(pos.0 + 8)),
-        1 => scan_string(b, p, BytePosition(pos.0 + 7)),
-        2 => Scan::Ends(p, BytePosition(pos.0 + 8)),
-        3 => scan_string(b, p, BytePosition(pos.0 + 7)),
-        5 => scan_bytes(b, p, 1, BytePosition(pos.0 + 8)),
-        7 => scan_bytes(b, p, 1, BytePosition(pos.0 + 8)),
+        0 => Scan::Ends(p, byte),
+        1 => scan_string(b, p, name),
+        2 => Scan::Ends(p, byte),
+        3 => scan_string(b, p, name),
+        5 => scan_bytes(b, p, 1, byte),
+        7 => scan_bytes(b, p, 1, byte),
         _ => Scan::Stops(Fault::BadField, at),
     }
 }

@@ -131,7 +131,7 @@ fn scan_action(
     let op = b[at];
     if op < 0x80 {
         if OpCode::is_listed(op) {
-            return Scan::Ends(at + 1, BytePosition(pos.0 + 1));
+            return Scan::Ends(at + 1, BytePosition(pos.0 + OpCode::SMALL_LEN));
         }
         return Scan::Stops(Fault::UnknownCode, at);
     }

@@ -271,9 +271,9 @@ module _ (b tab : List ℕ) (at pos : ℕ) where
         (rw e at (is-within (w .shown) (w .slots) (w .near)), rw e at r)
 
     -- what it leaves
-    pub case-put : {out′ : List ℕ} {r : Ends} → a ≡ a′ → Put (coded a′) pos out out′ r → WroteHead b at a pos tab out out′ (r .next) (r .pos)
+    pub case-put : {out′ : List ℕ} {r : Ends} → a ≡ a′ → Put (coded a′) pos out out′ r → WroteHead b at a pos tab out out′ (r .next) (r .pos .0)
     case-put {out′} {r} e p = record { wrote = λ inner x q s. go inner x q (is-head s) (rw (← e) at p) }
       where
         go : (inner : Reader (ActionsOf Text ℕ)) (x : ActionOf Text ℕ) (q : Place) → Heads inner a x q → Put (coded a) pos out out′ r
-            → (out′ ≡ sets out pos (headOf tab x pos)) × (r .pos ≡ pos + length (headOf tab x pos)) × BodiesFrom inner (r .next) x q
+            → (out′ ≡ sets out pos (headOf tab x pos)) × (r .pos .0 ≡ pos + length (headOf tab x pos)) × BodiesFrom inner (r .next) x q
         go inner x q (n, f, g) p = (rw f at (p .wrote), rw f at (p .end), rw (rw f at (p .next)) g)

@@ -17,12 +17,20 @@ use encode_strings::write_push;
 use encode_strings::write_string_action;
 use opcode::OpCode;
 use pcode::Action;
+use positions::BytePosition;
 use positions::Ends;
 
 // An action's header and payload, without its bodies.
-pub fn write_head(b: &[u8], at: usize, a: Action, pos: usize, tab: &[usize], out: &mut [u8]) -> Ends
-    requires { ⌜ Writable (now b) at a pos (now tab) (now out) ⌝ }
-    ensures { λ r. ⌜ WroteHead (now (b .entry)) at a pos (now (tab .entry)) (now (out .entry)) (now (out .exit)) (r .next) (r .pos) ⌝ }
+pub fn write_head(
+    b: &[u8],
+    at: usize,
+    a: Action,
+    pos: BytePosition,
+    tab: &[usize],
+    out: &mut [u8],
+) -> Ends
+    requires { ⌜ Writable (now b) at a (pos .0) (now tab) (now out) ⌝ }
+    ensures { λ r. ⌜ WroteHead (now (b .entry)) at a (pos .0) (now (tab .entry)) (now (out .entry)) (now (out .exit)) (r .next) (r .pos .0) ⌝ }
 {
     let p = at + 1;
     match a {

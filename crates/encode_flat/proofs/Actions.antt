@@ -10,6 +10,7 @@ use borrow.Author.Tests.{lt-ltb, le-ltb, ltb-true, ltb-false, leb-true}
 use Rattle.layout.specs.Numbers.{le16, bits64}
 use Rattle.layout.specs.Tree.{GetUrl2, GotoFrame2}
 use Rattle.layout.specs.Payload.{payload, getUrl2Bits, gotoFrame2Bytes, headed}
+use Rattle.layout.specs.Lengths.{gotoFrame2Length}
 use Rattle.layout.specs.Write.{distanceBits}
 use Rattle.layout.specs.Judge.{judged, distance, isNear, farUnless}
 use Rattle.labels.specs.Table.{recordOf}
@@ -30,11 +31,11 @@ long-action op h = rw (le-ltb op 128 h)
 -- ---- a branch
 
 -- the low sixteen bits of a distance that is not too far, from a position that fits
-pub branch-bits : (slot end bits : ℕ) → end ≤ 1099511627776 → judged (recordOf slot) end ≡ none → bits ≡ bits64 (distance (recordOf slot) end)
+near-bits : (slot end bits : ℕ) → end ≤ 1099511627776 → judged (recordOf slot) end ≡ none → bits ≡ bits64 (distance (recordOf slot) end)
     → bits % 65536 ≡ distanceBits (recordOf slot) end
 unfolding recordOf distanceBits
-branch-bits zero end bits h j e = unfold distance bits64 in rw e
-branch-bits (suc n) end bits h j e = go (leb n (end + 32767)) (leb end (n + 32768)) refl refl (unfold judged isNear in j)
+near-bits zero end bits h j e = unfold distance bits64 in rw e
+near-bits (suc n) end bits h j e = go (leb n (end + 32767)) (leb end (n + 32768)) refl refl (unfold judged isNear in j)
   where
     go : (t u : Bool) → leb n (end + 32767) ≡ t → leb end (n + 32768) ≡ u → farUnless (t && u) (distance (some (record { at = n })) end) ≡ none
         → bits % 65536 ≡ (n + 65536 - end) % 65536
@@ -57,6 +58,11 @@ branch-bits (suc n) end bits h j e = go (leb n (end + 32767)) (leb end (n + 3276
         let z : _≡_ {A = ℕ} 0 1 = unfold farUnless in cc in
         absurd (omega arith)
 
+-- the same where the code has this position as `after`
+pub branch-bits : (slot end after bits : ℕ) → after ≡ end → end ≤ 1099511627776 → judged (recordOf slot) end ≡ none → bits ≡ bits64 (distance (recordOf slot) after)
+    → bits % 65536 ≡ distanceBits (recordOf slot) end
+branch-bits slot end after bits k h j e = near-bits slot end bits h j (rw k at e)
+
 -- ---- flags
 
 -- the byte of a GetUrl2
@@ -73,3 +79,9 @@ pub some-bias : (n k : ℕ) → k < 2 → (n ≡ 0 → ⊥) → payload (GotoFra
 unfolding payload gotoFrame2Bytes
 some-bias zero k h e = absurd (e refl)
 some-bias (suc n) k h e = rw (bit-is k h)
+
+-- the length of one with a bias
+pub bias-length : (n : ℕ) → (n ≡ 0 → ⊥) → gotoFrame2Length n ≡ 3
+unfolding gotoFrame2Length
+bias-length zero e = absurd (e refl)
+bias-length (suc n) e = refl

@@ -68,21 +68,21 @@ module _ (b : List ℕ) (f : Function) {pos : ℕ} {out : List ℕ} (n : after (
         length-span b (f .name) n,
       )
 
-  -- so the parameters may be written
-  pub function-room : {m : List ℕ} → Room (function b f) pos out → length m ≡ length out → Room (stringsAt b (f .count) (f .at)) (pos + 3 + (f .name .len + 1) + 2) m
-  function-room {m} h e =
+  -- so the parameters may be written behind the count, which stands at w
+  pub function-room : {w : ℕ} {m : List ℕ} → Room (function b f) pos out → w ≡ pos + 3 + (f .name .len + 1) → length m ≡ length out → Room (stringsAt b (f .count) (f .at)) (w + 2) m
+  function-room {w} {m} h i e =
       let x : Piece = stringsAt b (f .count) (f .at) in
-      list-room x (pos + 3 + (f .name .len + 1) + 2) m (list-known 0x9B (λ q. functionPayload (spanOf b (f .name)) (f .count) q) x h) (omega (arith, function-space h)) (omega (arith, h .sums))
+      list-room x (w + 2) m (list-known 0x9B (λ q. functionPayload (spanOf b (f .name)) (f .count) q) x h) (omega (arith, function-space h)) (omega (arith, h .sums))
 
   -- the name, the count, the parameters, the body's length, and then the header
-  pub function-put : {m o p s out′ : List ℕ} {r : Ends} → Room (function b f) pos out → m ≡ sets out (pos + 3) (zeroEnded (spanOf b (f .name)))
-      → o ≡ sets m (pos + 3 + (f .name .len + 1)) (le16 (f .count)) → Put (stringsAt b (f .count) (f .at)) (pos + 3 + (f .name .len + 1) + 2) o p r → s ≡ sets p (r .pos) (le16 0)
-      → out′ ≡ sets s pos (0x9B ∷ le16 (r .pos + 2 - (pos + 3))) → Put (function b f) pos out out′ (record { next = r .next; pos = r .pos + 2 })
-  function-put {r = r} h e g x y z =
+  pub function-put : {w len : ℕ} {m o p s out′ : List ℕ} {r : Ends} → Room (function b f) pos out → w ≡ pos + 3 + (f .name .len + 1) → m ≡ sets out (pos + 3) (zeroEnded (spanOf b (f .name)))
+      → o ≡ sets m w (le16 (f .count)) → Put (stringsAt b (f .count) (f .at)) (w + 2) o p r → s ≡ sets p (r .pos .0) (le16 0) → len ≡ f .name .len + 5 + (r .pos .0 - (w + 2))
+      → out′ ≡ sets s pos (0x9B ∷ le16 len) → Put (function b f) pos out out′ (record { next = r .next; pos = record { 0 = pos + 3 + len } })
+  function-put {w} {len} {r = r} h i e g x y j z =
       let k = length-span b (f .name) n in
       let l = length-function (spanOf b (f .name)) (f .count) (bytesOf (stringsAt b (f .count) (f .at))) in
-      list-put 0x9B (λ q. functionPayload (spanOf b (f .name)) (f .count) q) (stringsAt b (f .count) (f .at)) h (r .pos + 2 - (pos + 3)) (omega (arith, x .end))
-      (function-runs out (pos + 3) (pos + 3 + (f .name .len + 1)) (spanOf b (f .name)) (f .count) (omega arith) e g (bytesOf (stringsAt b (f .count) (f .at))) (r .pos) (x .wrote) (x .end) y)
+      list-put 0x9B (λ q. functionPayload (spanOf b (f .name)) (f .count) q) (stringsAt b (f .count) (f .at)) h len (omega (arith, x .end))
+      (function-runs out (pos + 3) w (spanOf b (f .name)) (f .count) (omega arith) e g (bytesOf (stringsAt b (f .count) (f .at))) (r .pos .0) (x .wrote) (x .end) y)
       z (omega (arith, x .end)) (x .next)
 
 -- ---- a DefineFunction2
@@ -114,40 +114,39 @@ module _ (b : List ℕ) (f : Function) where
           length-span b (f .name) n,
         )
 
-    -- so the parameters may be written
-    pub function2-room : {m : List ℕ} → length m ≡ length out → Room (paramsAt b (f .count) (f .at)) (pos + 3 + (f .name .len + 1) + 5) m
-    function2-room {m} e =
+    -- so the parameters may be written behind the fields, the first of which stands at w
+    pub function2-room : {w : ℕ} {m : List ℕ} → w ≡ pos + 3 + (f .name .len + 1) → length m ≡ length out → Room (paramsAt b (f .count) (f .at)) (w + 5) m
+    function2-room {w} {m} i e =
         let x : Piece = paramsAt b (f .count) (f .at) in
-        list-room x (pos + 3 + (f .name .len + 1) + 5) m (made x (h .known) .0) (omega (arith, function2-space)) (omega (arith, h .sums))
+        list-room x (w + 5) m (made x (h .known) .0) (omega (arith, function2-space)) (omega (arith, h .sums))
 
     -- the name, the count, the parameters, the fields before them, the body's length, and then the header
-    pub function2-put : {m o p s t u out′ : List ℕ} {r : Ends} {flags : ℕ} → m ≡ sets out (pos + 3) (zeroEnded (spanOf b (f .name)))
-        → o ≡ sets m (pos + 3 + (f .name .len + 1)) (le16 (f .count)) → Put (paramsAt b (f .count) (f .at)) (pos + 3 + (f .name .len + 1) + 5) o p r
-        → s ≡ sets p (pos + 3 + (f .name .len + 1) + 2) (getD b (r .next) 0 ∷ []) → flags ≡ u16At b (r .next + 1)
-        → t ≡ sets s (pos + 3 + (f .name .len + 1) + 3) (le16 flags) → u ≡ sets t (r .pos) (le16 0) → out′ ≡ sets u pos (0x8E ∷ le16 (r .pos + 2 - (pos + 3)))
-        → Put (function2 b f) pos out out′ (record { next = r .next + 3; pos = r .pos + 2 })
-    function2-put {out′ = out′} {r = r} e g x y k z w v =
+    pub function2-put : {w len : ℕ} {m o p s t u out′ : List ℕ} {r : Ends} {flags : ℕ} → w ≡ pos + 3 + (f .name .len + 1) → m ≡ sets out (pos + 3) (zeroEnded (spanOf b (f .name)))
+        → o ≡ sets m w (le16 (f .count)) → Put (paramsAt b (f .count) (f .at)) (w + 5) o p r → s ≡ sets p (w + 2) (getD b (r .next) 0 ∷ []) → flags ≡ u16At b (r .next + 1)
+        → t ≡ sets s (w + 3) (le16 flags) → u ≡ sets t (r .pos .0) (le16 0) → len ≡ f .name .len + 8 + (r .pos .0 - (w + 5)) → out′ ≡ sets u pos (0x8E ∷ le16 len)
+        → Put (function2 b f) pos out out′ (record { next = r .next + 3; pos = record { 0 = pos + 3 + len } })
+    function2-put {w} {len} {out′ = out′} {r = r} d e g x y k z v c o =
         let a : Piece = paramsAt b (f .count) (f .at) in
         let i = made a (h .known) in
         let j = length-span b (f .name) n in
         let l = length-function2 (spanOf b (f .name)) (f .count) (getD b (nextOf a) 0) (u16At b (nextOf a + 1)) (bytesOf a) in
-        let q : Put (action 0x8E (fields2 a) (r .next + 3)) pos out out′ (record { next = r .next + 3; pos = r .pos + 2 }) =
-        action-last 0x8E (fields2 a) (r .pos + 2 - (pos + 3)) (omega (arith, x .end))
-        (function2-runs out (pos + 3) (pos + 3 + (f .name .len + 1)) (spanOf b (f .name)) (f .count) (omega arith) e g (bytesOf a) (getD b (nextOf a) 0) (u16At b (nextOf a + 1)) (r .pos)
-        (x .wrote) (rw (x .next) at y) (rw (k, x .next) at z) (x .end) w) v (omega (arith, x .end)) in
+        let q : Put (action 0x8E (fields2 a) (r .next + 3)) pos out out′ (record { next = r .next + 3; pos = record { 0 = pos + 3 + len } }) =
+        action-last 0x8E (fields2 a) len (omega (arith, x .end))
+        (function2-runs out (pos + 3) w (spanOf b (f .name)) (f .count) (omega arith) e g (bytesOf a) (getD b (nextOf a) 0) (u16At b (nextOf a + 1)) (r .pos .0)
+        (x .wrote) (rw (x .next) at y) (rw (k, x .next) at z) (x .end) v) o (omega (arith, x .end)) in
         record { wrote = rw (i .1) (q .wrote); end = rw (i .1) (q .end); next = omega (arith, i .2, x .next) }
 
 -- ---- a Try
 
--- the shape, three lengths and the target
-try-runs : {m n o p s : List ℕ} (l : List ℕ) (i shape : ℕ) (t : List ℕ) → m ≡ sets l (i + 3) (shape ∷ []) → n ≡ sets m (i + 4) (le16 0) → o ≡ sets n (i + 6) (le16 0) → p ≡ sets o (i + 8) (le16 0)
-    → s ≡ sets p (i + 10) t → s ≡ sets l (i + 3) (tryPayload shape 0 0 0 t)
+-- the shape, three lengths and the target, which stands at w
+try-runs : {m n o p s : List ℕ} (l : List ℕ) (i w shape : ℕ) (t : List ℕ) → w ≡ i + 7 → m ≡ sets l i (shape ∷ []) → n ≡ sets m (i + 1) (le16 0) → o ≡ sets n (i + 3) (le16 0)
+    → p ≡ sets o (i + 5) (le16 0) → s ≡ sets p w t → s ≡ sets l i (tryPayload shape 0 0 0 t)
 unfolding tryPayload le16
-try-runs {m} {n} {o} l i shape t e f g h x =
-    run-then l (i + 3) (shape ∷ []) (le16 0 ++ (le16 0 ++ (le16 0 ++ t))) (i + 4) (omega arith) e
-    (run-then m (i + 4) (le16 0) (le16 0 ++ (le16 0 ++ t)) (i + 6) (omega arith) f
-    (run-then n (i + 6) (le16 0) (le16 0 ++ t) (i + 8) (omega arith) g
-    (run-then o (i + 8) (le16 0) t (i + 10) (omega arith) h x)))
+try-runs {m} {n} {o} l i w shape t k e f g h x =
+    run-then l i (shape ∷ []) (le16 0 ++ (le16 0 ++ (le16 0 ++ t))) (i + 1) (omega arith) e
+    (run-then m (i + 1) (le16 0) (le16 0 ++ (le16 0 ++ t)) (i + 3) (omega arith) f
+    (run-then n (i + 3) (le16 0) (le16 0 ++ t) (i + 5) (omega arith) g
+    (run-then o (i + 5) (le16 0) t w (omega arith) h x)))
 
 module _ (shape : ℕ) (t : List ℕ) {next pos : ℕ} {out : List ℕ} where
   -- the target has room
@@ -155,11 +154,11 @@ module _ (shape : ℕ) (t : List ℕ) {next pos : ℕ} {out : List ℕ} where
   try-space h = omega (arith, length-action 0x8F (tryPayload shape 0 0 0 t), length-tryPayload shape 0 0 0 t, h .room)
 
   -- the shape, the lengths, the target, and then the header
-  pub try-put : {m n o p s out′ : List ℕ} {r : Ends} → m ≡ sets out (pos + 3) (shape ∷ []) → n ≡ sets m (pos + 4) (le16 0) → o ≡ sets n (pos + 6) (le16 0) → p ≡ sets o (pos + 8) (le16 0)
-      → Put (piece t next) (pos + 10) p s r → out′ ≡ sets s pos (0x8F ∷ le16 (r .pos - (pos + 3)))
-      → Put (action 0x8F (tryPayload shape 0 0 0 t) next) pos out out′ (record { next = r .next; pos = r .pos })
-  try-put {out′ = out′} {r = r} e f g h x y =
+  pub try-put : {w len : ℕ} {m n o p s out′ : List ℕ} {r : Ends} → w ≡ pos + 10 → m ≡ sets out (pos + 3) (shape ∷ []) → n ≡ sets m (pos + 3 + 1) (le16 0) → o ≡ sets n (pos + 3 + 3) (le16 0)
+      → p ≡ sets o (pos + 3 + 5) (le16 0) → Put (piece t next) w p s r → len ≡ 7 + (r .pos .0 - w) → out′ ≡ sets s pos (0x8F ∷ le16 len)
+      → Put (action 0x8F (tryPayload shape 0 0 0 t) next) pos out out′ r
+  try-put {w} {len} {out′ = out′} {r = r} k e f g h x j y =
       let l = length-tryPayload shape 0 0 0 t in
       let q : Put (action 0x8F (tryPayload shape 0 0 0 t) next) pos out out′ (record { next = next; pos = r .pos }) =
-      action-last 0x8F (tryPayload shape 0 0 0 t) (r .pos - (pos + 3)) (omega (arith, x .end)) (try-runs out pos shape t e f g h (x .wrote)) y (omega (arith, x .end)) in
+      action-last 0x8F (tryPayload shape 0 0 0 t) len (omega (arith, x .end)) (try-runs out (pos + 3) w shape t (omega arith) e f g h (x .wrote)) y (omega (arith, x .end)) in
       record { wrote = q .wrote; end = q .end; next = x .next }

@@ -13,6 +13,7 @@ use fields::u16_at;
 use opcode::OpCode;
 use pcode::CatchTarget;
 use pcode::Function;
+use positions::BytePosition;
 use positions::Ends;
 use stores::write_string;
 use stores::write_u8;
@@ -20,57 +21,68 @@ use stores::write_u16;
 use writer::write_action_header;
 
 // The body's length is the payload's last two bytes, 0 for now. The header comes last, here and below: only then is its length known.
-pub fn write_define_function(out: &mut [u8], pos: usize, b: &[u8], f: Function) -> Ends
-    requires { ⌜ (after (f .name) ≤ length (now b)) × Room (function (now b) f) pos (now out) ⌝ }
-    ensures { λ r. ⌜ Put (function (now (b .entry)) f) pos (now (out .entry)) (now (out .exit)) r ⌝ }
+pub fn write_define_function(out: &mut [u8], pos: BytePosition, b: &[u8], f: Function) -> Ends
+    requires { ⌜ (after (f .name) ≤ length (now b)) × Room (function (now b) f) (pos .0) (now out) ⌝ }
+    ensures { λ r. ⌜ Put (function (now (b .entry)) f) (pos .0) (now (out .entry)) (now (out .exit)) r ⌝ }
 {
     let name = f.name;
-    let w = pos + 3 + (name.len + 1);
-    write_string(out, pos + 3, b, name.at, name.len);
+    let start = pos.0 + OpCode::HEADER_LEN;
+    write_string(out, start, b, name.at, name.len);
+    let w = start + OpCode::string_len(name.len);
     write_u16(out, w, f.count);
-    let e = write_strings(out, w + 2, b, f.count, f.at);
-    write_u16(out, e.pos, 0);
-    write_action_header(out, pos, OpCode::DEFINE_FUNCTION, e.pos + 2 - (pos + 3));
+    let params = w + 2;
+    let e = write_strings(out, BytePosition(params), b, f.count, f.at);
+    write_u16(out, e.pos.0, 0);
+    let len = OpCode::define_function_len(name.len, e.pos.0 - params);
+    write_action_header(out, pos, OpCode::DEFINE_FUNCTION, len);
     Ends {
         next: e.next,
-        pos: e.pos + 2,
+        pos: BytePosition(start + len),
     }
 }
 
 // Registers and flags stand behind the parameters in the main body, and before them in the block.
-pub fn write_define_function_2(out: &mut [u8], pos: usize, b: &[u8], f: Function) -> Ends
-    requires { ⌜ (after (f .name) ≤ length (now b)) × (nextOf (function2 (now b) f) ≤ length (now b)) × Room (function2 (now b) f) pos (now out) ⌝ }
-    ensures { λ r. ⌜ Put (function2 (now (b .entry)) f) pos (now (out .entry)) (now (out .exit)) r ⌝ }
+pub fn write_define_function_2(out: &mut [u8], pos: BytePosition, b: &[u8], f: Function) -> Ends
+    requires { ⌜ (after (f .name) ≤ length (now b)) × (nextOf (function2 (now b) f) ≤ length (now b)) × Room (function2 (now b) f) (pos .0) (now out) ⌝ }
+    ensures { λ r. ⌜ Put (function2 (now (b .entry)) f) (pos .0) (now (out .entry)) (now (out .exit)) r ⌝ }
 {
     let name = f.name;
-    let w = pos + 3 + (name.len + 1);
-    write_string(out, pos + 3, b, name.at, name.len);
+    let start = pos.0 + OpCode::HEADER_LEN;
+    write_string(out, start, b, name.at, name.len);
+    let w = start + OpCode::string_len(name.len);
     write_u16(out, w, f.count);
-    let e = write_params(out, w + 5, b, f.count, f.at);
+    let params = w + 5;
+    let e = write_params(out, BytePosition(params), b, f.count, f.at);
     let registers = e.next;
-    let body = registers + 3;
     write_u8(out, w + 2, b[registers]);
     write_u16(out, w + 3, u16_at(b, registers + 1));
-    write_u16(out, e.pos, 0);
-    write_action_header(out, pos, OpCode::DEFINE_FUNCTION2, e.pos + 2 - (pos + 3));
+    write_u16(out, e.pos.0, 0);
+    let len = OpCode::define_function_2_len(name.len, e.pos.0 - params);
+    write_action_header(out, pos, OpCode::DEFINE_FUNCTION2, len);
     Ends {
-        next: body,
-        pos: e.pos + 2,
+        next: registers + 3,
+        pos: BytePosition(start + len),
     }
 }
 
 // A name, a register, or one zero byte.
-fn write_catch_target(out: &mut [u8], pos: usize, b: &[u8], t: CatchTarget, next: usize) -> Ends
-    requires { ⌜ TargetWithin (now b) t × Room (piece (targetBytes (now b) t) next) pos (now out) ⌝ }
-    ensures { λ r. ⌜ Put (piece (targetBytes (now (b .entry)) t) next) pos (now (out .entry)) (now (out .exit)) r ⌝ }
+fn write_catch_target(
+    out: &mut [u8],
+    pos: BytePosition,
+    b: &[u8],
+    t: CatchTarget,
+    next: usize,
+) -> Ends
+    requires { ⌜ TargetWithin (now b) t × Room (piece (targetBytes (now b) t) next) (pos .0) (now out) ⌝ }
+    ensures { λ r. ⌜ Put (piece (targetBytes (now (b .entry)) t) next) (pos .0) (now (out .entry)) (now (out .exit)) r ⌝ }
 {
     match t {
         CatchTarget::Nothing => write_byte(out, pos, 0, next),
         CatchTarget::Variable(s) => {
-            write_string(out, pos, b, s.at, s.len);
+            write_string(out, pos.0, b, s.at, s.len);
             Ends {
                 next,
-                pos: pos + s.len + 1,
+                pos: BytePosition(pos.0 + OpCode::string_len(s.len)),
             }
         }
         CatchTarget::Register(r) => write_byte(out, pos, r, next),
@@ -80,23 +92,23 @@ fn write_catch_target(out: &mut [u8], pos: usize, b: &[u8], t: CatchTarget, next
 // The lengths of the three bodies are 0 for now.
 pub fn write_try(
     out: &mut [u8],
-    pos: usize,
+    pos: BytePosition,
     b: &[u8],
     shape: u8,
     t: CatchTarget,
     next: usize,
 ) -> Ends
-    requires { ⌜ TargetWithin (now b) t × Room (action 0x8F (tryPayload shape 0 0 0 (targetBytes (now b) t)) next) pos (now out) ⌝ }
-    ensures { λ r. ⌜ Put (action 0x8F (tryPayload shape 0 0 0 (targetBytes (now (b .entry)) t)) next) pos (now (out .entry)) (now (out .exit)) r ⌝ }
+    requires { ⌜ TargetWithin (now b) t × Room (action 0x8F (tryPayload shape 0 0 0 (targetBytes (now b) t)) next) (pos .0) (now out) ⌝ }
+    ensures { λ r. ⌜ Put (action 0x8F (tryPayload shape 0 0 0 (targetBytes (now (b .entry)) t)) next) (pos .0) (now (out .entry)) (now (out .exit)) r ⌝ }
 {
-    write_u8(out, pos + 3, shape);
-    write_u16(out, pos + 4, 0);
-    write_u16(out, pos + 6, 0);
-    write_u16(out, pos + 8, 0);
-    let e = write_catch_target(out, pos + 10, b, t, next);
-    write_action_header(out, pos, OpCode::TRY, e.pos - (pos + 3));
-    Ends {
-        next: e.next,
-        pos: e.pos,
-    }
+    let start = pos.0 + OpCode::HEADER_LEN;
+    write_u8(out, start, shape);
+    write_u16(out, start + 1, 0);
+    write_u16(out, start + 3, 0);
+    write_u16(out, start + 5, 0);
+    let target = start + OpCode::try_len(0);
+    let e = write_catch_target(out, BytePosition(target), b, t, next);
+    let len = OpCode::try_len(e.pos.0 - target);
+    write_action_header(out, pos, OpCode::TRY, len);
+    e
 }

@@ -13,62 +13,63 @@ use encode_values::write_push_values;
 use encode_values::write_strings;
 use opcode::OpCode;
 use pcode::Span;
+use positions::BytePosition;
 use positions::Ends;
 use stores::write_string;
 use stores::write_u16;
 use writer::write_action_header;
 
 // SetTarget and GotoLabel.
-pub fn write_string_action(out: &mut [u8], pos: usize, op: u8, b: &[u8], s: Span) -> Ends
-    requires { ⌜ (after s ≤ length (now b)) × Room (action op (zeroEnded (spanOf (now b) s)) (after s)) pos (now out) ⌝ }
-    ensures { λ r. ⌜ Put (action op (zeroEnded (spanOf (now (b .entry)) s)) (after s)) pos (now (out .entry)) (now (out .exit)) r ⌝ }
+pub fn write_string_action(out: &mut [u8], pos: BytePosition, op: u8, b: &[u8], s: Span) -> Ends
+    requires { ⌜ (after s ≤ length (now b)) × Room (action op (zeroEnded (spanOf (now b) s)) (after s)) (pos .0) (now out) ⌝ }
+    ensures { λ r. ⌜ Put (action op (zeroEnded (spanOf (now (b .entry)) s)) (after s)) (pos .0) (now (out .entry)) (now (out .exit)) r ⌝ }
 {
-    write_action_header(out, pos, op, s.len + 1);
-    write_string(out, pos + 3, b, s.at, s.len);
+    let len = OpCode::string_len(s.len);
+    let w = write_action_header(out, pos, op, len);
+    write_string(out, w.0, b, s.at, s.len);
     Ends {
         next: s.at + s.len,
-        pos: pos + 3 + s.len + 1,
+        pos: BytePosition(w.0 + len),
     }
 }
 
 // Two strings.
-pub fn write_get_url(out: &mut [u8], pos: usize, b: &[u8], url: Span, target: Span) -> Ends
-    requires { ⌜ (after url ≤ length (now b)) × (after target ≤ length (now b)) × Room (flatPiece (GetUrl (spanOf (now b) url) (spanOf (now b) target)) (after target)) pos (now out) ⌝ }
-    ensures { λ r. ⌜ Put (flatPiece (GetUrl (spanOf (now (b .entry)) url) (spanOf (now (b .entry)) target)) (after target)) pos (now (out .entry)) (now (out .exit)) r ⌝ }
+pub fn write_get_url(out: &mut [u8], pos: BytePosition, b: &[u8], url: Span, target: Span) -> Ends
+    requires { ⌜ (after url ≤ length (now b)) × (after target ≤ length (now b)) × Room (flatPiece (GetUrl (spanOf (now b) url) (spanOf (now b) target)) (after target)) (pos .0) (now out) ⌝ }
+    ensures { λ r. ⌜ Put (flatPiece (GetUrl (spanOf (now (b .entry)) url) (spanOf (now (b .entry)) target)) (after target)) (pos .0) (now (out .entry)) (now (out .exit)) r ⌝ }
 {
-    write_action_header(out, pos, OpCode::GET_URL, url.len + target.len + 2);
-    write_string(out, pos + 3, b, url.at, url.len);
-    let w = pos + 3 + (url.len + 1);
-    write_string(out, w, b, target.at, target.len);
+    let len = OpCode::get_url_len(url.len, target.len);
+    let w = write_action_header(out, pos, OpCode::GET_URL, len);
+    write_string(out, w.0, b, url.at, url.len);
+    let second = w.0 + OpCode::string_len(url.len);
+    write_string(out, second, b, target.at, target.len);
     Ends {
         next: target.at + target.len,
-        pos: w + target.len + 1,
+        pos: BytePosition(w.0 + len),
     }
 }
 
 // The header comes after the values: only then is its length known.
-pub fn write_push(out: &mut [u8], pos: usize, b: &[u8], n: usize, at: usize) -> Ends
-    requires { ⌜ Room (written (λ q. headed false 0x96 q) (valuesAt (now b) n at)) pos (now out) ⌝ }
-    ensures { λ r. ⌜ Put (written (λ q. headed false 0x96 q) (valuesAt (now (b .entry)) n at)) pos (now (out .entry)) (now (out .exit)) r ⌝ }
+pub fn write_push(out: &mut [u8], pos: BytePosition, b: &[u8], n: usize, at: usize) -> Ends
+    requires { ⌜ Room (written (λ q. headed false 0x96 q) (valuesAt (now b) n at)) (pos .0) (now out) ⌝ }
+    ensures { λ r. ⌜ Put (written (λ q. headed false 0x96 q) (valuesAt (now (b .entry)) n at)) (pos .0) (now (out .entry)) (now (out .exit)) r ⌝ }
 {
-    let e = write_push_values(out, pos + 3, b, n, at);
-    write_action_header(out, pos, OpCode::PUSH, e.pos - (pos + 3));
-    Ends {
-        next: e.next,
-        pos: e.pos,
-    }
+    let values = pos.0 + OpCode::HEADER_LEN;
+    let e = write_push_values(out, BytePosition(values), b, n, at);
+    write_action_header(out, pos, OpCode::PUSH, OpCode::push_len(e.pos.0 - values));
+    e
 }
 
 // The header comes after the strings.
-pub fn write_constant_pool(out: &mut [u8], pos: usize, b: &[u8], n: usize, at: usize) -> Ends
-    requires { ⌜ Room (written (λ q. headed false 0x88 (le16 n ++ q)) (stringsAt (now b) n at)) pos (now out) ⌝ }
-    ensures { λ r. ⌜ Put (written (λ q. headed false 0x88 (le16 n ++ q)) (stringsAt (now (b .entry)) n at)) pos (now (out .entry)) (now (out .exit)) r ⌝ }
+pub fn write_constant_pool(out: &mut [u8], pos: BytePosition, b: &[u8], n: usize, at: usize) -> Ends
+    requires { ⌜ Room (written (λ q. headed false 0x88 (le16 n ++ q)) (stringsAt (now b) n at)) (pos .0) (now out) ⌝ }
+    ensures { λ r. ⌜ Put (written (λ q. headed false 0x88 (le16 n ++ q)) (stringsAt (now (b .entry)) n at)) (pos .0) (now (out .entry)) (now (out .exit)) r ⌝ }
 {
-    write_u16(out, pos + 3, n);
-    let e = write_strings(out, pos + 5, b, n, at);
-    write_action_header(out, pos, OpCode::CONSTANT_POOL, e.pos - (pos + 3));
-    Ends {
-        next: e.next,
-        pos: e.pos,
-    }
+    let count = pos.0 + OpCode::HEADER_LEN;
+    write_u16(out, count, n);
+    let strings = count + OpCode::constant_pool_len(0);
+    let e = write_strings(out, BytePosition(strings), b, n, at);
+    let len = OpCode::constant_pool_len(e.pos.0 - strings);
+    write_action_header(out, pos, OpCode::CONSTANT_POOL, len);
+    e
 }

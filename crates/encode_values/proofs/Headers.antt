@@ -66,7 +66,7 @@ module _ (f : List ℕ → List ℕ) where
 module _ (op : ℕ) (q : List ℕ) {next pos : ℕ} {out : List ℕ} where
   -- the header goes before the payload that is stored
   pub action-last : {m out′ : List ℕ} {end : ℕ} (len : ℕ) → len ≡ length q → m ≡ sets out (pos + 3) q → out′ ≡ sets m pos (op ∷ le16 len) → end ≡ pos + 3 + length q
-      → Put (action op q next) pos out out′ (record { next = next; pos = end })
+      → Put (action op q next) pos out out′ (record { next = next; pos = record { 0 = end } })
   unfolding headed
   action-last len k e f g =
       record { wrote = before-then out pos (op ∷ le16 (length q)) q 3 (unfold le16 in refl) e (rw k at f); end = omega (arith, length-action op q); next = refl }
@@ -84,7 +84,7 @@ module _ (op : ℕ) (g : List ℕ → List ℕ) (x : Piece) {pos : ℕ} {out : L
 
   -- its header stored after the payload
   pub list-put : {m out′ : List ℕ} {next end : ℕ} (len : ℕ) → len ≡ length (g (bytesOf x)) → m ≡ sets out (pos + 3) (g (bytesOf x)) → out′ ≡ sets m pos (op ∷ le16 len)
-      → end ≡ pos + 3 + length (g (bytesOf x)) → next ≡ nextOf x → Put (written (λ q. headed false op (g q)) x) pos out out′ (record { next = next; pos = end })
+      → end ≡ pos + 3 + length (g (bytesOf x)) → next ≡ nextOf x → Put (written (λ q. headed false op (g q)) x) pos out out′ (record { next = next; pos = record { 0 = end } })
   list-put {next = next} len k e f i j =
       let b = written-bytes (λ q. headed false op (g q)) x (h .known) in
       let p = action-last op (g (bytesOf x)) {next = next} len k e f i in
@@ -94,18 +94,18 @@ module _ (op : ℕ) (g : List ℕ → List ℕ) (x : Piece) {pos : ℕ} {out : L
 pub list-room : (x : Piece) (pos : ℕ) (m : List ℕ) → Reads x → pos + length (bytesOf x) ≤ length m → length m ≤ 1099511627776 → Room x pos m
 list-room x pos m k h s = record { known = k; room = h; sums = s }
 
--- ---- a header before its payload
+-- ---- a header before its payload, which is stored from the place `at` behind it on
 
 module _ (op : ℕ) (q : List ℕ) {next pos : ℕ} {out : List ℕ} where
   -- the header first
-  pub action-put : {m out′ : List ℕ} {end : ℕ} (len : ℕ) → len ≡ length q → m ≡ sets out pos (op ∷ le16 len) → out′ ≡ sets m (pos + 3) q → end ≡ pos + 3 + length q
-      → Put (action op q next) pos out out′ (record { next = next; pos = end })
+  pub action-put : {m out′ : List ℕ} {at end : ℕ} (len : ℕ) → len ≡ length q → (at ≡ pos + 3) × (m ≡ sets out pos (op ∷ le16 len)) → out′ ≡ sets m at q → end ≡ at + length q
+      → Put (action op q next) pos out out′ (record { next = next; pos = record { 0 = end } })
   unfolding headed
-  action-put len k e f g =
-      record { wrote = sets-then out pos (op ∷ le16 (length q)) q 3 (unfold le16 in refl) (rw k at e) f; end = omega (arith, length-action op q); next = refl }
+  action-put {at = at} len k e f g =
+      record { wrote = run-then out pos (op ∷ le16 (length q)) q at (unfold le16 in e .0) (rw k at (e .1)) f; end = omega (arith, length-action op q); next = refl }
 
--- a header, and a payload in two runs
-pub action-two : (op : ℕ) (a b : List ℕ) {next pos end : ℕ} {out m n out′ : List ℕ} (at len : ℕ) → at ≡ pos + 3 + length a → len ≡ length (a ++ b)
-    → m ≡ sets out pos (op ∷ le16 len) → n ≡ sets m (pos + 3) a → out′ ≡ sets n at b → end ≡ pos + 3 + length (a ++ b)
-    → Put (action op (a ++ b) next) pos out out′ (record { next = next; pos = end })
-action-two op a b {pos = pos} {m = m} at len h k e f g i = action-put op (a ++ b) len k e (run-then m (pos + 3) a b at h f g) i
+-- a header, and a payload in two runs, the second from the place `second` on
+pub action-two : (op : ℕ) (a b : List ℕ) {next pos at end : ℕ} {out m n out′ : List ℕ} (second len : ℕ) → second ≡ at + length a → len ≡ length (a ++ b)
+    → (at ≡ pos + 3) × (m ≡ sets out pos (op ∷ le16 len)) → n ≡ sets m at a → out′ ≡ sets n second b → end ≡ at + length (a ++ b)
+    → Put (action op (a ++ b) next) pos out out′ (record { next = next; pos = record { 0 = end } })
+action-two op a b {at = at} {m = m} second len h k e f g i = action-put op (a ++ b) len k e (run-then m at a b second h f g) i

@@ -64,7 +64,7 @@ module _ {A : Type 0} (read : Reader A) (bytes : A → List ℕ) where
 
   module _ {whole : Piece} {pos : ℕ} {old : List ℕ} {n p w : ℕ} {out : List ℕ} (g : Going whole pos old n p w out) where
     -- nothing is left
-    pub going-end : n ≤ 0 → Put whole pos old out (record { next = p; pos = w })
+    pub going-end : n ≤ 0 → Put whole pos old out (record { next = p; pos = record { 0 = w } })
     unfolding repeat joined
     going-end h =
         let z : n ≡ 0 = omega arith in
@@ -81,17 +81,17 @@ module _ {A : Type 0} (read : Reader A) (bytes : A → List ℕ) where
             rw e (record { known = tt; room = omega (arith, length-append (bytes a) (bytesOf (Left (n - 1) q)), r); sums = g .room .sums })
 
     -- it was written
-    pub going-on : 0 < n → {out′ : List ℕ} {r : Ends} → Put (written bytes (read (placed p))) w out out′ r → Going whole pos old (n - 1) (r .next) (r .pos) out′
+    pub going-on : 0 < n → {out′ : List ℕ} {r : Ends} → Put (written bytes (read (placed p))) w out out′ r → Going whole pos old (n - 1) (r .next) (r .pos .0) out′
     going-on h {out′} {r} x = go (first n p h (g .room .known))
       where
-        go : First n p → Going whole pos old (n - 1) (r .next) (r .pos) out′
+        go : First n p → Going whole pos old (n - 1) (r .next) (r .pos .0) out′
         go (a, q, e, f) =
             let rest : Piece = Left (n - 1) q in
             let k : Reads (Behind a (repeat read (n - 1) (placed q))) = rw f at (g .room .known) in
             let s : bytesOf (Left n p) ≡ bytes a ++ bytesOf rest = rw f (behind-bytes a (repeat read (n - 1) (placed q)) k) in
             let l = length-append (bytes a) (bytesOf rest) in
             let i : r .next ≡ q = rw e at (x .next) in
-            let j : r .pos ≡ w + length (bytes a) = rw e at (x .end) in
+            let j : r .pos .0 ≡ w + length (bytes a) = rw e at (x .end) in
             let o : out′ ≡ sets out w (bytes a) = rw e at (x .wrote) in
             let c : length out′ ≡ length out = ap length o ∙ length-sets out w (bytes a) in
             rw (i, j)

@@ -8,8 +8,10 @@ use lib.Seq.{sets}
 use lib.Dec.{ltb, eqb}
 use borrow.Author.Tests.{lt-ltb, le-ltb}
 use Rattle.layout.specs.Numbers.{le16, bit}
+use Rattle.layout.specs.Lists.{pick}
+use Rattle.layout.specs.Tree.{Constant}
 use Rattle.layout.specs.Payload.{zeroEnded, constantBytes}
-use Rattle.layout.specs.Lengths.{length-zeroEnded}
+use Rattle.layout.specs.Lengths.{pushLength, length-zeroEnded}
 use Rattle.fields.proofs.Runs.{length-part}
 use Rattle.stores.proofs.Stores.{sets-then}
 use Rattle.pcode.specs.declared.Span.{Span}
@@ -22,7 +24,7 @@ length-span b s h = length-zeroEnded (spanOf b s) ∙ ap (λ (n : ℕ). n + 1) (
 
 -- a byte, and then the rest
 pub byte-put : {x : ℕ} {s : List ℕ} {next pos end : ℕ} {out m out′ : List ℕ} → m ≡ sets out pos (x ∷ []) → out′ ≡ sets m (pos + 1) s → end ≡ pos + 1 + length s
-    → Put (piece (x ∷ s) next) pos out out′ (record { next = next; pos = end })
+    → Put (piece (x ∷ s) next) pos out out′ (record { next = next; pos = record { 0 = end } })
 byte-put {x} {s} {pos = pos} {out = out} e f g = record { wrote = sets-then out pos (x ∷ []) s 1 refl e f; end = omega arith; next = refl }
 
 -- a flag's bit is the byte that it was read from
@@ -40,3 +42,8 @@ low-constant n h = rw (lt-ltb n 256 h)
 pub high-constant : (n : ℕ) → 256 ≤ n → constantBytes (ltb n 256) n ≡ 9 ∷ le16 n
 unfolding constantBytes
 high-constant n h = rw (le-ltb n 256 h)
+
+-- the length of another: a kind and two bytes
+pub high-length : (n : ℕ) → 256 ≤ n → pushLength (Constant n) ≡ 3
+unfolding pushLength pick
+high-length n h = rw (le-ltb n 256 h)

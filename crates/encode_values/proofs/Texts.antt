@@ -38,8 +38,8 @@ module _ (b : List ℕ) (p : ℕ) where
         (s .0, omega (arith, length-span b (spanAt b p) (s .0), rw (s .1) at (h .room)))
 
     -- it is written
-    pub string-put : {out′ : List ℕ} (n : ℕ) → n ≡ u16At b p → out′ ≡ sets out pos (zeroEnded (part b (p + 2) n)) → Put (stringAt b p) pos out out′ (record { next = p + 2 + n; pos = pos + n + 1 })
-    string-put n e f =
+    pub string-put : {out′ : List ℕ} (n l : ℕ) → n ≡ u16At b p → l ≡ n + 1 → out′ ≡ sets out pos (zeroEnded (part b (p + 2) n)) → Put (stringAt b p) pos out out′ (record { next = p + 2 + n; pos = record { 0 = pos + l } })
+    string-put n l e k f =
         let s = is-span (h .known) in
         rw (s .1) (record { wrote = rw e at f; end = omega (arith, length-span b (spanAt b p) (s .0)); next = omega arith })
 

@@ -60,7 +60,7 @@ pub record Room (x : Piece) (pos : ℕ) (out : List ℕ) : Type 0 where
 -- what it leaves: the bytes from the position on, and r, which holds the place and the position after them
 pub record Put (x : Piece) (pos : ℕ) (out out′ : List ℕ) (r : Ends) : Type 0 where
   pub wrote : out′ ≡ sets out pos (bytesOf x)
-  pub end : r .pos ≡ pos + length (bytesOf x)
+  pub end : r .pos .0 ≡ pos + length (bytesOf x)
   pub next : r .next ≡ nextOf x
 
 -- ---- the elements of lists

@@ -9,9 +9,11 @@ ghost use Rattle.layout.specs.Payload.{zeroEnded, constantBytes, doubleBytes};
 ghost use Rattle.pcode.specs.Shown.{after};
 ghost use Rattle.encode_values.specs.Pieces.{piece, spanOf, stringAt, paramAt, valueAt, stringsAt, paramsAt, valuesAt, Room, Put};
 use fields::u16_at;
+use opcode::OpCode;
 use pcode::PushValue;
 use pcode::Span;
 use pcode::push_value_at;
+use positions::BytePosition;
 use positions::Ends;
 use stores::write_f64_me;
 use stores::write_string;
@@ -22,31 +24,31 @@ use stores::write_u32;
 // ---- strings and lists
 
 // The string at a place, with its zero byte.
-fn write_string_at(out: &mut [u8], pos: usize, b: &[u8], at: usize) -> Ends
-    requires { ⌜ Room (stringAt (now b) at) pos (now out) ⌝ }
-    ensures { λ r. ⌜ Put (stringAt (now (b .entry)) at) pos (now (out .entry)) (now (out .exit)) r ⌝ }
+fn write_string_at(out: &mut [u8], pos: BytePosition, b: &[u8], at: usize) -> Ends
+    requires { ⌜ Room (stringAt (now b) at) (pos .0) (now out) ⌝ }
+    ensures { λ r. ⌜ Put (stringAt (now (b .entry)) at) (pos .0) (now (out .entry)) (now (out .exit)) r ⌝ }
 {
     let n = u16_at(b, at);
-    write_string(out, pos, b, at + 2, n);
+    write_string(out, pos.0, b, at + 2, n);
     Ends {
         next: at + 2 + n,
-        pos: pos + n + 1,
+        pos: BytePosition(pos.0 + OpCode::string_len(n)),
     }
 }
 
 // The parameter of a DefineFunction2 at a place: its register, then its name.
-fn write_param_at(out: &mut [u8], pos: usize, b: &[u8], at: usize) -> Ends
-    requires { ⌜ Room (paramAt (now b) at) pos (now out) ⌝ }
-    ensures { λ r. ⌜ Put (paramAt (now (b .entry)) at) pos (now (out .entry)) (now (out .exit)) r ⌝ }
+fn write_param_at(out: &mut [u8], pos: BytePosition, b: &[u8], at: usize) -> Ends
+    requires { ⌜ Room (paramAt (now b) at) (pos .0) (now out) ⌝ }
+    ensures { λ r. ⌜ Put (paramAt (now (b .entry)) at) (pos .0) (now (out .entry)) (now (out .exit)) r ⌝ }
 {
-    write_u8(out, pos, b[at]);
-    write_string_at(out, pos + 1, b, at + 1)
+    write_u8(out, pos.0, b[at]);
+    write_string_at(out, BytePosition(pos.0 + 1), b, at + 1)
 }
 
 // n strings.
-pub fn write_strings(out: &mut [u8], pos: usize, b: &[u8], n: usize, at: usize) -> Ends
-    requires { ⌜ Room (stringsAt (now b) n at) pos (now out) ⌝ }
-    ensures { λ r. ⌜ Put (stringsAt (now (b .entry)) n at) pos (now (out .entry)) (now (out .exit)) r ⌝ }
+pub fn write_strings(out: &mut [u8], pos: BytePosition, b: &[u8], n: usize, at: usize) -> Ends
+    requires { ⌜ Room (stringsAt (now b) n at) (pos .0) (now out) ⌝ }
+    ensures { λ r. ⌜ Put (stringsAt (now (b .entry)) n at) (pos .0) (now (out .entry)) (now (out .exit)) r ⌝ }
 {
     let mut left = n;
     let mut p = at;
@@ -61,9 +63,9 @@ pub fn write_strings(out: &mut [u8], pos: usize, b: &[u8], n: usize, at: usize) 
 }
 
 // n parameters of a DefineFunction2.
-pub fn write_params(out: &mut [u8], pos: usize, b: &[u8], n: usize, at: usize) -> Ends
-    requires { ⌜ Room (paramsAt (now b) n at) pos (now out) ⌝ }
-    ensures { λ r. ⌜ Put (paramsAt (now (b .entry)) n at) pos (now (out .entry)) (now (out .exit)) r ⌝ }
+pub fn write_params(out: &mut [u8], pos: BytePosition, b: &[u8], n: usize, at: usize) -> Ends
+    requires { ⌜ Room (paramsAt (now b) n at) (pos .0) (now out) ⌝ }
+    ensures { λ r. ⌜ Put (paramsAt (now (b .entry)) n at) (pos .0) (now (out .entry)) (now (out .exit)) r ⌝ }
 {
     let mut left = n;
     let mut p = at;
@@ -80,74 +82,90 @@ pub fn write_params(out: &mut [u8], pos: usize, b: &[u8], n: usize, at: usize) -
 // ---- push values
 
 // One byte.
-pub fn write_byte(out: &mut [u8], pos: usize, v: u8, next: usize) -> Ends
-    requires { ⌜ Room (piece (v ∷ []) next) pos (now out) ⌝ }
-    ensures { λ r. ⌜ Put (piece (v ∷ []) next) pos (now (out .entry)) (now (out .exit)) r ⌝ }
+pub fn write_byte(out: &mut [u8], pos: BytePosition, v: u8, next: usize) -> Ends
+    requires { ⌜ Room (piece (v ∷ []) next) (pos .0) (now out) ⌝ }
+    ensures { λ r. ⌜ Put (piece (v ∷ []) next) (pos .0) (now (out .entry)) (now (out .exit)) r ⌝ }
 {
-    write_u8(out, pos, v);
-    Ends { next, pos: pos + 1 }
+    write_u8(out, pos.0, v);
+    Ends {
+        next,
+        pos: BytePosition(pos.0 + 1),
+    }
 }
 
 // A kind and a byte.
-fn write_kind_u8(out: &mut [u8], pos: usize, kind: u8, v: u8, next: usize) -> Ends
-    requires { ⌜ Room (piece (kind ∷ v ∷ []) next) pos (now out) ⌝ }
-    ensures { λ r. ⌜ Put (piece (kind ∷ v ∷ []) next) pos (now (out .entry)) (now (out .exit)) r ⌝ }
+fn write_kind_u8(out: &mut [u8], pos: BytePosition, kind: u8, v: u8, next: usize) -> Ends
+    requires { ⌜ Room (piece (kind ∷ v ∷ []) next) (pos .0) (now out) ⌝ }
+    ensures { λ r. ⌜ Put (piece (kind ∷ v ∷ []) next) (pos .0) (now (out .entry)) (now (out .exit)) r ⌝ }
 {
-    write_u8(out, pos, kind);
-    write_u8(out, pos + 1, v);
-    Ends { next, pos: pos + 2 }
+    write_u8(out, pos.0, kind);
+    write_u8(out, pos.0 + OpCode::PUSH_KIND_LEN, v);
+    Ends {
+        next,
+        pos: BytePosition(pos.0 + OpCode::PUSH_U8_LEN),
+    }
 }
 
 // A string behind its kind.
-fn write_push_string(out: &mut [u8], pos: usize, b: &[u8], s: Span, next: usize) -> Ends
-    requires { ⌜ (after s ≤ length (now b)) × Room (piece (0 ∷ zeroEnded (spanOf (now b) s)) next) pos (now out) ⌝ }
-    ensures { λ r. ⌜ Put (piece (0 ∷ zeroEnded (spanOf (now (b .entry)) s)) next) pos (now (out .entry)) (now (out .exit)) r ⌝ }
+fn write_push_string(out: &mut [u8], pos: BytePosition, b: &[u8], s: Span, next: usize) -> Ends
+    requires { ⌜ (after s ≤ length (now b)) × Room (piece (0 ∷ zeroEnded (spanOf (now b) s)) next) (pos .0) (now out) ⌝ }
+    ensures { λ r. ⌜ Put (piece (0 ∷ zeroEnded (spanOf (now (b .entry)) s)) next) (pos .0) (now (out .entry)) (now (out .exit)) r ⌝ }
 {
-    write_u8(out, pos, 0);
-    write_string(out, pos + 1, b, s.at, s.len);
+    write_u8(out, pos.0, 0);
+    let w = pos.0 + OpCode::PUSH_KIND_LEN;
+    write_string(out, w, b, s.at, s.len);
     Ends {
         next,
-        pos: pos + 1 + s.len + 1,
+        pos: BytePosition(w + OpCode::string_len(s.len)),
     }
 }
 
 // A double behind its kind, the high word first.
-fn write_push_float(out: &mut [u8], pos: usize, bits: u64, next: usize) -> Ends
-    requires { ⌜ Room (piece (6 ∷ doubleBytes bits) next) pos (now out) ⌝ }
-    ensures { λ r. ⌜ Put (piece (6 ∷ doubleBytes bits) next) pos (now (out .entry)) (now (out .exit)) r ⌝ }
+fn write_push_float(out: &mut [u8], pos: BytePosition, bits: u64, next: usize) -> Ends
+    requires { ⌜ Room (piece (6 ∷ doubleBytes bits) next) (pos .0) (now out) ⌝ }
+    ensures { λ r. ⌜ Put (piece (6 ∷ doubleBytes bits) next) (pos .0) (now (out .entry)) (now (out .exit)) r ⌝ }
 {
-    write_u8(out, pos, 6);
-    write_f64_me(out, pos + 1, bits);
-    Ends { next, pos: pos + 9 }
+    write_u8(out, pos.0, 6);
+    write_f64_me(out, pos.0 + OpCode::PUSH_KIND_LEN, bits);
+    Ends {
+        next,
+        pos: BytePosition(pos.0 + OpCode::PUSH_FLOAT_LEN),
+    }
 }
 
 // An integer behind its kind.
-fn write_push_integer(out: &mut [u8], pos: usize, v: u32, next: usize) -> Ends
-    requires { ⌜ Room (piece (7 ∷ le32 v) next) pos (now out) ⌝ }
-    ensures { λ r. ⌜ Put (piece (7 ∷ le32 v) next) pos (now (out .entry)) (now (out .exit)) r ⌝ }
+fn write_push_integer(out: &mut [u8], pos: BytePosition, v: u32, next: usize) -> Ends
+    requires { ⌜ Room (piece (7 ∷ le32 v) next) (pos .0) (now out) ⌝ }
+    ensures { λ r. ⌜ Put (piece (7 ∷ le32 v) next) (pos .0) (now (out .entry)) (now (out .exit)) r ⌝ }
 {
-    write_u8(out, pos, 7);
-    write_u32(out, pos + 1, v);
-    Ends { next, pos: pos + 5 }
+    write_u8(out, pos.0, 7);
+    write_u32(out, pos.0 + OpCode::PUSH_KIND_LEN, v);
+    Ends {
+        next,
+        pos: BytePosition(pos.0 + OpCode::PUSH_INTEGER_LEN),
+    }
 }
 
 // A constant's number in one byte behind one kind, or in two behind another.
-fn write_push_constant(out: &mut [u8], pos: usize, n: usize, next: usize) -> Ends
-    requires { ⌜ Room (piece (constantBytes (ltb n 256) n) next) pos (now out) ⌝ }
-    ensures { λ r. ⌜ Put (piece (constantBytes (ltb n 256) n) next) pos (now (out .entry)) (now (out .exit)) r ⌝ }
+fn write_push_constant(out: &mut [u8], pos: BytePosition, n: usize, next: usize) -> Ends
+    requires { ⌜ Room (piece (constantBytes (ltb n 256) n) next) (pos .0) (now out) ⌝ }
+    ensures { λ r. ⌜ Put (piece (constantBytes (ltb n 256) n) next) (pos .0) (now (out .entry)) (now (out .exit)) r ⌝ }
 {
     if n < 256 {
         return write_kind_u8(out, pos, 8, n as u8, next);
     }
-    write_u8(out, pos, 9);
-    write_u16(out, pos + 1, n);
-    Ends { next, pos: pos + 3 }
+    write_u8(out, pos.0, 9);
+    write_u16(out, pos.0 + OpCode::PUSH_KIND_LEN, n);
+    Ends {
+        next,
+        pos: BytePosition(pos.0 + OpCode::push_constant_len(n)),
+    }
 }
 
 // The push value at a place.
-fn write_push_value(out: &mut [u8], pos: usize, b: &[u8], at: usize) -> Ends
-    requires { ⌜ Room (valueAt (now b) at) pos (now out) ⌝ }
-    ensures { λ r. ⌜ Put (valueAt (now (b .entry)) at) pos (now (out .entry)) (now (out .exit)) r ⌝ }
+fn write_push_value(out: &mut [u8], pos: BytePosition, b: &[u8], at: usize) -> Ends
+    requires { ⌜ Room (valueAt (now b) at) (pos .0) (now out) ⌝ }
+    ensures { λ r. ⌜ Put (valueAt (now (b .entry)) at) (pos .0) (now (out .entry)) (now (out .exit)) r ⌝ }
 {
     let v = push_value_at(b, at);
     let value = v.value;
@@ -164,9 +182,9 @@ fn write_push_value(out: &mut [u8], pos: usize, b: &[u8], at: usize) -> Ends
 }
 
 // n push values.
-pub fn write_push_values(out: &mut [u8], pos: usize, b: &[u8], n: usize, at: usize) -> Ends
-    requires { ⌜ Room (valuesAt (now b) n at) pos (now out) ⌝ }
-    ensures { λ r. ⌜ Put (valuesAt (now (b .entry)) n at) pos (now (out .entry)) (now (out .exit)) r ⌝ }
+pub fn write_push_values(out: &mut [u8], pos: BytePosition, b: &[u8], n: usize, at: usize) -> Ends
+    requires { ⌜ Room (valuesAt (now b) n at) (pos .0) (now out) ⌝ }
+    ensures { λ r. ⌜ Put (valuesAt (now (b .entry)) n at) (pos .0) (now (out .entry)) (now (out .exit)) r ⌝ }
 {
     let mut left = n;
     let mut p = at;

@@ -85,14 +85,15 @@ module _ (b tab : List ℕ) (end : BytePosition) (m : MainNear b end tab) where
             places = omega (arith, j .limited);
           }
 
-      -- The block fills that front, and the rest keeps its values.
-      pub near-done : (front : List ℕ) → WroteBlock b (take (end .0 + 1) o) front → MainAnswered blockIn b o (answer.Done (end .0 + 1)) (front ++ drop (end .0 + 1) o)
+      -- The block fills that front, and the rest keeps its values. The writer has reached the block's length.
+      pub near-done : (front : List ℕ) (reached : BytePosition) → WroteBlock b (take (end .0 + 1) o) front reached
+          → MainAnswered blockIn b o (answer.Done (reached .0)) (front ++ drop (end .0 + 1) o)
       unfolding output number value answers.number answers.value
-      near-done front w =
+      near-done front reached w =
           let z : end .0 + 1 ≡ length (blockBytes t) = len-is ∙ sym (length-block t) in
           let f : front ≡ blockBytes t = w .wrote t (m .measured .reads) ∙ filled (take (end .0 + 1) o) (blockBytes t) (sym z ∙ sym front-long) in
-          answered-by t (m .measured .reads) (done (has-room t (length o) (omega (arith, len-is))) z f)
+          answered-by t (m .measured .reads) (done (has-room t (length o) (omega (arith, len-is))) z (w .long t (m .measured .reads)) f)
         where
-          done : blockIn t (length o) ≡ answers.Done (blockBytes t) → end .0 + 1 ≡ length (blockBytes t) → front ≡ blockBytes t
-              → Answered (blockIn t (length o)) o (answer.Done (end .0 + 1)) (front ++ drop (end .0 + 1) o)
-          done e k f = rw (e, k, f) (record { told = record { is-number = refl; is-value = refl }; holds = refl })
+          done : blockIn t (length o) ≡ answers.Done (blockBytes t) → end .0 + 1 ≡ length (blockBytes t) → reached .0 ≡ length (blockBytes t) → front ≡ blockBytes t
+              → Answered (blockIn t (length o)) o (answer.Done (reached .0)) (front ++ drop (end .0 + 1) o)
+          done e k l f = rw (e, k, l, f) (record { told = record { is-number = refl; is-value = refl }; holds = refl })

@@ -2,19 +2,20 @@
 ghost use Rattle.layout.specs.Pack.{blockIn};
 ghost use Rattle.if_room.specs.Near.{MainNear, MainAnswered};
 use answer::Answer;
+use opcode::OpCode;
 use positions::BytePosition;
 use write::write_main;
 
-// A main body in which no branch goes too far: 11 or 0. The writer is lent the front of the output that the block fills, and
-// nothing past it.
+// A main body in which no branch goes too far, and whose actions end at position `end`: 11 or 0. The writer is lent the front of the
+// output that the block fills, with its End, and nothing past it.
 pub fn pack_near(b: &[u8], end: BytePosition, tab: &[usize], out: &mut [u8]) -> Answer
     requires { ⌜ MainNear (now b) end (now tab) ⌝ }
     ensures { λ r. ⌜ MainAnswered blockIn (now (b .entry)) (now (out .entry)) r (now (out .exit)) ⌝ }
 {
-    let len = end.0 + 1;
+    let len = end.0 + OpCode::SMALL_LEN;
     if out.len() < len {
         return Answer::NoRoom(len);
     }
-    write_main(b, tab, &mut out[..len]);
-    Answer::Done(len)
+    let reached = write_main(b, tab, &mut out[..len]);
+    Answer::Done(reached.0)
 }

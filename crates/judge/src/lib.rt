@@ -16,6 +16,7 @@ use labels::distance;
 use labels::is_far;
 use labels::is_recorded;
 use measure::Laid;
+use opcode::OpCode;
 use payload::scan_payload;
 use positions::BytePosition;
 
@@ -68,7 +69,7 @@ fn judge_branch(
     if is_barred(mode, label, tab) {
         return Judged::Refused(BadBranch::NeverRecorded(operand));
     }
-    let after = operand.0 + 2;
+    let after = operand.0 + OpCode::U16_LEN;
     let bits = distance(tab, label, BytePosition(after));
     if is_far(bits) {
         return Judged::Refused(BadBranch::Far(bits));
@@ -154,7 +155,7 @@ fn judge_action(
     let op = b[at];
     if op < 0x80 {
         let next = at + 1;
-        let after = pos.0 + 1;
+        let after = pos.0 + OpCode::SMALL_LEN;
         return Judged::Ends(next, BytePosition(after));
     }
     let mut over = [0; 2];
@@ -162,7 +163,7 @@ fn judge_action(
         Laid::Stops(_, p) => Judged::Ends(p, pos),
         Laid::Flat(p, w) => Judged::Ends(p, w),
         Laid::Branch(p, _, label) => {
-            let operand = pos.0 + 3;
+            let operand = pos.0 + OpCode::HEADER_LEN;
             judge_branch(label, p, BytePosition(operand), mode, tab)
         }
         Laid::Bodies(p, w, n) => judge_bodies(b, p, depth, w, n, mode, tab),

@@ -186,6 +186,14 @@ pub text-after : (b : List ℕ) (extra : ℕ) → extra ≤ 65000 → (p q : ℕ
 text-after b extra m p q w x y r h e f i =
     roomy-after b (readString edition1 b) stringSize extra (text-grows b (h .bytes)) (λ s. unfold stringSize stringLength in omega arith) m p q w x y r h e f i
 
+-- a text that was scanned has the length that stands before it
+pub text-told : (b : List ℕ) (p q : ℕ) (w x : BytePosition) (r : Scan) → r ≡ scanned stringSize (w .0) (readString edition1 b (placed p)) → r ≡ scan.Ends q x
+    → (p + 2 ≤ length b) × (x .0 ≡ w .0 + (u16At b p + 1))
+text-told b p q w x r e f =
+    let k = ends-is stringSize (w .0) (readString edition1 b (placed p)) e f in
+    let t = reading.string-read b p (k .1) in
+    (t .0, omega (arith, t .1, k .2))
+
 -- and some bytes more can be counted
 pub text-room : (b : List ℕ) (p q : ℕ) (w x : BytePosition) (r : Scan) → Roomy b p w → r ≡ scanned stringSize (w .0) (readString edition1 b (placed p)) → r ≡ scan.Ends q x
     → x .0 + 65000 ≤ 1099511627776

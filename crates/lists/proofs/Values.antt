@@ -42,14 +42,11 @@ module _ (b : List ℕ) (at skip pos : ℕ) where
 
 -- ---- a pushed constant
 
-module _ (b : List ℕ) (at pos n : ℕ) (h : at + 2 ≤ length b) (e : n ≡ u16At b at) where
-  pub constant-low : n < 256 → scan.Ends (at + 2) (record { 0 = pos + 2 }) ≡ scanned constantSize pos (readU16 b (placed at))
-  unfolding constantSize pick
-  constant-low l = ends constantSize pos (reading.u16-in b at h) (rw (← e, lt-ltb n 256 l))
-
-  pub constant-high : 256 ≤ n → scan.Ends (at + 2) (record { 0 = pos + 3 }) ≡ scanned constantSize pos (readU16 b (placed at))
-  unfolding constantSize pick
-  constant-high l = ends constantSize pos (reading.u16-in b at h) (rw (← e, le-ltb n 256 l))
+-- the code holds the number in n and the length of kind and number in l
+pub constant-in : (b : List ℕ) (at pos n l : ℕ) → at + 2 ≤ length b → n ≡ u16At b at → l ≡ pushLength (Constant n)
+    → scan.Ends (at + 2) (record { 0 = pos + l }) ≡ scanned constantSize pos (readU16 b (placed at))
+unfolding constantSize
+constant-in b at pos n l h e f = ends constantSize pos (reading.u16-in b at h) (rw (f, e))
 
 -- ---- push values, by their kind
 

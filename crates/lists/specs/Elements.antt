@@ -1,9 +1,7 @@
 -- The elements of a list: a string that stands after some bytes, and how many bytes an element is written in. Assumes nothing.
 use Prim.Native.Nat.{ℕ, _+_}
 use mathlib.Core.List.{List}
-use lib.Dec.{ltb}
-use Rattle.layout.specs.Lists.{pick}
-use Rattle.layout.specs.Tree.{PushValueOf}
+use Rattle.layout.specs.Tree.{PushValueOf, Constant}
 use Rattle.layout.specs.Read.{Text, edition1, Reader, _>>=_, readBytes, readString}
 use Rattle.layout.specs.Strings.{mapValue}
 use Rattle.layout.specs.Lengths.{pushLength}
@@ -21,7 +19,7 @@ namedSize skip s = skip + stringSize s
 
 -- a pushed constant's kind and number
 unfoldable pub constantSize : ℕ → ℕ
-constantSize i = pick (ltb i 256) 2 3
+constantSize i = pushLength (Constant i)
 
 unfoldable pub valueSize : PushValueOf Text → ℕ
 valueSize v = pushLength (mapValue spelling v)

@@ -6,6 +6,7 @@ ghost use Rattle.layout.specs.Lengths.{total};
 ghost use Rattle.positions.specs.Scanned.{scanned, Roomy};
 ghost use Rattle.lists.specs.Elements.{namedSize, readNamed, constantSize, valueSize};
 use fields::u16_at;
+use opcode::OpCode;
 use operands::scan_bytes;
 use operands::scan_flag;
 use operands::scan_string;
@@ -50,7 +51,7 @@ pub fn scan_strings(b: &[u8], at: usize, skip: usize, pos: BytePosition) -> Scan
     Scan::Ends(p, w)
 }
 
-// A constant's number: kind and number take 2 bytes in the block, or 3.
+// A constant's number; what is measured has its kind too.
 fn scan_constant(b: &[u8], at: usize, pos: BytePosition) -> Scan
     requires { ⌜ Roomy (now b) at pos ⌝ }
     ensures { λ r. ⌜ r ≡ scanned constantSize (pos .0) (readU16 (now (b .entry)) (placed at)) ⌝ }
@@ -58,10 +59,8 @@ fn scan_constant(b: &[u8], at: usize, pos: BytePosition) -> Scan
     if b.len() - at < 2 {
         return Scan::Stops(Fault::CutShort, at);
     }
-    if u16_at(b, at) < 256 {
-        return Scan::Ends(at + 2, BytePosition(pos.0 + 2));
-    }
-    Scan::Ends(at + 2, BytePosition(pos.0 + 3))
+    let len = OpCode::push_constant_len(u16_at(b, at));
+    Scan::Ends(at + 2, BytePosition(pos.0 + len))
 }
 
 // A push value: its kind, then what the kind says.
@@ -74,13 +73,13 @@ pub fn scan_push_value(b: &[u8], at: usize, pos: BytePosition) -> Scan
     }
     let p = at + 1;
     match b[at] {
-        0 => scan_string(b, p, BytePosition(pos.0 + 1)),
-        2 => Scan::Ends(p, BytePosition(pos.0 + 1)),
-        3 => Scan::Ends(p, BytePosition(pos.0 + 1)),
-        4 => scan_bytes(b, p, 1, BytePosition(pos.0 + 2)),
-        5 => scan_flag(b, p, BytePosition(pos.0 + 2)),
-        6 => scan_bytes(b, p, 8, BytePosition(pos.0 + 9)),
-        7 => scan_bytes(b, p, 4, BytePosition(pos.0 + 5)),
+        0 => scan_string(b, p, BytePosition(pos.0 + OpCode::PUSH_KIND_LEN)),
+        2 => Scan::Ends(p, BytePosition(pos.0 + OpCode::PUSH_KIND_LEN)),
+        3 => Scan::Ends(p, BytePosition(pos.0 + OpCode::PUSH_KIND_LEN)),
+        4 => scan_bytes(b, p, 1, BytePosition(pos.0 + OpCode::PUSH_U8_LEN)),
+        5 => scan_flag(b, p, BytePosition(pos.0 + OpCode::PUSH_U8_LEN)),
+        6 => scan_bytes(b, p, 8, BytePosition(pos.0 + OpCode::PUSH_FLOAT_LEN)),
+        7 => scan_bytes(b, p, 4, BytePosition(pos.0 + OpCode::PUSH_INTEGER_LEN)),
         8 => scan_constant(b, p, pos),
         _ => Scan::Stops(Fault::UnknownCode, at),
     }

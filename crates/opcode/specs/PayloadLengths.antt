@@ -1,16 +1,16 @@
 -- Document 01's formulas, which the length functions of `OpCode` give, are the lengths of the definitions' payloads: from the
 -- lengths of what a payload holds. Assumes nothing.
 use mathlib.Core.Path.{_≡_}
-use Prim.Native.Nat.{ℕ, _+_}
+use Prim.Native.Nat.{ℕ, zero, suc, _+_, _≤_}
 use native.Mathlib.Omega.{arith}
-use mathlib.Core.Bool.{Bool}
-use mathlib.Core.List.{List, [], _∷_}
+use mathlib.Core.Bool.{Bool, true, false}
+use mathlib.Core.List.{List}
 use lib.ListN.{length}
-use Rattle.layout.specs.Tree.{FunctionParam, Small, GotoFrame, GetUrl, StoreRegister, ConstantPool, WaitForFrame, SetTarget, GotoLabel, WaitForFrame2, GetUrl2, GotoFrame2, With, DefineFunction, DefineFunction2}
-use Rattle.layout.specs.OpCode.{SmallOpCode}
-use Rattle.layout.specs.Numbers.{le16}
-use Rattle.layout.specs.Payload.{payload, ownerPayload, tryPayload}
-use Rattle.layout.specs.Lengths.{total, stringLength, paramLength, gotoFrame2Length, payloadLength, ownerLength, length-payload, length-ownerPayload, length-tryPayload}
+use lib.Dec.{ltb}
+use Rattle.layout.specs.Lists.{pick}
+use Rattle.layout.specs.Tree.{PushValue, Constant, FunctionParam, GetUrl, ConstantPool, SetTarget, GotoLabel, Push, GotoFrame2, DefineFunction, DefineFunction2}
+use Rattle.layout.specs.Payload.{pushBytes, payload, ownerPayload, tryPayload}
+use Rattle.layout.specs.Lengths.{total, stringLength, paramLength, pushLength, gotoFrame2Length, payloadLength, ownerLength, length-push, length-payload, length-ownerPayload, length-tryPayload}
 
 -- "GetUrl |u|+|t|+2"
 pub get-url-payload : {url target : ℕ} (u t : List ℕ) → length u ≡ url → length t ≡ target → length (payload (GetUrl u t)) ≡ url + target + 2
@@ -52,7 +52,25 @@ pub goto-frame-2-payload : (bias : ℕ) (play : Bool) → length (payload (GotoF
 unfolding payloadLength
 goto-frame-2-payload bias play = length-payload (GotoFrame2 bias play)
 
--- the payload lengths of the actions that have the same whatever they hold, in the order of the opcodes:
--- GotoFrame, StoreRegister, WaitForFrame, WaitForFrame2, With, a branch (its distance), GetUrl2 and an action without a field, such as Call
-pub record FixedLengths (r : List ℕ) : Type 0 where
-  pub are : (n k m : ℕ) (v t : Bool) (op : SmallOpCode) → r ≡ payloadLength (GotoFrame n) ∷ payloadLength (StoreRegister n) ∷ payloadLength (WaitForFrame n k) ∷ payloadLength (WaitForFrame2 n) ∷ ownerLength With ∷ length (le16 n) ∷ payloadLength (GetUrl2 v t m) ∷ payloadLength (Small op) ∷ []
+-- a Push has its values and no count
+pub push-payload : {sum : ℕ} (vs : List PushValue) → total pushLength vs ≡ sum → length (payload (Push vs)) ≡ sum
+unfolding payloadLength
+push-payload vs h = omega (arith, length-payload (Push vs))
+
+-- "constant under 256 kind 8 and u8, else kind 9 and u16"
+pub push-constant-payload : (n : ℕ) → length (pushBytes (Constant n)) ≡ pushLength (Constant n)
+push-constant-payload n = length-push (Constant n)
+
+-- the two lengths that are not sums are at most 3
+pub push-constant-short : (n : ℕ) → pushLength (Constant n) ≤ 3
+unfolding pushLength pick
+push-constant-short n = go (ltb n 256)
+  where
+    go : (t : Bool) → pick t 2 3 ≤ 3
+    go true = omega arith
+    go false = omega arith
+
+pub goto-frame-2-short : (bias : ℕ) → gotoFrame2Length bias ≤ 3
+unfolding gotoFrame2Length
+goto-frame-2-short zero = omega arith
+goto-frame-2-short (suc bias) = omega arith

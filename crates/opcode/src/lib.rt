@@ -1,12 +1,11 @@
 // The opcodes of source 000: their bytes, and the lengths of their payloads.
 ghost use mathlib.Core.Path.{_≡_};
-ghost use Prim.Native.Nat.{_+_, _<_};
+ghost use Prim.Native.Nat.{_+_, _≤_};
 ghost use Rattle.layout.specs.Lists.{each};
 ghost use Rattle.layout.specs.OpCode.{byte, opcodes};
 ghost use Rattle.layout.specs.Tree.{Constant};
 ghost use Rattle.layout.specs.Lengths.{pushLength, gotoFrame2Length};
 ghost use Rattle.opcode.specs.Listed.{listed};
-ghost use Rattle.opcode.specs.PayloadLengths.{FixedLengths};
 
 // An opcode's byte. Its constants are those of OpCode of source 000, in that order.
 pub struct OpCode(pub u8);
@@ -346,59 +345,52 @@ impl OpCode {
         OpCode::ALL
     }
 
-    // Payload lengths that are the same for every action of an opcode. A branch is a Jump or an If.
-    pub const GOTO_FRAME_LEN: usize = 2;
+    // An opcode under 80 is an action's only byte. One from 80 on is followed by the length of its payload, and these three bytes are
+    // the action's header.
+    pub const SMALL_LEN: usize = 1;
 
-    pub const STORE_REGISTER_LEN: usize = 1;
+    pub const HEADER_LEN: usize = 3;
+
+    // Payloads of one length, whatever they hold: a byte (StoreRegister, WaitForFrame2, GetUrl2), a u16 (GotoFrame, With, Jump, If),
+    // both (WaitForFrame), or nothing (Call). What measures and what writes by these is proved against the definitions' payloads.
+    pub const U8_LEN: usize = 1;
+
+    pub const U16_LEN: usize = 2;
 
     pub const WAIT_FOR_FRAME_LEN: usize = 3;
 
-    pub const WAIT_FOR_FRAME2_LEN: usize = 1;
-
-    pub const WITH_LEN: usize = 2;
-
-    pub const BRANCH_LEN: usize = 2;
-
-    pub const GET_URL2_LEN: usize = 1;
-
     pub const CALL_LEN: usize = 0;
 
-    // Those lengths, in that order.
-    pub fn fixed_lens() -> [usize; 8]
-        ensures { λ r. ⌜ FixedLengths r ⌝ }
-    {
-        [
-            OpCode::GOTO_FRAME_LEN,
-            OpCode::STORE_REGISTER_LEN,
-            OpCode::WAIT_FOR_FRAME_LEN,
-            OpCode::WAIT_FOR_FRAME2_LEN,
-            OpCode::WITH_LEN,
-            OpCode::BRANCH_LEN,
-            OpCode::GET_URL2_LEN,
-            OpCode::CALL_LEN,
-        ]
-    }
+    // Pushed values, each with its kind: the kind alone (null, undefined, and before a string), with a byte (a register, a boolean),
+    // an integer or a double.
+    pub const PUSH_KIND_LEN: usize = 1;
 
-    // A GetUrl's payload, from the lengths of its strings. PayloadLengths proves of this formula, and of those below, that it is the
-    // length of the definitions' payload.
-    pub fn get_url_len(url: usize, target: usize) -> usize
-        requires { ⌜ (url < 4294967296) × (target < 4294967296) ⌝ }
-        ensures { λ r. ⌜ r ≡ url + target + 2 ⌝ }
-    {
-        url + target + 2
-    }
+    pub const PUSH_U8_LEN: usize = 2;
 
-    // The payload of a SetTarget or a GotoLabel, from the length of its string.
+    pub const PUSH_INTEGER_LEN: usize = 5;
+
+    pub const PUSH_FLOAT_LEN: usize = 9;
+
+    // A string of this length and its zero byte: the payload of a SetTarget or a GotoLabel, and a string of a list. PayloadLengths
+    // proves of this formula, and of those below, that it is the length of the definitions' payload.
     pub fn string_len(string: usize) -> usize
-        requires { ⌜ string < 4294967296 ⌝ }
+        requires { ⌜ string ≤ 1099511627776 ⌝ }
         ensures { λ r. ⌜ r ≡ string + 1 ⌝ }
     {
         string + 1
     }
 
+    // A GetUrl's payload, from the lengths of its strings.
+    pub fn get_url_len(url: usize, target: usize) -> usize
+        requires { ⌜ (url ≤ 1099511627776) × (target ≤ 1099511627776) ⌝ }
+        ensures { λ r. ⌜ r ≡ url + target + 2 ⌝ }
+    {
+        url + target + 2
+    }
+
     // A ConstantPool's payload, from the total length of its strings, each with its zero byte.
     pub fn constant_pool_len(sum: usize) -> usize
-        requires { ⌜ sum < 4294967296 ⌝ }
+        requires { ⌜ sum ≤ 1099511627776 ⌝ }
         ensures { λ r. ⌜ r ≡ 2 + sum ⌝ }
     {
         2 + sum
@@ -406,7 +398,7 @@ impl OpCode {
 
     // A DefineFunction's payload, from the length of its name and the total length of its parameters.
     pub fn define_function_len(name: usize, sum: usize) -> usize
-        requires { ⌜ (name < 4294967296) × (sum < 4294967296) ⌝ }
+        requires { ⌜ (name ≤ 1099511627776) × (sum ≤ 1099511627776) ⌝ }
         ensures { λ r. ⌜ r ≡ name + 5 + sum ⌝ }
     {
         name + 5 + sum
@@ -414,7 +406,7 @@ impl OpCode {
 
     // The same for a DefineFunction2.
     pub fn define_function_2_len(name: usize, sum: usize) -> usize
-        requires { ⌜ (name < 4294967296) × (sum < 4294967296) ⌝ }
+        requires { ⌜ (name ≤ 1099511627776) × (sum ≤ 1099511627776) ⌝ }
         ensures { λ r. ⌜ r ≡ name + 8 + sum ⌝ }
     {
         name + 8 + sum
@@ -422,10 +414,24 @@ impl OpCode {
 
     // A Try's payload, from the number of bytes of its catch target: a name with its zero byte, or one byte.
     pub fn try_len(name: usize) -> usize
-        requires { ⌜ name < 4294967296 ⌝ }
+        requires { ⌜ name ≤ 1099511627776 ⌝ }
         ensures { λ r. ⌜ r ≡ 7 + name ⌝ }
     {
         7 + name
+    }
+
+    // A Push's payload, from the total length of its values: their count is not written.
+    pub fn push_len(sum: usize) -> usize
+        ensures { λ r. ⌜ r ≡ sum ⌝ }
+    {
+        sum
+    }
+
+    // A pushed constant: its kind and its number.
+    pub fn push_constant_len(n: usize) -> usize
+        ensures { λ r. ⌜ r ≡ pushLength (Constant n) ⌝ }
+    {
+        if n < 256 { 2 } else { 3 }
     }
 
     // A GotoFrame2's payload.
@@ -433,12 +439,5 @@ impl OpCode {
         ensures { λ r. ⌜ r ≡ gotoFrame2Length bias ⌝ }
     {
         if bias == 0 { 1 } else { 3 }
-    }
-
-    // A pushed constant: its kind byte and its number.
-    pub fn constant_len(n: usize) -> usize
-        ensures { λ r. ⌜ r ≡ pushLength (Constant n) ⌝ }
-    {
-        if n < 256 { 2 } else { 3 }
     }
 }

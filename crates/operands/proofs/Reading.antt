@@ -2,15 +2,16 @@
 use mathlib.Core.Path.{_≡_, refl, sym, ap, _∙_}
 use Prim.Native.Nat.{ℕ, zero, suc, _+_, _≤_, _<_}
 use native.Mathlib.Omega.{arith}
+use mathlib.Core.Bool.{Bool, true, false}
 use mathlib.Core.Option.{Option, none, some}
 use mathlib.Core.List.{List, [], _∷_}
 use lib.ListN.{length, getD, drop, length-drop}
 use lib.Seq.{length-take-le}
 use lib.Dec.{leb, eqb}
-use borrow.Author.Tests.{le-leb, lt-leb, lt-ltb, le-ltb}
+use borrow.Author.Tests.{le-leb, lt-leb, lt-ltb, le-ltb, leb-true, leb-false}
 use Rattle.layout.specs.Numbers.{u16At}
-use Rattle.layout.specs.Answers.{CutShort, BadField}
-use Rattle.layout.specs.Read.{plain, edition1, ahead, placed, got, bad, ifWhole, ifWithin, tested, firstZero, ifNoZero, readU8, readU16, readBytes, readFlag, readSpelling, readString, readLabel}
+use Rattle.layout.specs.Answers.{Fault, CutShort, BadField}
+use Rattle.layout.specs.Read.{Text, plain, edition1, ahead, Place, placed, got, bad, ifWhole, ifWithin, tested, firstZero, ifNoZero, readU8, readU16, readBytes, readFlag, readSpelling, readString, readLabel}
 use Rattle.layout.specs.Lengths.{stringLength}
 use Rattle.layout.specs.Pack.{spelling}
 use Rattle.fields.specs.Runs.{part, nulOr, firstNul}
@@ -152,6 +153,39 @@ module _ (b : List ℕ) (at : ℕ) where
           → readString edition1 b (placed at) ≡ got (plain (part b (at + 2) (u16At b at))) (placed (at + 2 + u16At b at))
       unfolding readString readSpelling ifNoZero firstNul
       string-in k = rw (u16-in b at h, bytes-in b (at + 2) (u16At b at) l, nul-none (at + 2) (u16At b at) (firstZero 0 (part b (at + 2) (u16At b at))) within k)
+
+-- a string that was read has the length that stands before it
+module _ (b : List ℕ) (at : ℕ) {s : Text} {q : Place} (e : readString edition1 b (placed at) ≡ got s q) where
+  abbrev Told : Type 0
+  Told = (at + 2 ≤ length b) × (stringSize s ≡ u16At b at + 1)
+
+  no : {f : Fault} {p : Place} → readString edition1 b (placed at) ≡ bad f p → Told
+  no g =
+      let z : _≡_ {A = ℕ} 0 1 = cc in
+      absurd (omega arith)
+
+  text : (t : Text) (p : Place) → readString edition1 b (placed at) ≡ got t p → at + 2 ≤ length b → length (spelling t) ≡ u16At b at → Told
+  unfolding stringSize stringLength
+  text t p g h l =
+      let m : t ≡ s = cc in
+      (h, rw (← m, l))
+
+  module _ (h : at + 2 ≤ length b) where
+    none-zero : (t : Bool) → at + 2 + u16At b at ≤ length b → leb (at + 2 + u16At b at) (firstNul b (at + 2) (u16At b at)) ≡ t → Told
+    unfolding spelling
+    none-zero true l k = text _ _ (string-in b at h l (leb-true _ _ k)) h (string-length b at h l)
+    none-zero false l k = no (string-nul b at h l (leb-false _ _ k))
+
+    not-cut : (t : Bool) → leb (at + 2 + u16At b at) (length b) ≡ t → Told
+    not-cut true l = none-zero (leb (at + 2 + u16At b at) (firstNul b (at + 2) (u16At b at))) (leb-true _ _ l) refl
+    not-cut false l = no (string-short b at h (leb-false _ _ l))
+
+  counted : (t : Bool) → leb (at + 2) (length b) ≡ t → Told
+  counted true h = not-cut (leb-true _ _ h) (leb (at + 2 + u16At b at) (length b)) refl
+  counted false h = no (string-out b at (leb-false _ _ h))
+
+  pub string-read : (at + 2 ≤ length b) × (stringSize s ≡ u16At b at + 1)
+  string-read = counted (leb (at + 2) (length b)) refl
 
 -- as the code answers, which holds the length in n and the zero byte's place in z
 module _ (b : List ℕ) (at pos n : ℕ) (h : at + 2 ≤ length b) (e : n ≡ u16At b at) where

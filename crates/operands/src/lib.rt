@@ -8,6 +8,7 @@ ghost use Rattle.positions.specs.Scanned.{scanned, Roomy};
 ghost use Rattle.operands.specs.Operands.{stringSize};
 use fields::first_nul;
 use fields::u16_at;
+use opcode::OpCode;
 use positions::BytePosition;
 use positions::Fault;
 use positions::Scan;
@@ -68,5 +69,5 @@ pub fn scan_string(b: &[u8], at: usize, pos: BytePosition) -> Scan
     if z < p + n {
         return Scan::Stops(Fault::BadField, z);
     }
-    Scan::Ends(p + n, BytePosition(pos.0 + (n + 1)))
+    Scan::Ends(p + n, BytePosition(pos.0 + OpCode::string_len(n)))
 }

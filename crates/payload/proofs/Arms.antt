@@ -2,6 +2,7 @@
 use mathlib.Core.Path.{_≡_, refl, sym, ap, _∙_, subst}
 use Prim.Native.Nat.{ℕ, zero, suc, _+_, _≤_, _<_}
 use native.Mathlib.Omega.{arith}
+use native.Mathlib.Nat.{add-zero}
 use mathlib.Core.Bool.{Bool, true, false, false≢true, _||_, _&&_}
 use mathlib.Core.Option.{Option, none, some}
 use mathlib.Core.List.{List, [], _∷_}
@@ -237,21 +238,21 @@ module _ (b : List ℕ) (op at pos : ℕ) (over : List ℕ) (r : Scan) (l : Laid
   arm-store-register o e m =
       named 0x87 OpCode.StoreRegister over (codes .2) o (lay-flat _ StoreRegister at (length b) pos over (λ _. 0) (pos + 3 + 1) (λ a. omega arith) (readU8 b (placed (at + 1))) (λ inner. refl) (λ a q g. (refl, omega arith)) r l (e ∙ number-as _ _ _ _ _ _) m)
 
-  pub arm-wait-for-frame2 : op ≡ 0x8D → r ≡ scanned (λ _. 0) (pos + 3 + 1) (readBytes b 1 (placed (at + 1))) → l ≡ laidAs 0 r → Here over
+  pub arm-wait-for-frame-2 : op ≡ 0x8D → r ≡ scanned (λ _. 0) (pos + 3 + 1) (readBytes b 1 (placed (at + 1))) → l ≡ laidAs 0 r → Here over
   unfolding readFields readBytes readU8 flatSize mapFlat payloadLength opcode byte
-  arm-wait-for-frame2 o e m =
+  arm-wait-for-frame-2 o e m =
       named 0x8D OpCode.WaitForFrame2 over (codes .7) o (lay-flat _ WaitForFrame2 at (length b) pos over (λ _. 0) (pos + 3 + 1) (λ a. omega arith) (readU8 b (placed (at + 1))) (λ inner. refl) (λ a q g. (refl, omega arith)) r l (e ∙ number-as _ _ _ _ _ _) m)
 
   pub arm-wait-for-frame : op ≡ 0x8A → r ≡ scanned flatSize (pos + 3) (readWaitForFrame b (placed (at + 1))) → l ≡ laidAs 0 r → Here over
   arm-wait-for-frame o e m =
       named 0x8A OpCode.WaitForFrame over (codes .4) o (lay-flat (fieldsOf OpCode.WaitForFrame) (λ f. f) at (length b) pos over flatSize (pos + 3) (λ a. refl) (readWaitForFrame b (placed (at + 1))) (wait-fields b (placed (at + 1))) (wait-fixed b (placed (at + 1))) r l e m)
 
-  pub arm-goto-frame2 : op ≡ 0x9F → r ≡ scanned flatSize (pos + 3) (readGotoFrame2 b (placed (at + 1))) → l ≡ laidAs 0 r → Here over
-  arm-goto-frame2 o e m =
+  pub arm-goto-frame-2 : op ≡ 0x9F → r ≡ scanned flatSize (pos + 3) (readGotoFrame2 b (placed (at + 1))) → l ≡ laidAs 0 r → Here over
+  arm-goto-frame-2 o e m =
       named 0x9F OpCode.GotoFrame2 over (codes .17) o (lay-flat (fieldsOf OpCode.GotoFrame2) (λ f. f) at (length b) pos over flatSize (pos + 3) (λ a. refl) (readGotoFrame2 b (placed (at + 1))) (goto-fields b (placed (at + 1))) (goto-fixed b (placed (at + 1))) r l e m)
 
-  pub arm-get-url2 : op ≡ 0x9A → r ≡ scanned flatSize (pos + 3) (readGetUrl2 b (placed (at + 1))) → l ≡ laidAs 0 r → Here over
-  arm-get-url2 o e m =
+  pub arm-get-url-2 : op ≡ 0x9A → r ≡ scanned flatSize (pos + 3) (readGetUrl2 b (placed (at + 1))) → l ≡ laidAs 0 r → Here over
+  arm-get-url-2 o e m =
       named 0x9A OpCode.GetUrl2 over (codes .13) o (lay-flat (fieldsOf OpCode.GetUrl2) (λ f. f) at (length b) pos over flatSize (pos + 3) (λ a. refl) (readGetUrl2 b (placed (at + 1))) (url2-fields b (placed (at + 1))) (url2-fixed b (placed (at + 1))) r l e m)
 
   pub arm-set-target : (over′ : List ℕ) → op ≡ 0x8B → r ≡ scanned stringSize (pos + 3) (readString edition1 b (placed (at + 1))) → l ≡ laidAs 0 r → over′ ≡ notedFrom (pos + 3) r over → Here over′
@@ -264,30 +265,31 @@ module _ (b : List ℕ) (op at pos : ℕ) (over : List ℕ) (r : Scan) (l : Laid
   arm-goto-label over′ o e m n =
       named 0x8C OpCode.GotoLabel over′ (codes .6) o (lay-long (fieldsOf OpCode.GotoLabel) GotoLabel at (length b) pos over stringSize (pos + 3) (λ a. omega arith) (readString edition1 b (placed (at + 1))) (λ inner. refl) (λ a q g. refl) over′ r l e m n)
 
-  pub arm-constant-pool : (over′ : List ℕ) → op ≡ 0x88 → r ≡ scanned (total (namedSize 0)) (pos + 3 + 2) (readCounted b (readNamed b 0) (placed (at + 1))) → l ≡ laidAs 0 r → over′ ≡ notedFrom (pos + 3) r over
+  -- a list is measured from a position w on: that of an action whose list is empty
+  pub arm-constant-pool : (over′ : List ℕ) (w : ℕ) → op ≡ 0x88 → w ≡ pos + 3 + 2 → r ≡ scanned (total (namedSize 0)) w (readCounted b (readNamed b 0) (placed (at + 1))) → l ≡ laidAs 0 r → over′ ≡ notedFrom (pos + 3) r over
       → Here over′
   unfolding readFields flatSize mapFlat payloadLength opcode byte
-  arm-constant-pool over′ o e m n =
-      named 0x88 OpCode.ConstantPool over′ (codes .3) o (lay-long (fieldsOf OpCode.ConstantPool) ConstantPool at (length b) pos over (total (λ s. namedSize 0 s)) (pos + 3 + 2) (λ ss. omega (arith, strings-total ss)) (readCounted b (readString edition1 b) (placed (at + 1))) (λ inner. refl) (λ a q g. refl) over′ r l
-      (e ∙ scanned-list (λ s. s) (readString edition1 b) (readNamed b 0) (named-plain b) b (namedSize 0) (pos + 3 + 2) (placed (at + 1))) m n)
+  arm-constant-pool over′ w o h e m n =
+      named 0x88 OpCode.ConstantPool over′ (codes .3) o (lay-long (fieldsOf OpCode.ConstantPool) ConstantPool at (length b) pos over (total (λ s. namedSize 0 s)) w (λ ss. omega (arith, h, strings-total ss)) (readCounted b (readString edition1 b) (placed (at + 1))) (λ inner. refl) (λ a q g. refl) over′ r l
+      (e ∙ scanned-list (λ s. s) (readString edition1 b) (readNamed b 0) (named-plain b) b (namedSize 0) w (placed (at + 1))) m n)
 
   values-total : (vs : List (PushValueOf Text)) → total valueSize vs ≡ total pushLength (each (mapValue spelling) vs)
   unfolding total each valueSize
   values-total [] = refl
   values-total (v ∷ vs) = omega (arith, values-total vs)
 
-  pub arm-push : (over′ : List ℕ) → op ≡ 0x96 → r ≡ scanned (total valueSize) (pos + 3) (readCounted b (readValue edition1 b) (placed (at + 1))) → l ≡ laidAs 0 r → over′ ≡ notedFrom (pos + 3) r over → Here over′
+  pub arm-push : (over′ : List ℕ) (w : ℕ) → op ≡ 0x96 → w ≡ pos + 3 + 0 → r ≡ scanned (total valueSize) w (readCounted b (readValue edition1 b) (placed (at + 1))) → l ≡ laidAs 0 r → over′ ≡ notedFrom (pos + 3) r over → Here over′
   unfolding readFields flatSize mapFlat payloadLength opcode byte
-  arm-push over′ o e m n =
-      named 0x96 OpCode.Push over′ (codes .11) o (lay-long (fieldsOf OpCode.Push) Push at (length b) pos over (total valueSize) (pos + 3) (λ vs. omega (arith, values-total vs)) (readCounted b (readValue edition1 b) (placed (at + 1))) (λ inner. refl) (λ a q g. refl) over′ r l e m n)
+  arm-push over′ w o h e m n =
+      named 0x96 OpCode.Push over′ (codes .11) o (lay-long (fieldsOf OpCode.Push) Push at (length b) pos over (total valueSize) w (λ vs. omega (arith, h, values-total vs)) (readCounted b (readValue edition1 b) (placed (at + 1))) (λ inner. refl) (λ a q g. refl) over′ r l e m n)
 
   module _ (small : Bytes b) (inside : at + 1 ≤ length b) where
     pub arm-define-function : (over′ : List ℕ) → op ≡ 0x9B → r ≡ scanned ownerSize (pos + 3) (readFunction b (placed (at + 1))) → l ≡ laidAs 1 r → over′ ≡ notedFrom (pos + 3) r over → Here over′
     arm-define-function over′ o e m n =
         named 0x9B OpCode.DefineFunction over′ (codes .14) o (lay-owner (fieldsOf OpCode.DefineFunction) (readFunction b (placed (at + 1))) (function-fields b (placed (at + 1))) at (length b) pos (λ x q g. owner-onward b (placed (at + 1)) at x q (good-got x q (function-good b (placed (at + 1)) small inside) g) refl pos) over over′ r l e m n)
 
-    pub arm-define-function2 : (over′ : List ℕ) → op ≡ 0x8E → r ≡ scanned ownerSize (pos + 3) (readFunction2 b (placed (at + 1))) → l ≡ laidAs 1 r → over′ ≡ notedFrom (pos + 3) r over → Here over′
-    arm-define-function2 over′ o e m n =
+    pub arm-define-function-2 : (over′ : List ℕ) → op ≡ 0x8E → r ≡ scanned ownerSize (pos + 3) (readFunction2 b (placed (at + 1))) → l ≡ laidAs 1 r → over′ ≡ notedFrom (pos + 3) r over → Here over′
+    arm-define-function-2 over′ o e m n =
         named 0x8E OpCode.DefineFunction2 over′ (codes .8) o (lay-owner (fieldsOf OpCode.DefineFunction2) (readFunction2 b (placed (at + 1))) (function2-fields b (placed (at + 1))) at (length b) pos (λ x q g. owner-onward b (placed (at + 1)) at x q (good-got x q (function2-good b (placed (at + 1)) small inside) g) refl pos) over over′ r l e m n)
 
 -- ---- branches
@@ -334,10 +336,10 @@ module _ (b : List ℕ) (op at pos : ℕ) (over : List ℕ) where
           owner-measured (λ inner. readFields edition1 b inner OpCode.With (placed (at + 1))) With inner pos (pos + 3 + 2) (at + 1) [] over (ap (λ (n : ℕ). pos + 3 + n) (sym with-size)) (unfold readFields in refl)
 
   pub arm-call : op ≡ 0x9E
-      → Laying (λ inner. readFieldsIf edition1 b inner (opcodeOf op) (placed at) (placed (at + 1))) at (length b) pos over over (laid.Flat (at + 1) (record { 0 = pos + 3 }))
+      → Laying (λ inner. readFieldsIf edition1 b inner (opcodeOf op) (placed at) (placed (at + 1))) at (length b) pos over over (laid.Flat (at + 1) (record { 0 = pos + 3 + 0 }))
   unfolding readFieldsIf readFields
   arm-call o =
-      rw (o, codes .16) (Laying.flat {q = at + 1} {w = record { 0 = pos + 3 }} (λ inner tab. outcome-got actionSize actionTrace pos (state tab over) refl
+      rw (add-zero, o, codes .16) (Laying.flat {q = at + 1} {w = record { 0 = pos + 3 }} (λ inner tab. outcome-got actionSize actionTrace pos (state tab over) refl
       (unfold size mapAction mapFlat opcode payload framed headed byte smallByte le16 in refl) (unfold trace mapAction mapFlat payload payloadTest eventIf run recordAll noteAll in refl))
       (λ inner. measured-got actionSize actionTrace pos refl (unfold size mapAction mapFlat opcode payload framed headed byte smallByte le16 in refl) (unfold trace mapAction mapFlat payload payloadTest eventIf branches in refl)))
 

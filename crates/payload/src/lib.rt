@@ -34,7 +34,7 @@ fn scan_branch(b: &[u8], at: usize, pos: BytePosition) -> Laid
     requires { ⌜ Roomy (now b) at pos ⌝ }
     ensures { λ l. ⌜ l ≡ branchLaid (pos .0) (readLabel edition1 (now (b .entry)) 0 (placed at)) ⌝ }
 {
-    match scan_label(b, at, BytePosition(pos.0 + 2)) {
+    match scan_label(b, at, BytePosition(pos.0 + OpCode::U16_LEN)) {
         Scan::Stops(f, p) => Laid::Stops(f, p),
         Scan::Ends(p, w) => Laid::Branch(p, w, u16_at(b, at)),
     }
@@ -60,13 +60,23 @@ pub fn scan_payload(b: &[u8], op: u8, at: usize, pos: BytePosition, over: &mut [
     ensures { λ l. ⌜ Laying (λ inner. readFieldsIf edition1 (now (b .entry)) inner (opcodeOf op) (placed at) (placed (at + 1))) at (length (now (b .entry))) (pos .0) (now (over .entry)) (now (over .exit)) l ⌝ }
 {
     let p = at + 1;
-    let w = BytePosition(pos.0 + 3);
+    let w = BytePosition(pos.0 + OpCode::HEADER_LEN);
     match op {
-        OpCode::GOTO_FRAME => flat_payload(scan_bytes(b, p, 2, BytePosition(w.0 + 2))),
+        OpCode::GOTO_FRAME => flat_payload(scan_bytes(
+            b,
+            p,
+            2,
+            BytePosition(w.0 + OpCode::U16_LEN),
+        )),
         OpCode::GET_URL => long_payload(scan_get_url(b, p, w), w, 0, over),
-        OpCode::STORE_REGISTER => flat_payload(scan_bytes(b, p, 1, BytePosition(w.0 + 1))),
+        OpCode::STORE_REGISTER => flat_payload(scan_bytes(
+            b,
+            p,
+            1,
+            BytePosition(w.0 + OpCode::U8_LEN),
+        )),
         OpCode::CONSTANT_POOL => long_payload(
-            scan_strings(b, p, 0, BytePosition(w.0 + 2)),
+            scan_strings(b, p, 0, BytePosition(w.0 + OpCode::constant_pool_len(0))),
             w,
             0,
             over,
@@ -74,16 +84,26 @@ pub fn scan_payload(b: &[u8], op: u8, at: usize, pos: BytePosition, over: &mut [
         OpCode::WAIT_FOR_FRAME => flat_payload(scan_wait_for_frame(b, p, w)),
         OpCode::SET_TARGET => long_payload(scan_string(b, p, w), w, 0, over),
         OpCode::GOTO_LABEL => long_payload(scan_string(b, p, w), w, 0, over),
-        OpCode::WAIT_FOR_FRAME2 => flat_payload(scan_bytes(b, p, 1, BytePosition(w.0 + 1))),
+        OpCode::WAIT_FOR_FRAME2 => flat_payload(scan_bytes(
+            b,
+            p,
+            1,
+            BytePosition(w.0 + OpCode::U8_LEN),
+        )),
         OpCode::DEFINE_FUNCTION2 => long_payload(scan_define_function_2(b, p, w), w, 1, over),
         OpCode::TRY => scan_try(b, p, w, over),
-        OpCode::WITH => Laid::Bodies(p, BytePosition(w.0 + 2), 1),
-        OpCode::PUSH => long_payload(scan_push(b, p, w), w, 0, over),
+        OpCode::WITH => Laid::Bodies(p, BytePosition(w.0 + OpCode::U16_LEN), 1),
+        OpCode::PUSH => long_payload(
+            scan_push(b, p, BytePosition(w.0 + OpCode::push_len(0))),
+            w,
+            0,
+            over,
+        ),
         OpCode::JUMP => scan_branch(b, p, w),
         OpCode::GET_URL2 => flat_payload(scan_get_url_2(b, p, w)),
         OpCode::DEFINE_FUNCTION => long_payload(scan_define_function(b, p, w), w, 1, over),
         OpCode::IF => scan_branch(b, p, w),
-        OpCode::CALL => Laid::Flat(p, w),
+        OpCode::CALL => Laid::Flat(p, BytePosition(w.0 + OpCode::CALL_LEN)),
         OpCode::GOTO_FRAME2 => flat_payload(scan_goto_frame_2(b, p, w)),
         _ => Laid::Stops(Fault::UnknownCode, at),
     }

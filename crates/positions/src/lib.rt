@@ -21,8 +21,8 @@ pub enum Scan {
     Stops(Fault, usize),
 }
 
-// Of a part that is written: the place where reading goes on, and the position where writing does.
+// Of a part that is written: the place in the main body where reading goes on, and the position in the block where writing does.
 pub struct Ends {
     pub next: usize,
-    pub pos: usize,
+    pub pos: BytePosition,
 }

@@ -226,7 +226,7 @@ module _ (inner : Reader (ActionsOf Text ℕ)) {b tab out : List ℕ} {at pos : 
 
       -- An action without a body is written.
       pub none-wrote : bodiesOf a ≡ bodies.Nothing
-          → Wrote (readAction edition1 b inner) actionSize (λ x. sets out pos (actionOf tab x pos)) at pos mid (record { next = next; pos = end })
+          → Wrote (readAction edition1 b inner) actionSize (λ x. sets out pos (actionOf tab x pos)) at pos mid (record { next = next; pos = record { 0 = end } })
       none-wrote e = record { wrote = λ x q r. none-at x q r .0; ends = record { ended = λ x q r. none-at x q r .1 } }
         where
           none-go : (x : ActionOf Text ℕ) (q : Place) → Holds bodies.Nothing x → mid ≡ sets out pos (headOf tab x pos) → end ≡ pos + length (headOf tab x pos) → BodiesFrom inner next x q
@@ -269,24 +269,24 @@ module _ (inner : Reader (ActionsOf Text ℕ)) {b tab out : List ℕ} {at pos : 
       one-wrote e new r w = record { wrote = λ x q t. one-at x q t .0; ends = record { ended = λ x q t. one-at x q t .1 } }
         where
           one-go : (x : ActionOf Text ℕ) (q : Place) → Holds bodies.One x → mid ≡ sets out pos (headOf tab x pos) → end ≡ pos + length (headOf tab x pos) → BodiesFrom inner next x q
-              → (new ≡ sets out pos (actionOf tab x pos)) × ((r .pos ≡ pos + actionSize x) × (r .next ≡ q .at))
+              → (new ≡ sets out pos (actionOf tab x pos)) × ((r .pos .0 ≡ pos + actionSize x) × (r .next ≡ q .at))
           one-go (owner o x) q one m k n =
               let v = w .ends .ended x q n in
               (w .wrote x q n ∙ owner-closed tab out mid o x pos end m k, (omega (arith, v .0, k, length-owner tab o x pos, owner-length o x), v .1))
 
           one-at : (x : ActionOf Text ℕ) (q : Place) → readAction edition1 b inner (placed at) ≡ got x q
-              → (new ≡ sets out pos (actionOf tab x pos)) × ((r .pos ≡ pos + actionSize x) × (r .next ≡ q .at))
+              → (new ≡ sets out pos (actionOf tab x pos)) × ((r .pos .0 ≡ pos + actionSize x) × (r .next ≡ q .at))
           one-at x q t =
               let g = headed bodies.One e x q t in
               one-go x q (g .has) (g .head) (g .reach) (g .from)
 
       -- The bodies of a Try have room, and their lengths stand from four bytes after its start on.
-      pub tried-room : (shape : ℕ) → bodiesOf a ≡ bodies.OfTry shape → Room (readAction edition1 b inner) actionSize nearAction b at pos tab out → length mid ≡ length out
-          → Room (readTried shape inner) lengthTried nearTried b next end tab mid × (pos + 4 + 6 ≤ end)
-      tried-room shape e r l = let g = headed (bodies.OfTry shape) e (r .value) (r .next) (r .reads) in tried-go (r .value) (r .next) (g .has) (g .reach) (g .from) (r .room) (r .is-near)
+      pub tried-room : (shape from : ℕ) → from ≡ pos + 4 → bodiesOf a ≡ bodies.OfTry shape → Room (readAction edition1 b inner) actionSize nearAction b at pos tab out → length mid ≡ length out
+          → Room (readTried shape inner) lengthTried nearTried b next end tab mid × (from + 6 ≤ end)
+      tried-room shape from z e r l = let g = headed (bodies.OfTry shape) e (r .value) (r .next) (r .reads) in tried-go (r .value) (r .next) (g .has) (g .reach) (g .from) (r .room) (r .is-near)
         where
           tried-go : (x : ActionOf Text ℕ) (q : Place) → Holds (bodies.OfTry shape) x → end ≡ pos + length (headOf tab x pos) → BodiesFrom inner next x q → pos + actionSize x ≤ length out → nearAction tab x pos
-              → Room (readTried shape inner) lengthTried nearTried b next end tab mid × (pos + 4 + 6 ≤ end)
+              → Room (readTried shape inner) lengthTried nearTried b next end tab mid × (from + 6 ≤ end)
           tried-go (Try x c f) q (tried i j) k n m d =
               let h = length-try tab x c f pos in (
                 record {
@@ -300,23 +300,23 @@ module _ (inner : Reader (ActionsOf Text ℕ)) {b tab out : List ℕ} {at pos : 
                   sums = omega (arith, r .sums, l);
                   places = r .places;
                 },
-                omega (arith, h, k),
+                omega (arith, h, k, z),
               )
 
       -- They were written with their lengths, and so the action is.
-      pub tried-wrote : (shape : ℕ) → bodiesOf a ≡ bodies.OfTry shape → (new : List ℕ) (r : Ends) → Wrote (readTried shape inner) lengthTried (closedTried tab mid end (pos + 4)) next end new r
+      pub tried-wrote : (shape from : ℕ) → from ≡ pos + 4 → bodiesOf a ≡ bodies.OfTry shape → (new : List ℕ) (r : Ends) → Wrote (readTried shape inner) lengthTried (closedTried tab mid end from) next end new r
           → Wrote (readAction edition1 b inner) actionSize (λ x. sets out pos (actionOf tab x pos)) at pos new r
-      tried-wrote shape e new r w = record { wrote = λ x q t. tried-at x q t .0; ends = record { ended = λ x q t. tried-at x q t .1 } }
+      tried-wrote shape from z e new r w = record { wrote = λ x q t. tried-at x q t .0; ends = record { ended = λ x q t. tried-at x q t .1 } }
         where
           tried-go : (x : ActionOf Text ℕ) (q : Place) → Holds (bodies.OfTry shape) x → mid ≡ sets out pos (headOf tab x pos) → end ≡ pos + length (headOf tab x pos) → BodiesFrom inner next x q
-              → (new ≡ sets out pos (actionOf tab x pos)) × ((r .pos ≡ pos + actionSize x) × (r .next ≡ q .at))
+              → (new ≡ sets out pos (actionOf tab x pos)) × ((r .pos .0 ≡ pos + actionSize x) × (r .next ≡ q .at))
           tried-go (Try x c f) q (tried i j) m k n =
               let t = tried-read inner shape next x c f q i j n in
               let v = w .ends .ended (triedOf x c f) q t in
-              (w .wrote (triedOf x c f) q t ∙ try-closed tab out mid x c f pos end m k, (omega (arith, v .0, k, length-try tab x c f pos, try-length x c f), v .1))
+              (w .wrote (triedOf x c f) q t ∙ ap (λ (i : ℕ). closedTried tab mid end i (triedOf x c f)) z ∙ try-closed tab out mid x c f pos end m k, (omega (arith, v .0, k, length-try tab x c f pos, try-length x c f), v .1))
 
           tried-at : (x : ActionOf Text ℕ) (q : Place) → readAction edition1 b inner (placed at) ≡ got x q
-              → (new ≡ sets out pos (actionOf tab x pos)) × ((r .pos ≡ pos + actionSize x) × (r .next ≡ q .at))
+              → (new ≡ sets out pos (actionOf tab x pos)) × ((r .pos .0 ≡ pos + actionSize x) × (r .next ≡ q .at))
           tried-at x q t =
               let g = headed (bodies.OfTry shape) e x q t in
               tried-go x q (g .has) (g .head) (g .reach) (g .from)

@@ -5,3 +5,4 @@ pub mod Steps
 pub mod Actions
 pub mod Labels
 pub mod Main
+pub mod Block

@@ -208,10 +208,10 @@ module _ (b : List ℕ) (at depth pos : ℕ) (tab old : List ℕ) where
     -- It was written, and the others are still to be.
     pub writing-more : (new : List ℕ) (e : Ends) → 0 < left → Writing b at depth pos tab old left p w out
         → Wrote (readAction edition1 b (readBody edition1 b (depth - 1))) actionSize (λ x. sets out w (actionOf tab x w)) p w new e
-        → Writing b at depth pos tab old (left - 1) (e .next) (e .pos) new
+        → Writing b at depth pos tab old (left - 1) (e .next) (e .pos .0) new
     writing-more new e h g k =
         let f = first-of b (readBody edition1 b (depth - 1)) left p (g .rest) (g .end) h (g .goes-on) in
-        go (f .first) (f .others) (f .then-at) (e .next) (e .pos) (f .is) (f .reads-others) (k .wrote (f .first) (f .then-at) (f .reads-first)) (k .ends .ended (f .first) (f .then-at) (f .reads-first))
+        go (f .first) (f .others) (f .then-at) (e .next) (e .pos .0) (f .is) (f .reads-others) (k .wrote (f .first) (f .then-at) (f .reads-first)) (k .ends .ended (f .first) (f .then-at) (f .reads-first))
       where
         go : (a : ActionOf Text ℕ) (xs : ActionListOf Text ℕ) (q : Place) (p′ w′ : ℕ) → g .rest ≡ more a xs
             → readActions edition1 b (readBody edition1 b (depth - 1)) (left - 1) q ≡ got xs (g .end)
@@ -234,7 +234,7 @@ module _ (b : List ℕ) (at depth pos : ℕ) (tab old : List ℕ) where
 
     -- All are written.
     pub writing-end : left ≤ 0 → Writing b at depth pos tab old left p w out
-        → Wrote (readBody edition1 b depth) bodyLength (λ x. sets old pos (bodyOf tab x pos)) at pos out (record { next = p; pos = w })
+        → Wrote (readBody edition1 b depth) bodyLength (λ x. sets old pos (bodyOf tab x pos)) at pos out (record { next = p; pos = record { 0 = w } })
     writing-end h g = record { wrote = λ x q e. same-bytes x q e; ends = record { ended = λ x q e. (same-end x q e, same-place x q e) } }
       where
         rest-none : (g .rest ≡ empty) × (g .end ≡ placed p)

@@ -1,12 +1,11 @@
--- The block of a main body: its actions by the table, and one End. Assumes nothing.
-use mathlib.Core.Path.{_≡_, ap, _∙_, subst}
+-- The main body's actions by the table are the block without its End. Assumes nothing.
+use mathlib.Core.Path.{_≡_, sym, ap, _∙_, subst}
 use Prim.Native.Nat.{ℕ, _+_, _<_, _≤_}
 use native.Mathlib.Omega.{arith}
 use mathlib.Core.Option.{Option, none}
 use mathlib.Core.List.{List, [], _∷_}
 use lib.ListN.{length}
 use lib.Seq.{sets}
-use Rattle.stores.proofs.Stores.{sets-then}
 use Rattle.layout.specs.Tree.{Actions, ActionsOf}
 use Rattle.layout.specs.Read.{Text, edition1, deepest, Place, placed, got, readBody, readMain}
 use Rattle.layout.specs.Strings.{mapBody}
@@ -19,7 +18,7 @@ use Rattle.labels.proofs.Labels.{table-record}
 use Rattle.pcode.proofs.Readings.{given}
 use Rattle.encode_flat.specs.Branches.{tableBits}
 use Rattle.laws.specs.Resolved.{bodyLength}
-use Rattle.write.specs.Bodies.{nearOf, bodyOf, Room, Wrote, MainWritable, WroteBlock}
+use Rattle.write.specs.Bodies.{nearOf, bodyOf, Room, Wrote, mainBytes, MainWritable, PutMain}
 use Rattle.positions.specs.declared.Ends.{Ends}
 use Rattle.pcode.proofs.Trees.{UnderBody, main-body, body-under}
 use Rattle.pcode.proofs.Labels as labels
@@ -36,10 +35,10 @@ table-bits tab t h l after k = ap (λ (o : Option Position). distanceBits o afte
 -- ---- the block
 
 module _ (b tab out : List ℕ) (m : MainWritable b tab out) where
-  -- There is room for the main body's actions.
-  pub main-room : Room (readBody edition1 b deepest) bodyLength nearOf b 0 0 tab out
+  -- There is room for the main body's actions, from the start on.
+  from-start : Room (readBody edition1 b deepest) bodyLength nearOf b 0 0 tab out
   unfolding blockSize
-  main-room =
+  from-start =
       let r = m .reads in
       record {
         bytes = m .bytes;
@@ -59,36 +58,32 @@ module _ (b tab out : List ℕ) (m : MainWritable b tab out) where
           rw i (refused-under 1024 _ (recordAt tab) (λ l. lookup l (events t)) (table-record 1024 tab (events t) h) (traceBody t (position 0))
           (labels.body-under 1024 t (position 0) (subst (UnderBody 1024) i u)) ∙ (unfold events in k))
 
-  module _ (mid : List ℕ) (e : Ends) (w : Wrote (readBody edition1 b deepest) bodyLength (λ x. sets out 0 (bodyOf tab x 0)) 0 0 mid e) where
-    -- And for the End behind them.
-    pub end-room : length mid ≡ length out → e .pos + 1 ≤ length mid
-    unfolding blockSize
-    end-room l =
-        let r = m .reads in
-        omega (arith, w .ends .ended (r .read) (r .next) (main-body b (r .read) (r .next) (r .is-read)) .0, m .room, ap bodySize (r .is-tree), l)
+  -- The same where the position is held in a number.
+  pub main-room : {p : ℕ} → p ≡ 0 → Room (readBody edition1 b deepest) bodyLength nearOf b 0 p tab out
+  main-room z = subst (λ (n : ℕ). Room (readBody edition1 b deepest) bodyLength nearOf b 0 n tab out) (sym z) from-start
 
-    -- The actions and the End are the block.
-    pub main-wrote : (new : List ℕ) → new ≡ sets mid (e .pos) (0 ∷ []) → WroteBlock b out new
-    main-wrote new n = record { wrote = λ t r. go t (r .read) (r .next) (r .is-read) (r .is-tree) (m .reads .read) (m .reads .next) (m .reads .is-read) (m .reads .is-tree) }
+  module _ (mid : List ℕ) (e : Ends) {p : ℕ} (z : p ≡ 0) (wrote : Wrote (readBody edition1 b deepest) bodyLength (λ x. sets out p (bodyOf tab x p)) 0 p mid e) where
+    w : Wrote (readBody edition1 b deepest) bodyLength (λ x. sets out 0 (bodyOf tab x 0)) 0 0 mid e
+    w = subst (λ (n : ℕ). Wrote (readBody edition1 b deepest) bodyLength (λ x. sets out n (bodyOf tab x n)) 0 n mid e) z wrote
+
+    -- The actions are the block without its End.
+    pub main-put : PutMain b out mid (e .pos)
+    unfolding mainBytes
+    main-put = record { put = λ t r. go t (r .read) (r .next) (r .is-read) (r .is-tree) (m .reads .read) (m .reads .next) (m .reads .is-read) (m .reads .is-tree) }
       where
         go : (t : Actions) (x : ActionsOf Text ℕ) (q : Place) → readMain edition1 b deepest ≡ got x q → mapBody spelling x ≡ t
-            → (y : ActionsOf Text ℕ) (s : Place) → readMain edition1 b deepest ≡ got y s → mapBody spelling y ≡ m .tree → new ≡ sets out 0 (blockBytes t)
+            → (y : ActionsOf Text ℕ) (s : Place) → readMain edition1 b deepest ≡ got y s → mapBody spelling y ≡ m .tree → (mid ≡ sets out 0 (mainBytes t)) × (e .pos .0 ≡ length (mainBytes t))
         go t x q d i y s f j =
             let same : m .tree ≡ t = cc in
             let h = subst (λ (u : Actions). TableHolds 1024 tab (events u)) same (m .holds) in
             let under = subst (UnderBody 1024) i (given (body-under b deepest (placed 0)) (main-body b x q d)) in
-            let v = main-body b x q d in
-            let k : mid ≡ sets out 0 (bodyBytes (branchBits t) t 0) =
-            w .wrote x q v ∙ ap (λ (l : List ℕ). sets out 0 l) (shown x t i ∙ agree-body (tableBits tab) (branchBits t) 1024 (table-bits tab t h) t 0 under) in
-            whole t k (w .ends .ended x q v .0 ∙ ap (λ (c : ℕ). 0 + c) (long x t i))
+            let v = main-body b x q d in (
+              w .wrote x q v ∙ ap (λ (l : List ℕ). sets out 0 l) (shown x t i ∙ agree-body (tableBits tab) (branchBits t) 1024 (table-bits tab t h) t 0 under),
+              omega (arith, w .ends .ended x q v .0, long x t i, length-body (branchBits t) t 0),
+            )
           where
             shown : (x : ActionsOf Text ℕ) (t : Actions) → mapBody spelling x ≡ t → bodyOf tab x 0 ≡ bodyBytes (tableBits tab) t 0
             shown x t i = unfold bodyOf in ap (λ (u : Actions). bodyBytes (tableBits tab) u 0) i
 
             long : (x : ActionsOf Text ℕ) (t : Actions) → mapBody spelling x ≡ t → bodyLength x ≡ bodySize t
             long x t i = ap bodySize i
-
-            whole : (t : Actions) → mid ≡ sets out 0 (bodyBytes (branchBits t) t 0) → e .pos ≡ 0 + bodySize t → new ≡ sets out 0 (blockBytes t)
-            whole t k p =
-                unfold blockBytes in
-                sets-then out 0 (bodyBytes (branchBits t) t 0) (0 ∷ []) (bodySize t) (length-body (branchBits t) t 0) k (n ∙ ap (λ (c : ℕ). sets mid c (0 ∷ [])) p)

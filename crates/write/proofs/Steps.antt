@@ -20,21 +20,21 @@ use Rattle.positions.specs.declared.Ends.{Ends}
 -- The length's place lies within an output of n bytes, and the body ends behind its start.
 pub block-room : {inner : Reader (ActionsOf Text ℕ)} {b tab out : List ℕ} {at pos n : ℕ} (from : ℕ) {e : Ends}
     → Room inner bodyLength nearOf b at pos tab out × (from + 2 ≤ pos) → Ended inner bodyLength at pos e → n ≡ length out
-    → (from + 2 ≤ n) × (pos ≤ e .pos)
+    → (from + 2 ≤ n) × (pos ≤ e .pos .0)
 block-room from r w l =
     let k = w .ended (r .0 .value) (r .0 .next) (r .0 .reads) .0 in
     (omega (arith, r .0 .room, r .1, l), omega (arith, k))
 
 module _ (inner : Reader (ActionsOf Text ℕ)) (tab out mid : List ℕ) (at pos from : ℕ) (e : Ends) where
   -- The body was written, then its length.
-  pub block-wrote : (new : List ℕ) → Wrote inner bodyLength (λ x. sets out pos (bodyOf tab x pos)) at pos mid e → new ≡ sets mid from (le16 (e .pos - pos))
+  pub block-wrote : (new : List ℕ) → Wrote inner bodyLength (λ x. sets out pos (bodyOf tab x pos)) at pos mid e → new ≡ sets mid from (le16 (e .pos .0 - pos))
       → Wrote inner bodyLength (closed tab out pos from) at pos new e
   unfolding closed
   block-wrote new w n = record { wrote = λ x q r. go x (w .wrote x q r) (w .ends .ended x q r .0); ends = w .ends }
     where
-      go : (x : ActionsOf Text ℕ) → mid ≡ sets out pos (bodyOf tab x pos) → e .pos ≡ pos + bodyLength x → new ≡ sets (sets out pos (bodyOf tab x pos)) from (le16 (bodyLength x))
+      go : (x : ActionsOf Text ℕ) → mid ≡ sets out pos (bodyOf tab x pos) → e .pos .0 ≡ pos + bodyLength x → new ≡ sets (sets out pos (bodyOf tab x pos)) from (le16 (bodyLength x))
       go x m k =
-          let d : e .pos - pos ≡ bodyLength x = omega (arith, k) in
+          let d : e .pos .0 - pos ≡ bodyLength x = omega (arith, k) in
           n ∙ rw (d, m) refl
 
 -- ---- a body that may be absent
@@ -81,11 +81,11 @@ module _ (inner : Reader (ActionsOf Text ℕ)) (tab out : List ℕ) (at pos : �
           ends = record { ended = λ y q r. let x = present inner (placed at) t h r in go y (x .value) (x .is) (w .ends .ended (x .value) q (x .reads)) };
         }
       where
-        go : (y : Option (ActionsOf Text ℕ)) (x : ActionsOf Text ℕ) {q : ℕ} → y ≡ some x → (e .pos ≡ pos + bodyLength x) × (e .next ≡ q) → (e .pos ≡ pos + lengthIf y) × (e .next ≡ q)
+        go : (y : Option (ActionsOf Text ℕ)) (x : ActionsOf Text ℕ) {q : ℕ} → y ≡ some x → (e .pos .0 ≡ pos + bodyLength x) × (e .next ≡ q) → (e .pos .0 ≡ pos + lengthIf y) × (e .next ≡ q)
         go y x i k = rw i k
 
     -- An absent body leaves everything as it is.
-    pub if-absent : (t : Bool) → not t ≡ true → Wrote (readIf t inner) lengthIf (closedIf tab out pos from) at pos out (record { next = at; pos = pos })
+    pub if-absent : (t : Bool) → not t ≡ true → Wrote (readIf t inner) lengthIf (closedIf tab out pos from) at pos out (record { next = at; pos = record { 0 = pos } })
     unfolding readIf lengthIf closedIf
     if-absent true e =
         let z : _≡_ {A = ℕ} 0 1 = cc in
@@ -132,7 +132,7 @@ module _ (inner : Reader (ActionsOf Text ℕ)) (b tab out : List ℕ) (at pos sh
 
   module _ {t : Ends} (w : Ended inner bodyLength at pos t) where
     -- The second has, behind the first.
-    pub try-second : (one : List ℕ) → length one ≡ length out → Room (readIf (hasCatch shape) inner) lengthIf nearIf b (t .next) (t .pos) tab one
+    pub try-second : (one : List ℕ) → length one ≡ length out → Room (readIf (hasCatch shape) inner) lengthIf nearIf b (t .next) (t .pos .0) tab one
     unfolding lengthTried
     try-second one l =
         let k = parts shape inner (placed at) (r .reads) in
@@ -150,14 +150,14 @@ module _ (inner : Reader (ActionsOf Text ℕ)) (b tab out : List ℕ) (at pos sh
         }
 
     -- The first ends behind its start.
-    pub try-after : pos ≤ t .pos
+    pub try-after : pos ≤ t .pos .0
     try-after =
         let k = parts shape inner (placed at) (r .reads) in
         omega (arith, w .ended (r .value .first) (k .second-at) (k .reads-first) .0)
 
-    module _ {c : Ends} (x : Ended (readIf (hasCatch shape) inner) lengthIf (t .next) (t .pos) c) where
+    module _ {c : Ends} (x : Ended (readIf (hasCatch shape) inner) lengthIf (t .next) (t .pos .0) c) where
       -- The third has, behind both.
-      pub try-third : (two : List ℕ) → length two ≡ length out → Room (readIf (hasFinally shape) inner) lengthIf nearIf b (c .next) (c .pos) tab two
+      pub try-third : (two : List ℕ) → length two ≡ length out → Room (readIf (hasFinally shape) inner) lengthIf nearIf b (c .next) (c .pos .0) tab two
       unfolding lengthTried
       try-third two l =
           let k = parts shape inner (placed at) (r .reads) in
@@ -176,7 +176,7 @@ module _ (inner : Reader (ActionsOf Text ℕ)) (b tab out : List ℕ) (at pos sh
           }
 
       -- The second ends behind its start.
-      pub try-after-both : t .pos ≤ c .pos
+      pub try-after-both : t .pos .0 ≤ c .pos .0
       try-after-both =
           let k = parts shape inner (placed at) (r .reads) in
           let v = w .ended (r .value .first) (k .second-at) (k .reads-first) in
@@ -185,13 +185,13 @@ module _ (inner : Reader (ActionsOf Text ℕ)) (b tab out : List ℕ) (at pos sh
 module _ (inner : Reader (ActionsOf Text ℕ)) (tab out : List ℕ) (at pos shape from : ℕ) {one two three : List ℕ} {t c f : Ends} where
   -- All three were written with their lengths.
   pub try-wrote : Wrote inner bodyLength (closed tab out pos from) at pos one t
-      → Wrote (readIf (hasCatch shape) inner) lengthIf (closedIf tab one (t .pos) (from + 2)) (t .next) (t .pos) two c
-      → Wrote (readIf (hasFinally shape) inner) lengthIf (closedIf tab two (c .pos) (from + 4)) (c .next) (c .pos) three f
+      → Wrote (readIf (hasCatch shape) inner) lengthIf (closedIf tab one (t .pos .0) (from + 2)) (t .next) (t .pos .0) two c
+      → Wrote (readIf (hasFinally shape) inner) lengthIf (closedIf tab two (c .pos .0) (from + 4)) (c .next) (c .pos .0) three f
       → Wrote (readTried shape inner) lengthTried (closedTried tab out pos from) at pos three f
   unfolding lengthTried closedTried
   try-wrote w x y = record { wrote = λ z q e. go z q (parts shape inner (placed at) e) .0; ends = record { ended = λ z q e. go z q (parts shape inner (placed at) e) .1 } }
     where
-      go : (z : Tried) (q : Place) → Parts shape inner (placed at) z q → (three ≡ closedTried tab out pos from z) × ((f .pos ≡ pos + lengthTried z) × (f .next ≡ q .at))
+      go : (z : Tried) (q : Place) → Parts shape inner (placed at) z q → (three ≡ closedTried tab out pos from z) × ((f .pos .0 ≡ pos + lengthTried z) × (f .next ≡ q .at))
       go z q k =
           let v = w .ends .ended (z .first) (k .second-at) (k .reads-first) in
           let second = ap (λ (n : ℕ). readIf (hasCatch shape) inner (placed n)) (v .1) ∙ k .reads-second in

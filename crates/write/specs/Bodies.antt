@@ -10,7 +10,7 @@ use Rattle.layout.specs.Numbers.{le16}
 use Rattle.layout.specs.Tree.{Action, ActionOf, Try, Actions, ActionsOf}
 use Rattle.layout.specs.Read.{Text, Place, placed, Reader, got, _>>=_, give, hasCatch, hasFinally}
 use Rattle.layout.specs.Strings.{mapAction, mapBody}
-use Rattle.layout.specs.Write.{bytes, bodyBytes, events, blockBytes, blockSize}
+use Rattle.layout.specs.Write.{bytes, bodyBytes, branchBits, events, blockBytes, blockSize}
 use Rattle.layout.specs.Judge.{tooFar}
 use Rattle.layout.specs.Pack.{spelling}
 use Rattle.laws.specs.Fits.{Bytes}
@@ -23,7 +23,10 @@ use Rattle.pcode.specs.declared.Action.the-variants as code
 use Rattle.encode_flat.specs.Branches.{tableBits}
 use Rattle.write.specs.declared.Bodies.{Bodies}
 use Rattle.write.specs.declared.Bodies.the-variants as bodies
+use Rattle.positions.specs.declared.BytePosition.{BytePosition}
 use Rattle.positions.specs.declared.Ends.{Ends}
+use Rattle.writer.specs.declared.Writer.{Writer}
+use Rattle.writer.specs.Written.{appended}
 
 -- ---- bodies
 
@@ -141,7 +144,7 @@ pub record Room {A : Type 0} (read : Reader A) (long : A → ℕ) (near : List �
 
 -- where it ended, for every reading: the position behind what was written, and the place behind what was read
 pub record Ended {A : Type 0} (read : Reader A) (long : A → ℕ) (at pos : ℕ) (r : Ends) : Type 0 where
-  pub ended : (x : A) (q : Place) → read (placed at) ≡ got x q → (r .pos ≡ pos + long x) × (r .next ≡ q .at)
+  pub ended : (x : A) (q : Place) → read (placed at) ≡ got x q → (r .pos .0 ≡ pos + long x) × (r .next ≡ q .at)
 
 -- what is left, for every reading: the output, and where it ended
 pub record Wrote {A : Type 0} (read : Reader A) (long : A → ℕ) (output : A → List ℕ) (at pos : ℕ) (out : List ℕ) (r : Ends) : Type 0 where
@@ -159,6 +162,19 @@ pub record MainWritable (b tab out : List ℕ) : Type 0 where
   pub sums : length out ≤ 1099511627776
   pub places : length b ≤ 1099511627776
 
--- what is left of the output: the block, from its start on
-pub record WroteBlock (b old new : List ℕ) : Type 0 where
+-- the block without its End
+unfoldable pub mainBytes : Actions → List ℕ
+mainBytes t = bodyBytes (branchBits t) t 0
+
+-- what is left of the output, and the position reached: the actions, from its start on
+pub record PutMain (b old new : List ℕ) (r : BytePosition) : Type 0 where
+  pub put : (t : Actions) → ReadsMain b t → (new ≡ sets old 0 (mainBytes t)) × (r .0 ≡ length (mainBytes t))
+
+-- the same, of a writer
+pub record AppendedMain (b : List ℕ) (w r : Writer) : Type 0 where
+  pub is : (t : Actions) → ReadsMain b t → r ≡ appended w (mainBytes t)
+
+-- what is left of the output, and the position reached: the block, from its start on, and its length
+pub record WroteBlock (b old new : List ℕ) (r : BytePosition) : Type 0 where
   pub wrote : (t : Actions) → ReadsMain b t → new ≡ sets old 0 (blockBytes t)
+  pub long : (t : Actions) → ReadsMain b t → r .0 ≡ length (blockBytes t)

@@ -4,15 +4,19 @@ ghost use Prim.Native.Nat.{_+_, _-_, _≤_};
 ghost use lib.Seq.{sets};
 ghost use Rattle.layout.specs.Read.{edition1, readAction, readBody};
 ghost use Rattle.laws.specs.Resolved.{bodyLength, actionSize};
-ghost use Rattle.write.specs.Bodies.{bodiesOf, readIf, readTried, lengthIf, lengthTried, nearOf, nearIf, nearTried, nearAction, bodyOf, actionOf, closed, closedIf, closedTried, Room, Wrote, MainWritable, WroteBlock};
+ghost use Rattle.write.specs.Bodies.{bodiesOf, readIf, readTried, lengthIf, lengthTried, nearOf, nearIf, nearTried, nearAction, bodyOf, actionOf, closed, closedIf, closedTried, Room, Wrote, MainWritable, PutMain, AppendedMain, WroteBlock};
 use encode::write_head;
 use fields::u16_at;
 use opcode::OpCode;
 use pcode::Action;
 use pcode::action_at;
+use positions::BytePosition;
 use positions::Ends;
-use stores::write_u8;
+use writer::Writer;
+use writer::append_u8;
+use writer::finish;
 use writer::write_block_length_at;
+use writer::writer_at;
 
 // The bodies that follow an action's payload: none, one, or those of a Try by its shape.
 pub enum Bodies {
@@ -34,24 +38,25 @@ fn bodies_of(a: Action) -> Bodies
     }
 }
 
-// A body, whose length is patched in at `place` when it is closed.
+// A body, whose length is patched in at `len_at` when it is closed.
 fn write_block(
     b: &[u8],
     at: usize,
     depth: usize,
-    pos: usize,
-    place: usize,
+    pos: BytePosition,
+    len_at: BytePosition,
     tab: &[usize],
     out: &mut [u8],
 ) -> Ends
-    requires { ⌜ Room (readBody edition1 (now b) depth) bodyLength nearOf (now b) at pos (now tab) (now out) × (place + 2 ≤ pos) ⌝ }
-    ensures { λ r. ⌜ Wrote (readBody edition1 (now (b .entry)) depth) bodyLength (closed (now (tab .entry)) (now (out .entry)) pos place) at pos (now (out .exit)) r ⌝ }
+    requires { ⌜ Room (readBody edition1 (now b) depth) bodyLength nearOf (now b) at (pos .0) (now tab) (now out) × («len_at» .0 + 2 ≤ pos .0) ⌝ }
+    ensures { λ r. ⌜ Wrote (readBody edition1 (now (b .entry)) depth) bodyLength (closed (now (tab .entry)) (now (out .entry)) (pos .0) («len_at» .0)) at (pos .0) (now (out .exit)) r ⌝ }
 {
     let e = write_actions(b, at, depth, pos, tab, out);
-    write_block_length_at(out, place, pos, e.pos);
+    let end = e.pos;
+    write_block_length_at(out, len_at, pos, end);
     Ends {
         next: e.next,
-        pos: e.pos,
+        pos: end,
     }
 }
 
@@ -61,88 +66,109 @@ fn write_block_if(
     present: bool,
     at: usize,
     depth: usize,
-    pos: usize,
-    place: usize,
+    pos: BytePosition,
+    len_at: BytePosition,
     tab: &[usize],
     out: &mut [u8],
 ) -> Ends
-    requires { ⌜ Room (readIf present (readBody edition1 (now b) depth)) lengthIf nearIf (now b) at pos (now tab) (now out) × (place + 2 ≤ pos) ⌝ }
-    ensures { λ r. ⌜ Wrote (readIf present (readBody edition1 (now (b .entry)) depth)) lengthIf (closedIf (now (tab .entry)) (now (out .entry)) pos place) at pos (now (out .exit)) r ⌝ }
+    requires { ⌜ Room (readIf present (readBody edition1 (now b) depth)) lengthIf nearIf (now b) at (pos .0) (now tab) (now out) × («len_at» .0 + 2 ≤ pos .0) ⌝ }
+    ensures { λ r. ⌜ Wrote (readIf present (readBody edition1 (now (b .entry)) depth)) lengthIf (closedIf (now (tab .entry)) (now (out .entry)) (pos .0) («len_at» .0)) at (pos .0) (now (out .exit)) r ⌝ }
 {
     if !present {
         return Ends { next: at, pos };
     }
-    let e = write_block(b, at, depth, pos, place, tab, out);
+    let e = write_block(b, at, depth, pos, len_at, tab, out);
+    let end = e.pos;
     Ends {
         next: e.next,
-        pos: e.pos,
+        pos: end,
     }
 }
 
-// The bodies of a Try; `place` is that of the first length.
+// The bodies of a Try; the first of their lengths stands at `len_at`.
 fn write_try_blocks(
     b: &[u8],
     shape: u8,
     at: usize,
     depth: usize,
-    pos: usize,
-    place: usize,
+    pos: BytePosition,
+    len_at: BytePosition,
     tab: &[usize],
     out: &mut [u8],
 ) -> Ends
-    requires { ⌜ Room (readTried shape (readBody edition1 (now b) depth)) lengthTried nearTried (now b) at pos (now tab) (now out) × (place + 6 ≤ pos) ⌝ }
-    ensures { λ r. ⌜ Wrote (readTried shape (readBody edition1 (now (b .entry)) depth)) lengthTried (closedTried (now (tab .entry)) (now (out .entry)) pos place) at pos (now (out .exit)) r ⌝ }
+    requires { ⌜ Room (readTried shape (readBody edition1 (now b) depth)) lengthTried nearTried (now b) at (pos .0) (now tab) (now out) × («len_at» .0 + 6 ≤ pos .0) ⌝ }
+    ensures { λ r. ⌜ Wrote (readTried shape (readBody edition1 (now (b .entry)) depth)) lengthTried (closedTried (now (tab .entry)) (now (out .entry)) (pos .0) («len_at» .0)) at (pos .0) (now (out .exit)) r ⌝ }
 {
-    let t = write_block(b, at, depth, pos, place, tab, out);
-    let c = write_block_if(b, shape % 2 == 1, t.next, depth, t.pos, place + 2, tab, out);
+    let t = write_block(b, at, depth, pos, len_at, tab, out);
+    let after_try = t.pos;
+    let second = BytePosition(len_at.0 + 2);
+    let c = write_block_if(
+        b,
+        shape % 2 == 1,
+        t.next,
+        depth,
+        after_try,
+        second,
+        tab,
+        out,
+    );
+    let after_catch = c.pos;
+    let third = BytePosition(len_at.0 + 4);
     let f = write_block_if(
         b,
         shape / 2 % 2 == 1,
         c.next,
         depth,
-        c.pos,
-        place + 4,
+        after_catch,
+        third,
         tab,
         out,
     );
+    let end = f.pos;
     Ends {
         next: f.next,
-        pos: f.pos,
+        pos: end,
     }
 }
 
-// An action within which `depth` bodies may stand one in another. Each arm makes its result anew from a callee's: handed on as it
-// is, a callee's result would be kept in memory, also for actions without a body.
+// An action within which `depth` bodies may stand one in another. The length of its only body is the payload's last two bytes; the
+// three of a Try stand behind its shape. Each arm makes its result anew from a callee's: handed on as it is, a callee's result would
+// be kept in memory, also for actions without a body.
 fn write_action(
     b: &[u8],
     at: usize,
     depth: usize,
-    pos: usize,
+    pos: BytePosition,
     tab: &[usize],
     out: &mut [u8],
 ) -> Ends
-    requires { ⌜ Room (readAction edition1 (now b) (readBody edition1 (now b) depth)) actionSize nearAction (now b) at pos (now tab) (now out) ⌝ }
-    ensures { λ r. ⌜ Wrote (readAction edition1 (now (b .entry)) (readBody edition1 (now (b .entry)) depth)) actionSize (λ x. sets (now (out .entry)) pos (actionOf (now (tab .entry)) x pos)) at pos (now (out .exit)) r ⌝ }
+    requires { ⌜ Room (readAction edition1 (now b) (readBody edition1 (now b) depth)) actionSize nearAction (now b) at (pos .0) (now tab) (now out) ⌝ }
+    ensures { λ r. ⌜ Wrote (readAction edition1 (now (b .entry)) (readBody edition1 (now (b .entry)) depth)) actionSize (λ x. sets (now (out .entry)) (pos .0) (actionOf (now (tab .entry)) x (pos .0))) at (pos .0) (now (out .exit)) r ⌝ }
 {
     let a = action_at(b, at);
     let e = write_head(b, at, a, pos, tab, out);
+    let end = e.pos;
     match bodies_of(a) {
         Bodies::Nothing => Ends {
             next: e.next,
-            pos: e.pos,
+            pos: end,
         },
         Bodies::One => {
-            let x = write_block(b, e.next, depth, e.pos, e.pos - 2, tab, out);
+            let last = BytePosition(end.0 - 2);
+            let x = write_block(b, e.next, depth, end, last, tab, out);
+            let after = x.pos;
             Ends {
                 next: x.next,
-                pos: x.pos,
+                pos: after,
             }
         }
         Bodies::OfTry(shape) => {
-            let x = write_try_blocks(b, shape, e.next, depth, e.pos, pos + 4, tab, out);
+            let first = BytePosition(pos.0 + OpCode::HEADER_LEN + 1);
+            let x = write_try_blocks(b, shape, e.next, depth, end, first, tab, out);
+            let after = x.pos;
             Ends {
                 next: x.next,
-                pos: x.pos,
+                pos: after,
             }
         }
     }
@@ -153,12 +179,12 @@ fn write_actions(
     b: &[u8],
     at: usize,
     depth: usize,
-    pos: usize,
+    pos: BytePosition,
     tab: &[usize],
     out: &mut [u8],
 ) -> Ends
-    requires { ⌜ Room (readBody edition1 (now b) depth) bodyLength nearOf (now b) at pos (now tab) (now out) ⌝ }
-    ensures { λ r. ⌜ Wrote (readBody edition1 (now (b .entry)) depth) bodyLength (λ x. sets (now (out .entry)) pos (bodyOf (now (tab .entry)) x pos)) at pos (now (out .exit)) r ⌝ }
+    requires { ⌜ Room (readBody edition1 (now b) depth) bodyLength nearOf (now b) at (pos .0) (now tab) (now out) ⌝ }
+    ensures { λ r. ⌜ Wrote (readBody edition1 (now (b .entry)) depth) bodyLength (λ x. sets (now (out .entry)) (pos .0) (bodyOf (now (tab .entry)) x (pos .0))) at (pos .0) (now (out .exit)) r ⌝ }
 {
     let front = at + 2 + 4 * u16_at(b, at);
     let mut left = u16_at(b, front);
@@ -173,11 +199,36 @@ fn write_actions(
     Ends { next: p, pos: w }
 }
 
-// The block of a main body: its actions, then one End.
-pub fn write_main(b: &[u8], tab: &[usize], out: &mut [u8])
-    requires { ⌜ MainWritable (now b) (now tab) (now out) ⌝ }
-    ensures { λ _. ⌜ WroteBlock (now (b .entry)) (now (out .entry)) (now (out .exit)) ⌝ }
+// The actions of a main body from the block's start on, and the position after them.
+fn put_main(out: &mut [u8], at: BytePosition, b: &[u8], tab: &[usize]) -> BytePosition
+    requires { ⌜ (at .0 ≡ 0) × MainWritable (now b) (now tab) (now out) ⌝ }
+    ensures { λ r. ⌜ PutMain (now (b .entry)) (now (out .entry)) (now (out .exit)) r ⌝ }
 {
-    let e = write_actions(b, 0, 16, 0, tab, out);
-    write_u8(out, e.pos, OpCode::END);
+    let e = write_actions(b, 0, 16, at, tab, out);
+    e.pos
+}
+
+// The main body's actions are appended to a writer that stands at the block's start.
+fn append_main<'a>(w: Writer<'a>, b: &[u8], tab: &[usize]) -> Writer<'a>
+    requires { ⌜ (w .at .0 ≡ 0) × MainWritable (now b) (now tab) (now (w .out)) ⌝ }
+    ensures { λ r. ⌜ AppendedMain (now (b .entry)) (w .entry) r ⌝ }
+{
+    let at = w.at;
+    let next = put_main(&mut *w.out, at, b, tab);
+    Writer {
+        out: w.out,
+        at: next,
+    }
+}
+
+// The block of a main body: one writer over the output takes its actions, then one End. Answers the position reached, which is the
+// block's length.
+pub fn write_main(b: &[u8], tab: &[usize], out: &mut [u8]) -> BytePosition
+    requires { ⌜ MainWritable (now b) (now tab) (now out) ⌝ }
+    ensures { λ r. ⌜ WroteBlock (now (b .entry)) (now (out .entry)) (now (out .exit)) r ⌝ }
+{
+    finish(append_u8(
+        append_main(writer_at(out, BytePosition(0)), b, tab),
+        OpCode::END,
+    ))
 }

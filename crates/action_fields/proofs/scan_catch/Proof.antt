@@ -12,62 +12,56 @@ returns c = steps.caught-out _ _ _ (omega arith)
 add-p : tie.Need-add-p
 add-p c = search needs
 
+try-len-requires : tie.Need-try-len-requires
+try-len-requires c κs = search needs
+
+add-t10 : tie.Need-add-t10
+add-t10 c = search needs
+
+try-len-requires-2 : tie.Need-try-len-requires-2
+try-len-requires-2 c κs = search needs
+
+add-t10-2 : tie.Need-add-t10-2
+add-t10-2 c = search needs
+
 shared-slice-read-match : tie.Need-shared-slice-read-match
 shared-slice-read-match c = search needs
-
-add-t12 : tie.Need-add-t12
-add-t12 c = search needs
-
-add-t14 : tie.Need-add-t14
-add-t14 c = search needs
 
 scan-string-requires : tie.Need-scan-string-requires
 scan-string-requires c κs = search needs
 
-add-t16 : tie.Need-add-t16
-add-t16 c = search needs
-
-add-t18 : tie.Need-add-t18
-add-t18 c = search needs
-
 scan-string-requires-2 : tie.Need-scan-string-requires-2
 scan-string-requires-2 c κs = search needs
 
-add-t20 : tie.Need-add-t20
-add-t20 c = search needs
-
 scan-bytes-requires : tie.Need-scan-bytes-requires
 scan-bytes-requires c κs = search needs
-
-add-t22 : tie.Need-add-t22
-add-t22 c = search needs
 
 scan-bytes-requires-2 : tie.Need-scan-bytes-requires-2
 scan-bytes-requires-2 c κs = search needs
 
 returns-2 : tie.Need-returns-2
 unfolding isShape hasCatch hasRegister
-returns-2 c = steps.caught-none _ _ _ (omega arith) 0 (c .before .match .keys1) refl refl
+returns-2 c = steps.caught-none _ _ _ (omega arith) 0 (c .match .keys1) refl refl (omega (arith, c .before .before .before .try-len2 .ensures))
 
 returns-3 : tie.Need-returns-3
 unfolding isShape hasCatch hasRegister
-returns-3 c = steps.caught-name _ _ _ (omega arith) 1 _ (c .before .before .match .keys2) refl refl refl (c .scan-string .ensures)
+returns-3 c = steps.caught-name _ _ _ (omega arith) 1 _ _ (c .before .match .keys2) refl refl refl (omega (arith, c .before .before .before .before .before .before .try-len .ensures)) (c .scan-string .ensures)
 
 returns-4 : tie.Need-returns-4
 unfolding isShape hasCatch hasRegister
-returns-4 c = steps.caught-none _ _ _ (omega arith) 2 (c .before .match .keys3) refl refl
+returns-4 c = steps.caught-none _ _ _ (omega arith) 2 (c .match .keys3) refl refl (omega (arith, c .before .before .before .try-len2 .ensures))
 
 returns-5 : tie.Need-returns-5
 unfolding isShape hasCatch hasRegister
-returns-5 c = steps.caught-name _ _ _ (omega arith) 3 _ (c .before .before .match .keys4) refl refl refl (c .scan-string2 .ensures)
+returns-5 c = steps.caught-name _ _ _ (omega arith) 3 _ _ (c .before .match .keys4) refl refl refl (omega (arith, c .before .before .before .before .before .before .try-len .ensures)) (c .scan-string2 .ensures)
 
 returns-6 : tie.Need-returns-6
 unfolding isShape hasCatch hasRegister
-returns-6 c = steps.caught-register _ _ _ (omega arith) 5 _ (c .before .before .match .keys5) refl refl refl (c .scan-bytes .ensures)
+returns-6 c = steps.caught-register _ _ _ (omega arith) 5 _ _ (c .before .match .keys5) refl refl refl (omega (arith, c .before .before .before .before .try-len2 .ensures)) (c .scan-bytes .ensures)
 
 returns-7 : tie.Need-returns-7
 unfolding isShape hasCatch hasRegister
-returns-7 c = steps.caught-register _ _ _ (omega arith) 7 _ (c .before .before .match .keys6) refl refl refl (c .scan-bytes2 .ensures)
+returns-7 c = steps.caught-register _ _ _ (omega arith) 7 _ _ (c .before .match .keys6) refl refl refl (omega (arith, c .before .before .before .before .try-len2 .ensures)) (c .scan-bytes2 .ensures)
 
 returns-8 : tie.Need-returns-8
 returns-8 c = let r = c .match .rest in steps.caught-bad _ _ _ (omega arith) (steps.no-shape _ (r .0 .0 .0 .0 .0 .1) (r .0 .0 .0 .0 .1) (r .0 .0 .0 .1) (r .0 .0 .1) (r .0 .1) (r .1))
@@ -78,16 +72,14 @@ scan-catch-spec =
     (tie.spec
     returns
     add-p
+    try-len-requires
+    add-t10
+    try-len-requires-2
+    add-t10-2
     shared-slice-read-match
-    add-t12
-    add-t14
     scan-string-requires
-    add-t16
-    add-t18
     scan-string-requires-2
-    add-t20
     scan-bytes-requires
-    add-t22
     scan-bytes-requires-2
     returns-2
     returns-3

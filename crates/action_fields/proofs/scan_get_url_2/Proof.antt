@@ -40,7 +40,7 @@ returns-2 c = steps.then-ends _ _ _ _ _ _ _ (c .before .before .before .before .
 
 returns-3 : tie.Need-returns-3
 unfolding readGetUrl2
-returns-3 c = let y = steps.flag-after _ _ _ _ _ _ (c .before .before .before .before .before .before .before .before .before .before .before .pre) (c .before .before .before .before .before .before .before .before .before .scan-flag .ensures) (c .before .before .before .before .before .before .before .p .given .1) in let z = steps.flag-after _ _ _ _ _ _ (y .0) (c .before .before .before .before .before .scan-flag2 .ensures) (c .before .before .before .q .given .1) in steps.then-ends _ _ _ _ _ _ _ (c .before .before .before .before .before .before .before .before .before .scan-flag .ensures) (c .before .before .before .before .before .before .before .p .given .1) (λ v g h. steps.then-ends _ _ _ _ _ _ _ (c .before .before .before .before .before .scan-flag2 .ensures) (c .before .before .before .q .given .1) (λ t i j. steps.url2-in _ _ _ _ _ _ _ (z .1 ∙ y .1) (c .scan-bytes .ensures)))
+returns-3 c = let y = steps.flag-after _ _ _ _ _ _ (c .before .before .before .before .before .before .before .before .before .before .before .pre) (c .before .before .before .before .before .before .before .before .before .scan-flag .ensures) (c .before .before .before .before .before .before .before .p .given .1) in let z = steps.flag-after _ _ _ _ _ _ (y .0) (c .before .before .before .before .before .scan-flag2 .ensures) (c .before .before .before .q .given .1) in steps.then-ends _ _ _ _ _ _ _ (c .before .before .before .before .before .before .before .before .before .scan-flag .ensures) (c .before .before .before .before .before .before .before .p .given .1) (λ v g h. steps.then-ends _ _ _ _ _ _ _ (c .before .before .before .before .before .scan-flag2 .ensures) (c .before .before .before .q .given .1) (λ t i j. steps.url-2-in _ _ _ _ _ _ _ (z .1 ∙ y .1) (c .scan-bytes .ensures)))
 
 pub scan-get-url-2-spec : {M : Type 1} → statement M
 scan-get-url-2-spec =

@@ -1,3 +1,4 @@
+use mathlib.Core.Path.{refl}
 use native.Mathlib.Omega.{arith}
 use Rattle.action_fields.proofs.Steps as steps
 use borrow.Author.Needs.{needs}
@@ -25,13 +26,18 @@ returns-3 c = steps.flags-big _ _ _ (omega arith) (omega arith) _ (c .before .u1
 add-t8 : tie.Need-add-t8
 add-t8 c = search needs
 
-add-t5 : tie.Need-add-t5
-add-t5 c = search needs
-
 returns-4 : tie.Need-returns-4
-returns-4 c = steps.flags-in _ _ _ (omega arith) (omega arith) _ (c .before .before .u16-at .ensures .0) (omega arith)
+returns-4 c = steps.flags-in _ _ _ (omega arith) (omega arith) _ (c .before .u16-at .ensures .0) (omega arith) refl
 
 pub scan-registers-spec : {M : Type 1} → statement M
 scan-registers-spec =
     tie.close
-    (tie.spec returns add-p sub-if2 returns-2 u16-at-requires returns-3 add-t8 add-t5 returns-4)
+    (tie.spec
+    returns
+    add-p
+    sub-if2
+    returns-2
+    u16-at-requires
+    returns-3
+    add-t8
+    returns-4)

@@ -1,7 +1,6 @@
 -- `encode_flat::write_wait_for_frame` meets its contract: the header's run and then those of the two fields are one run. Assumes nothing.
 use mathlib.Core.List.{[], _∷_}
 use mathlib.Core.Path.{refl}
-use Prim.Native.Nat.{_+_}
 use native.Mathlib.Omega.{arith}
 use borrow.Author.Needs.{needs}
 use Rattle.layout.specs.Numbers.{le16}
@@ -15,9 +14,6 @@ write-action-header-requires : tie.Need-write-action-header-requires
 unfolding framed byte opcode payload headed le16
 write-action-header-requires c κs = omega arith
 
-add-write-u16 : tie.Need-add-write-u16
-add-write-u16 c = search needs
-
 write-u16-requires : tie.Need-write-u16-requires
 unfolding framed byte opcode payload headed le16
 write-u16-requires c κs = omega (arith, c .before .before .before .write-action-header .kept .0)
@@ -27,10 +23,10 @@ add-write-u8 c = search needs
 
 write-u8-requires : tie.Need-write-u8-requires
 unfolding framed byte opcode payload headed le16
-write-u8-requires c κs = omega (arith, c .before .before .before .before .before .before .before .write-action-header .kept .0, c .before .before .before .write-u16 .kept .0)
+write-u8-requires c κs = omega (arith, c .before .before .before .before .before .before .before .before .write-action-header .kept .0, c .before .before .before .before .write-u16 .kept .0)
 
-add-t11 : tie.Need-add-t11
-add-t11 c = search needs
+add-t15 : tie.Need-add-t15
+add-t15 c = search needs
 
 same-length : tie.Need-same-length
 same-length c = search needs
@@ -38,18 +34,17 @@ same-length c = search needs
 returns : tie.Need-returns
 unfolding framed byte opcode payload le16
 returns c =
-    let a = c .before .before .before .before .before .before .before .before .before .before .before .before .before .args in
-    headers.action-two _ (le16 (a .frame)) (a .skip ∷ []) (a .pos + 5) 3 (omega arith) refl (c .before .before .before .before .before .before .before .before .before .before .write-action-header .ensures) (c .before .before .before .before .before .before .write-u16 .ensures) (c .before .before .write-u8 .ensures) (omega arith)
+    let a = c .before .before .before .before .before .before .before .before .before .before .before .before .before .before .before .args in
+    headers.action-two _ (le16 (a .frame)) (a .skip ∷ []) _ 3 (omega arith) refl (c .before .before .before .before .before .before .before .before .before .before .before .before .write-action-header .ensures) (c .before .before .before .before .before .before .before .before .write-u16 .ensures) (c .before .before .before .write-u8 .ensures) (omega arith)
 
 pub write-wait-for-frame-spec : {M : Type 1} → statement M
 write-wait-for-frame-spec =
     tie.close
     (tie.spec
     write-action-header-requires
-    add-write-u16
     write-u16-requires
     add-write-u8
     write-u8-requires
-    add-t11
+    add-t15
     same-length
     returns)

@@ -25,18 +25,18 @@ write-string-requires c κs =
     let l = values.length-span (now (c .before .before .before .before .before .before .args .b)) (c .before .before .t .given .0 .0) (p .0) in
     (omega (arith, p .1 .room), omega (arith, p .0))
 
-add-t14 : tie.Need-add-t14
+string-len-requires : tie.Need-string-len-requires
 unfolding targetBytes TargetWithin
-add-t14 c =
-    let p = rw (c .before .before .before .before .before .before .t .given .1) at (c .before .before .before .before .before .before .before .before .before .before .pre) in
-    let l = values.length-span (now (c .before .before .before .before .before .before .before .before .before .before .args .b)) (c .before .before .before .before .before .before .t .given .0 .0) (p .0) in
+string-len-requires c κs =
+    let p = rw (c .before .before .before .before .before .t .given .1) at (c .before .before .before .before .before .before .before .before .before .pre) in
+    let l = values.length-span (now (c .before .before .before .before .before .before .before .before .before .args .b)) (c .before .before .before .before .before .t .given .0 .0) (p .0) in
     omega (arith, p .1 .room, p .1 .sums)
 
 add-t15 : tie.Need-add-t15
 unfolding targetBytes TargetWithin
 add-t15 c =
-    let p = rw (c .before .before .before .before .before .before .t .given .1) at (c .before .before .before .before .before .before .before .before .before .before .pre) in
-    let l = values.length-span (now (c .before .before .before .before .before .before .before .before .before .before .args .b)) (c .before .before .before .before .before .before .t .given .0 .0) (p .0) in
+    let p = rw (c .before .before .before .before .before .before .before .t .given .1) at (c .before .before .before .before .before .before .before .before .before .before .before .pre) in
+    let l = values.length-span (now (c .before .before .before .before .before .before .before .before .before .before .before .args .b)) (c .before .before .before .before .before .before .before .t .given .0 .0) (p .0) in
     omega (arith, p .1 .room, p .1 .sums)
 
 enum-known-t-2 : tie.Need-enum-known-t-2
@@ -59,9 +59,9 @@ same-length-2 c = search needs
 returns-2 : tie.Need-returns-2
 unfolding targetBytes TargetWithin
 returns-2 c =
-    let p = rw (c .before .before .before .before .before .before .t .given .1) at (c .before .before .before .before .before .before .before .before .before .before .pre) in
-    let l = values.length-span (now (c .before .before .before .before .before .before .before .before .before .before .args .b)) (c .before .before .before .before .before .before .t .given .0 .0) (p .0) in
-    rw (c .before .before .before .before .before .before .t .given .1) (record { wrote = c .before .before .before .write-string .ensures; end = omega arith; next = refl })
+    let p = rw (c .before .before .before .before .before .before .before .t .given .1) at (c .before .before .before .before .before .before .before .before .before .before .before .pre) in
+    let l = values.length-span (now (c .before .before .before .before .before .before .before .before .before .before .before .args .b)) (c .before .before .before .before .before .before .before .t .given .0 .0) (p .0) in
+    rw (c .before .before .before .before .before .before .before .t .given .1) (record { wrote = c .before .before .before .before .write-string .ensures; end = omega arith; next = refl })
 
 same-length-3 : tie.Need-same-length-3
 same-length-3 c = search needs
@@ -78,7 +78,7 @@ write-catch-target-spec =
     write-byte-requires
     enum-known-t
     write-string-requires
-    add-t14
+    string-len-requires
     add-t15
     enum-known-t-2
     write-byte-requires-2

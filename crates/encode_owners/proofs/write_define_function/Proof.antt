@@ -7,17 +7,8 @@ use Rattle.encode_owners.proofs.Wholes as wholes
 use Rattle.encode_owners.proofs.write_define_function.Statement.{statement}
 use Rattle.encode_owners.proofs.write_define_function.Tie as tie
 
-add-w : tie.Need-add-w
-add-w c = search needs
-
-add-w-2 : tie.Need-add-w-2
-add-w-2 c = search needs
-
-add-w-3 : tie.Need-add-w-3
-add-w-3 c = search needs
-
-add-write-string : tie.Need-add-write-string
-add-write-string c = search needs
+add-start : tie.Need-add-start
+add-start c = search needs
 
 write-string-requires : tie.Need-write-string-requires
 write-string-requires c κs =
@@ -25,75 +16,79 @@ write-string-requires c κs =
     let h = wholes.function-space (now (s .args .b)) (s .args .f) (s .pre .0) (s .pre .1) in
     (omega arith, omega arith)
 
+string-len-requires : tie.Need-string-len-requires
+string-len-requires c κs =
+    let s = c .before .before .before .before .before .before .before .before in
+    let h = wholes.function-space (now (s .args .b)) (s .args .f) (s .pre .0) (s .pre .1) in
+    omega arith
+
+add-w : tie.Need-add-w
+add-w c = search needs
+
 write-u16-requires : tie.Need-write-u16-requires
 write-u16-requires c κs =
-    let s = c .before .before .before .before .before .before .before .before .before in
+    let s = c .before .before .before .before .before .before .before .before .before .before in
     let h = wholes.function-space (now (s .args .b)) (s .args .f) (s .pre .0) (s .pre .1) in
-    omega (arith, c .before .before .before .write-string .kept .0)
+    omega (arith, c .before .before .before .before .write-string .kept .0)
 
-add-write-strings : tie.Need-add-write-strings
-add-write-strings c = search needs
+add-params : tie.Need-add-params
+add-params c = search needs
 
 write-strings-requires : tie.Need-write-strings-requires
 write-strings-requires c κs =
-    let p = c .before .before .before .before .before .before .before .before .before .before .before .before .before .pre in
-    wholes.function-room _ _ (p .0) (p .1) (c .before .before .before .write-u16 .kept .0 ∙ c .before .before .before .before .before .before .before .write-string .kept .0)
+    let p = c .before .before .before .before .before .before .before .before .before .before .before .before .before .before .pre in
+    wholes.function-room _ _ (p .0) (p .1) (omega (arith, c .before .before .before .before .before .string-len .ensures)) (c .before .before .before .write-u16 .kept .0 ∙ c .before .before .before .before .before .before .before .before .write-string .kept .0)
 
 write-u16-requires-2 : tie.Need-write-u16-requires-2
 write-u16-requires-2 c κs =
-    let s = c .before .before .before .before .before .before .before .before .before .before .before .before .before .before .before .before .before in
+    let s = c .before .before .before .before .before .before .before .before .before .before .before .before .before .before .before .before .before .before in
     let h = wholes.function-space (now (s .args .b)) (s .args .f) (s .pre .0) (s .pre .1) in
-    omega (arith, c .before .before .before .write-strings .ensures .end, c .before .before .before .write-strings .kept .0, c .before .before .before .before .before .before .before .write-u16 .kept .0, c .before .before .before .before .before .before .before .before .before .before .before .write-string .kept .0)
+    omega (arith, c .before .before .before .write-strings .ensures .end, c .before .before .before .write-strings .kept .0, c .before .before .before .before .before .before .before .write-u16 .kept .0, c .before .before .before .before .before .before .before .before .before .before .before .before .write-string .kept .0)
 
-add-write-action-header : tie.Need-add-write-action-header
-add-write-action-header c =
+sub-define-function-len : tie.Need-sub-define-function-len
+sub-define-function-len c = search needs
+
+define-function-len-requires : tie.Need-define-function-len-requires
+define-function-len-requires c κs =
     let s = c .before .before .before .before .before .before .before .before .before .before .before .before .before .before .before .before .before .before .before .before .before .before in
     let h = wholes.function-space (now (s .args .b)) (s .args .f) (s .pre .0) (s .pre .1) in
-    omega (arith, c .before .before .before .before .before .before .before .before .write-strings .ensures .end)
-
-add-write-action-header-2 : tie.Need-add-write-action-header-2
-add-write-action-header-2 c = search needs
-
-sub-write-action-header : tie.Need-sub-write-action-header
-sub-write-action-header c = search needs
+    (omega arith, omega (arith, c .before .before .before .before .before .before .before .write-strings .ensures .end))
 
 write-action-header-requires : tie.Need-write-action-header-requires
 write-action-header-requires c κs =
-    let s = c .before .before .before .before .before .before .before .before .before .before .before .before .before .before .before .before .before .before .before .before .before .before in
+    let s = c .before .before .before .before .before .before .before .before .before .before .before .before .before .before .before .before .before .before .before .before .before .before .before .before in
     let h = wholes.function-space (now (s .args .b)) (s .args .f) (s .pre .0) (s .pre .1) in
-    omega (arith, c .before .before .before .before .write-u162 .kept .0, c .before .before .before .before .before .before .before .before .write-strings .kept .0, c .before .before .before .before .before .before .before .before .before .before .before .before .write-u16 .kept .0, c .before .before .before .before .before .before .before .before .before .before .before .before .before .before .before .before .write-string .kept .0)
+    omega (arith, c .before .before .before .before .before .write-u162 .kept .0, c .before .before .before .before .before .before .before .before .before .write-strings .kept .0, c .before .before .before .before .before .before .before .before .before .before .before .before .before .write-u16 .kept .0, c .before .before .before .before .before .before .before .before .before .before .before .before .before .before .before .before .before .before .write-string .kept .0)
 
-add-t9 : tie.Need-add-t9
-add-t9 c =
-    let s = c .before .before .before .before .before .before .before .before .before .before .before .before .before .before .before .before .before .before .before .before .before .before .before .before .before .before in
+add-t14 : tie.Need-add-t14
+add-t14 c =
+    let s = c .before .before .before .before .before .before .before .before .before .before .before .before .before .before .before .before .before .before .before .before .before .before .before .before .before .before .before in
     let h = wholes.function-space (now (s .args .b)) (s .args .f) (s .pre .0) (s .pre .1) in
-    omega (arith, c .before .before .before .before .before .before .before .before .before .before .before .before .write-strings .ensures .end)
+    omega (arith, c .before .before .before .before .before .before .before .before .before .before .before .before .write-strings .ensures .end, c .before .before .before .before .define-function-len .ensures)
 
 same-length : tie.Need-same-length
 same-length c = search needs
 
 returns : tie.Need-returns
 returns c =
-    let p = c .before .before .before .before .before .before .before .before .before .before .before .before .before .before .before .before .before .before .before .before .before .before .before .before .before .before .pre in
-    wholes.function-put _ _ (p .0) (p .1) (c .before .before .before .before .before .before .before .before .before .before .before .before .before .before .before .before .before .before .before .before .write-string .ensures) (c .before .before .before .before .before .before .before .before .before .before .before .before .before .before .before .before .write-u16 .ensures) (c .before .before .before .before .before .before .before .before .before .before .before .before .write-strings .ensures) (c .before .before .before .before .before .before .before .before .write-u162 .ensures) (c .before .before .before .write-action-header .ensures)
+    let p = c .before .before .before .before .before .before .before .before .before .before .before .before .before .before .before .before .before .before .before .before .before .before .before .before .before .before .before .pre in
+    wholes.function-put _ _ (p .0) (p .1) (omega (arith, c .before .before .before .before .before .before .before .before .before .before .before .before .before .before .before .before .before .before .string-len .ensures)) (c .before .before .before .before .before .before .before .before .before .before .before .before .before .before .before .before .before .before .before .before .before .write-string .ensures) (c .before .before .before .before .before .before .before .before .before .before .before .before .before .before .before .before .write-u16 .ensures) (c .before .before .before .before .before .before .before .before .before .before .before .before .write-strings .ensures) (c .before .before .before .before .before .before .before .before .write-u162 .ensures) (c .before .before .before .before .define-function-len .ensures) (c .before .before .write-action-header .ensures .1)
 
 pub write-define-function-spec : {M : Type 1} → statement M
 write-define-function-spec =
     tie.close
     (tie.spec
-    add-w
-    add-w-2
-    add-w-3
-    add-write-string
+    add-start
     write-string-requires
+    string-len-requires
+    add-w
     write-u16-requires
-    add-write-strings
+    add-params
     write-strings-requires
     write-u16-requires-2
-    add-write-action-header
-    add-write-action-header-2
-    sub-write-action-header
+    sub-define-function-len
+    define-function-len-requires
     write-action-header-requires
-    add-t9
+    add-t14
     same-length
     returns)

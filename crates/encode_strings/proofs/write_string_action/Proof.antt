@@ -1,4 +1,4 @@
--- `encode_flat::write_string_action` meets its contract: the header's run and then the string's are one run, and the header holds the string's length. Assumes nothing.
+-- `encode_strings::write_string_action` meets its contract: the header's run and then the string's are one run, and the header holds the string's length. Assumes nothing.
 use native.Mathlib.Omega.{arith}
 use denote.Ref.{now}
 use borrow.Author.Needs.{needs}
@@ -8,8 +8,10 @@ use Rattle.encode_strings.proofs.Rooms as rooms
 use Rattle.encode_strings.proofs.write_string_action.Statement.{statement}
 use Rattle.encode_strings.proofs.write_string_action.Tie as tie
 
-add-write-action-header : tie.Need-add-write-action-header
-add-write-action-header c = search needs
+string-len-requires : tie.Need-string-len-requires
+string-len-requires c κs =
+    let a = c .before .before .args in
+    omega (arith, rooms.string-action-room _ (now (a .b)) (a .s) (c .before .before .pre .0) (c .before .before .pre .1))
 
 write-action-header-requires : tie.Need-write-action-header-requires
 write-action-header-requires c κs =
@@ -17,20 +19,11 @@ write-action-header-requires c κs =
     let h = rooms.string-action-room _ (now (a .b)) (a .s) (c .before .before .before .before .pre .0) (c .before .before .before .before .pre .1) in
     omega arith
 
-add-write-string : tie.Need-add-write-string
-add-write-string c = search needs
-
 write-string-requires : tie.Need-write-string-requires
 write-string-requires c κs =
     let a = c .before .before .before .before .before .before .before .before .args in
     let h = rooms.string-action-room _ (now (a .b)) (a .s) (c .before .before .before .before .before .before .before .before .pre .0) (c .before .before .before .before .before .before .before .before .pre .1) in
     (omega (arith, c .before .before .before .write-action-header .kept .0), omega arith)
-
-add-t9 : tie.Need-add-t9
-add-t9 c = search needs
-
-add-t12 : tie.Need-add-t12
-add-t12 c = search needs
 
 add-t13 : tie.Need-add-t13
 add-t13 c = search needs
@@ -51,12 +44,9 @@ pub write-string-action-spec : {M : Type 1} → statement M
 write-string-action-spec =
     tie.close
     (tie.spec
-    add-write-action-header
+    string-len-requires
     write-action-header-requires
-    add-write-string
     write-string-requires
-    add-t9
-    add-t12
     add-t13
     add-t14
     same-length

@@ -21,7 +21,7 @@ same-length : tie.Need-same-length
 same-length c = search needs
 
 returns : tie.Need-returns
-returns c = puts.byte-put (c .before .before .before .before .before .before .write-u8 .ensures) (c .before .before .write-u82 .ensures) (omega arith)
+returns c = puts.byte-put (c .before .before .before .before .before .before .before .before .write-u8 .ensures) (c .before .before .before .write-u82 .ensures) (omega arith)
 
 pub write-kind-u8-spec : {M : Type 1} → statement M
 write-kind-u8-spec =

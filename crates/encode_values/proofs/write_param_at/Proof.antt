@@ -11,20 +11,20 @@ shared-slice-read-write-u8 c = omega (arith, texts.param-inside _ _ (c .before .
 write-u8-requires : tie.Need-write-u8-requires
 write-u8-requires c κs = omega (arith, texts.param-inside _ _ (c .before .before .before .before .pre) .1)
 
-add-write-string-at : tie.Need-add-write-string-at
-add-write-string-at c = search needs
+add-t12 : tie.Need-add-t12
+add-t12 c = search needs
 
-add-write-string-at-2 : tie.Need-add-write-string-at-2
-add-write-string-at-2 c = omega (arith, texts.param-inside _ _ (c .before .before .before .before .before .before .before .before .pre) .0)
+add-write-string-at : tie.Need-add-write-string-at
+add-write-string-at c = omega (arith, texts.param-inside _ _ (c .before .before .before .before .before .before .before .before .before .pre) .0)
 
 write-string-at-requires : tie.Need-write-string-at-requires
-write-string-at-requires c κs = texts.param-room _ _ (c .before .before .before .before .before .before .before .before .pre) (c .before .before .before .write-u8 .kept .0)
+write-string-at-requires c κs = texts.param-room _ _ (c .before .before .before .before .before .before .before .before .before .pre) (c .before .before .before .before .write-u8 .kept .0)
 
 same-length : tie.Need-same-length
 same-length c = search needs
 
 returns : tie.Need-returns
-returns c = texts.param-put _ _ (c .before .before .before .before .before .before .before .before .before .before .before .pre) (c .before .before .before .before .before .before .write-u8 .ensures) (c .before .before .write-string-at .ensures)
+returns c = texts.param-put _ _ (c .before .before .before .before .before .before .before .before .before .before .before .before .pre) (c .before .before .before .before .before .before .before .write-u8 .ensures) (c .before .before .write-string-at .ensures)
 
 pub write-param-at-spec : {M : Type 1} → statement M
 write-param-at-spec =
@@ -32,8 +32,8 @@ write-param-at-spec =
     (tie.spec
     shared-slice-read-write-u8
     write-u8-requires
+    add-t12
     add-write-string-at
-    add-write-string-at-2
     write-string-at-requires
     same-length
     returns)

@@ -30,18 +30,21 @@ add-write-u16 c = search needs
 write-u16-requires : tie.Need-write-u16-requires
 unfolding le16
 write-u16-requires c κs =
-    let h = rw (puts.high-constant _ (c .before .before .before .before .before .if1 .left)) at (c .before .before .before .before .before .before .before .pre) in
-    omega (arith, h .room, c .before .before .before .write-u8 .kept .0)
+    let h = rw (puts.high-constant _ (c .before .before .before .before .before .before .if1 .left)) at (c .before .before .before .before .before .before .before .before .pre) in
+    omega (arith, h .room, c .before .before .before .before .write-u8 .kept .0)
 
-add-t14 : tie.Need-add-t14
-add-t14 c = search needs
+push-constant-len-requires : tie.Need-push-constant-len-requires
+push-constant-len-requires c κs = search needs
+
+add-t15 : tie.Need-add-t15
+add-t15 c = omega (arith, puts.high-length _ (c .before .before .before .before .before .before .before .before .before .before .before .if1 .left), c .before .push-constant-len .ensures)
 
 same-length-2 : tie.Need-same-length-2
 same-length-2 c = search needs
 
 returns-2 : tie.Need-returns-2
 unfolding le16
-returns-2 c = rw (puts.high-constant _ (c .before .before .before .before .before .before .before .before .if1 .left)) (puts.byte-put (c .before .before .before .before .before .before .write-u8 .ensures) (c .before .before .write-u16 .ensures) (omega arith))
+returns-2 c = rw (puts.high-constant _ (c .before .before .before .before .before .before .before .before .before .before .before .if1 .left)) (puts.byte-put (c .before .before .before .before .before .before .before .before .before .write-u8 .ensures) (c .before .before .before .before .write-u16 .ensures) (omega (arith, puts.high-length _ (c .before .before .before .before .before .before .before .before .before .before .before .if1 .left), c .before .push-constant-len .ensures)))
 
 pub write-push-constant-spec : {M : Type 1} → statement M
 write-push-constant-spec =
@@ -54,6 +57,7 @@ write-push-constant-spec =
     write-u8-requires
     add-write-u16
     write-u16-requires
-    add-t14
+    push-constant-len-requires
+    add-t15
     same-length-2
     returns-2)

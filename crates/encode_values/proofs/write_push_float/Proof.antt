@@ -15,7 +15,7 @@ add-write-f64-me c = search needs
 
 write-f64-me-requires : tie.Need-write-f64-me-requires
 unfolding doubleBytes le32 le16
-write-f64-me-requires c κs = omega (arith, c .before .before .before .write-u8 .kept .0)
+write-f64-me-requires c κs = omega (arith, c .before .before .before .before .write-u8 .kept .0)
 
 add-t10 : tie.Need-add-t10
 add-t10 c = search needs
@@ -24,7 +24,7 @@ same-length : tie.Need-same-length
 same-length c = search needs
 
 returns : tie.Need-returns
-returns c = puts.byte-put (c .before .before .before .before .before .before .write-u8 .ensures) (c .before .before .write-f64-me .ensures) (unfold doubleBytes le32 le16 in omega arith)
+returns c = puts.byte-put (c .before .before .before .before .before .before .before .before .write-u8 .ensures) (c .before .before .before .write-f64-me .ensures) (unfold doubleBytes le32 le16 in omega arith)
 
 pub write-push-float-spec : {M : Type 1} → statement M
 write-push-float-spec =

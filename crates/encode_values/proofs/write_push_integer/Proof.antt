@@ -14,7 +14,7 @@ add-write-u32 c = search needs
 
 write-u32-requires : tie.Need-write-u32-requires
 unfolding le32 le16
-write-u32-requires c κs = omega (arith, c .before .before .before .write-u8 .kept .0)
+write-u32-requires c κs = omega (arith, c .before .before .before .before .write-u8 .kept .0)
 
 add-t10 : tie.Need-add-t10
 add-t10 c = search needs
@@ -23,7 +23,7 @@ same-length : tie.Need-same-length
 same-length c = search needs
 
 returns : tie.Need-returns
-returns c = puts.byte-put (c .before .before .before .before .before .before .write-u8 .ensures) (c .before .before .write-u32 .ensures) (unfold le32 le16 in omega arith)
+returns c = puts.byte-put (c .before .before .before .before .before .before .before .before .write-u8 .ensures) (c .before .before .before .write-u32 .ensures) (unfold le32 le16 in omega arith)
 
 pub write-push-integer-spec : {M : Type 1} → statement M
 write-push-integer-spec =

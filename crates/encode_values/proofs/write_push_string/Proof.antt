@@ -9,20 +9,19 @@ use Rattle.encode_values.proofs.write_push_string.Tie as tie
 write-u8-requires : tie.Need-write-u8-requires
 write-u8-requires c κs = search needs
 
-add-write-string : tie.Need-add-write-string
-add-write-string c = search needs
+add-w : tie.Need-add-w
+add-w c = search needs
 
 write-string-requires : tie.Need-write-string-requires
 write-string-requires c κs =
-    let a = c .before .before .before .before .before .before .before .args in
-    let l = puts.length-span (now (a .b)) (a .s) (c .before .before .before .before .before .before .before .pre .0) in
-    (omega (arith, c .before .before .before .write-u8 .kept .0), omega arith)
+    let a = c .before .before .before .before .before .before .before .before .args in
+    let l = puts.length-span (now (a .b)) (a .s) (c .before .before .before .before .before .before .before .before .pre .0) in
+    (omega (arith, c .before .before .before .before .write-u8 .kept .0), omega arith)
 
-add-t11 : tie.Need-add-t11
-add-t11 c = search needs
-
-add-t12 : tie.Need-add-t12
-add-t12 c = search needs
+string-len-requires : tie.Need-string-len-requires
+string-len-requires c κs =
+    let a = c .before .before .before .before .before .before .before .before .before .before .before .args in
+    omega (arith, puts.length-span (now (a .b)) (a .s) (c .before .before .before .before .before .before .before .before .before .before .before .pre .0))
 
 add-t13 : tie.Need-add-t13
 add-t13 c = search needs
@@ -32,19 +31,18 @@ same-length c = search needs
 
 returns : tie.Need-returns
 returns c =
-    let a = c .before .before .before .before .before .before .before .before .before .before .before .args in
-    let l = puts.length-span (now (a .b)) (a .s) (c .before .before .before .before .before .before .before .before .before .before .before .pre .0) in
-    puts.byte-put (c .before .before .before .before .before .before .before .write-u8 .ensures) (c .before .before .before .write-string .ensures) (omega arith)
+    let a = c .before .before .before .before .before .before .before .before .before .before .before .before .args in
+    let l = puts.length-span (now (a .b)) (a .s) (c .before .before .before .before .before .before .before .before .before .before .before .before .pre .0) in
+    puts.byte-put (c .before .before .before .before .before .before .before .before .write-u8 .ensures) (c .before .before .before .write-string .ensures) (omega arith)
 
 pub write-push-string-spec : {M : Type 1} → statement M
 write-push-string-spec =
     tie.close
     (tie.spec
     write-u8-requires
-    add-write-string
+    add-w
     write-string-requires
-    add-t11
-    add-t12
+    string-len-requires
     add-t13
     same-length
     returns)

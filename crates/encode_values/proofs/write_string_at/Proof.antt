@@ -22,8 +22,8 @@ add-t9 c = omega (arith, texts.string-room _ _ (c .before .before .before .befor
 add-t10 : tie.Need-add-t10
 add-t10 c = omega (arith, texts.string-room _ _ (c .before .before .before .before .before .before .before .pre) .0, c .before .before .before .before .u16-at .ensures .0)
 
-add-t11 : tie.Need-add-t11
-add-t11 c = search needs
+string-len-requires : tie.Need-string-len-requires
+string-len-requires c κs = search needs
 
 add-t12 : tie.Need-add-t12
 add-t12 c = search needs
@@ -32,7 +32,7 @@ same-length : tie.Need-same-length
 same-length c = search needs
 
 returns : tie.Need-returns
-returns c = texts.string-put _ _ (c .before .before .before .before .before .before .before .pre) _ (c .before .before .before .before .u16-at .ensures .0) (c .before .before .write-string .ensures)
+returns c = texts.string-put _ _ (c .before .before .before .before .before .before .before .before .before .pre) _ _ (c .before .before .before .before .before .before .u16-at .ensures .0) (c .before .string-len .ensures) (c .before .before .before .before .write-string .ensures)
 
 pub write-string-at-spec : {M : Type 1} → statement M
 write-string-at-spec =
@@ -43,7 +43,7 @@ write-string-at-spec =
     write-string-requires
     add-t9
     add-t10
-    add-t11
+    string-len-requires
     add-t12
     same-length
     returns)

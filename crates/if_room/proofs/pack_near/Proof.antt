@@ -27,7 +27,7 @@ same-length c = search needs
 returns-2 : tie.Need-returns-2
 returns-2 c =
     let m = c .before .before .before .before in
-    nears.near-done _ _ _ (m .before .before .before .before .before .pre) _ (m .if1 .left) _ (c .before .before .write-main .ensures)
+    nears.near-done _ _ _ (m .before .before .before .before .before .pre) _ (m .if1 .left) _ _ (c .before .before .write-main .ensures)
 
 pub pack-near-spec : {M : Type 1} → statement M
 pack-near-spec =

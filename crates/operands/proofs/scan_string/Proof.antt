@@ -37,14 +37,16 @@ returns-3 c = reading.scan-nul _ _ _ _ (omega arith) (c .before .before .before 
 add-t8 : tie.Need-add-t8
 add-t8 c = search needs
 
-add-t7 : tie.Need-add-t7
-add-t7 c = search needs
+string-len-requires : tie.Need-string-len-requires
+string-len-requires c κs = search needs
 
 add-t13 : tie.Need-add-t13
 add-t13 c = search needs
 
 returns-4 : tie.Need-returns-4
-returns-4 c = reading.scan-text _ _ _ _ (omega arith) (c .before .before .before .before .u16-at .ensures .0) _ (omega arith) (c .before .before .first-nul .ensures) (c .before .if3 .left)
+returns-4 c =
+    rw (c .before .string-len .ensures)
+    (reading.scan-text _ _ _ _ (omega arith) (c .before .before .before .before .before .u16-at .ensures .0) _ (omega arith) (c .before .before .before .first-nul .ensures) (c .before .before .if3 .left))
 
 pub scan-string-spec : {M : Type 1} → statement M
 scan-string-spec =
@@ -60,6 +62,6 @@ scan-string-spec =
     add-if3
     returns-3
     add-t8
-    add-t7
+    string-len-requires
     add-t13
     returns-4)

@@ -35,14 +35,17 @@ scan-bytes-requires-2 c κs = search needs
 flat-payload-requires-2 : tie.Need-flat-payload-requires-2
 flat-payload-requires-2 c κs = search needs
 
-add-t20 : tie.Need-add-t20
-add-t20 c = search needs
+constant-pool-len-requires : tie.Need-constant-pool-len-requires
+constant-pool-len-requires c κs = search needs
+
+add-t21 : tie.Need-add-t21
+add-t21 c = search needs
 
 scan-strings-requires : tie.Need-scan-strings-requires
 scan-strings-requires c κs = search needs
 
 long-payload-requires-2 : tie.Need-long-payload-requires-2
-long-payload-requires-2 c κs = (c .before .before .before .before .before .before .before .pre .2, lay.scanned-from-start _ _ _ _ _ (c .before .scan-strings .ensures) (omega arith))
+long-payload-requires-2 c κs = (c .before .before .before .before .before .before .before .before .pre .2, lay.scanned-from-start _ _ _ _ _ (c .before .scan-strings .ensures) (omega arith))
 
 scan-wait-for-frame-requires : tie.Need-scan-wait-for-frame-requires
 scan-wait-for-frame-requires c κs = search needs
@@ -62,8 +65,8 @@ scan-string-requires-2 c κs = search needs
 long-payload-requires-4 : tie.Need-long-payload-requires-4
 long-payload-requires-4 c κs = (c .before .before .before .before .before .before .pre .2, lay.scanned-from-start _ _ _ _ _ (c .before .scan-string2 .ensures) (omega arith))
 
-add-t32 : tie.Need-add-t32
-add-t32 c = search needs
+add-t33 : tie.Need-add-t33
+add-t33 c = search needs
 
 scan-bytes-requires-3 : tie.Need-scan-bytes-requires-3
 scan-bytes-requires-3 c κs = search needs
@@ -80,14 +83,20 @@ long-payload-requires-5 c κs = (c .before .before .before .before .before .befo
 scan-try-requires : tie.Need-scan-try-requires
 scan-try-requires c κs = search needs
 
-add-t39 : tie.Need-add-t39
-add-t39 c = search needs
+add-t40 : tie.Need-add-t40
+add-t40 c = search needs
+
+push-len-requires : tie.Need-push-len-requires
+push-len-requires c κs = search needs
+
+add-t44 : tie.Need-add-t44
+add-t44 c = search needs
 
 scan-push-requires : tie.Need-scan-push-requires
 scan-push-requires c κs = search needs
 
 long-payload-requires-6 : tie.Need-long-payload-requires-6
-long-payload-requires-6 c κs = (c .before .before .before .before .before .before .pre .2, lay.scanned-from-start _ _ _ _ _ (c .before .scan-push .ensures) (omega arith))
+long-payload-requires-6 c κs = (c .before .before .before .before .before .before .before .before .pre .2, lay.scanned-from-start _ _ _ _ _ (c .before .scan-push .ensures) (omega arith))
 
 scan-get-url-2-requires : tie.Need-scan-get-url-2-requires
 scan-get-url-2-requires c κs = search needs
@@ -106,6 +115,9 @@ scan-define-function-requires c κs = search needs
 
 long-payload-requires-7 : tie.Need-long-payload-requires-7
 long-payload-requires-7 c κs = (c .before .before .before .before .before .before .pre .2, lay.scanned-from-start _ _ _ _ _ (c .before .scan-define-function .ensures) (omega arith))
+
+add-t52 : tie.Need-add-t52
+add-t52 c = search needs
 
 scan-goto-frame-2-requires : tie.Need-scan-goto-frame-2-requires
 scan-goto-frame-2-requires c κs = search needs
@@ -129,7 +141,7 @@ same-length-2 : tie.Need-same-length-2
 same-length-2 c = search needs
 
 returns-4 : tie.Need-returns-4
-returns-4 c = arms.arm-constant-pool _ _ _ _ _ _ _ _ (c .before .before .before .before .before .before .match .keys4) (c .before .before .before .before .scan-strings .ensures) (c .before .before .long-payload2 .ensures .0) (c .before .before .long-payload2 .ensures .1)
+returns-4 c = arms.arm-constant-pool _ _ _ _ _ _ _ _ _ (c .before .before .before .before .before .before .before .match .keys4) (omega (arith, c .before .before .before .before .before .before .constant-pool-len .ensures)) (c .before .before .before .before .scan-strings .ensures) (c .before .before .long-payload2 .ensures .0) (c .before .before .long-payload2 .ensures .1)
 
 returns-5 : tie.Need-returns-5
 returns-5 c = arms.arm-wait-for-frame _ _ _ _ _ _ _ (c .before .before .match .keys5) (c .before .scan-wait-for-frame .ensures) (c .flat-payload3 .ensures)
@@ -147,13 +159,13 @@ returns-7 : tie.Need-returns-7
 returns-7 c = arms.arm-goto-label _ _ _ _ _ _ _ _ (c .before .before .before .before .before .match .keys7) (c .before .before .before .before .scan-string2 .ensures) (c .before .before .long-payload4 .ensures .0) (c .before .before .long-payload4 .ensures .1)
 
 returns-8 : tie.Need-returns-8
-returns-8 c = arms.arm-wait-for-frame2 _ _ _ _ _ _ _ (c .before .before .before .match .keys8) (c .before .scan-bytes3 .ensures) (c .flat-payload4 .ensures)
+returns-8 c = arms.arm-wait-for-frame-2 _ _ _ _ _ _ _ (c .before .before .before .match .keys8) (c .before .scan-bytes3 .ensures) (c .flat-payload4 .ensures)
 
 same-length-5 : tie.Need-same-length-5
 same-length-5 c = search needs
 
 returns-9 : tie.Need-returns-9
-returns-9 c = arms.arm-define-function2 _ _ _ _ _ _ _ (c .before .before .before .before .before .before .before .before .before .pre .3 .bytes) (omega arith) _ (c .before .before .before .before .before .match .keys9) (c .before .before .before .before .scan-define-function-2 .ensures) (c .before .before .long-payload5 .ensures .0) (c .before .before .long-payload5 .ensures .1)
+returns-9 c = arms.arm-define-function-2 _ _ _ _ _ _ _ (c .before .before .before .before .before .before .before .before .before .pre .3 .bytes) (omega arith) _ (c .before .before .before .before .before .match .keys9) (c .before .before .before .before .scan-define-function-2 .ensures) (c .before .before .long-payload5 .ensures .0) (c .before .before .long-payload5 .ensures .1)
 
 same-length-6 : tie.Need-same-length-6
 same-length-6 c = search needs
@@ -168,13 +180,13 @@ same-length-7 : tie.Need-same-length-7
 same-length-7 c = search needs
 
 returns-12 : tie.Need-returns-12
-returns-12 c = arms.arm-push _ _ _ _ _ _ _ _ (c .before .before .before .before .before .match .keys12) (c .before .before .before .before .scan-push .ensures) (c .before .before .long-payload6 .ensures .0) (c .before .before .long-payload6 .ensures .1)
+returns-12 c = arms.arm-push _ _ _ _ _ _ _ _ _ (c .before .before .before .before .before .before .before .match .keys12) (omega (arith, c .before .before .before .before .before .before .push-len .ensures)) (c .before .before .before .before .scan-push .ensures) (c .before .before .long-payload6 .ensures .0) (c .before .before .long-payload6 .ensures .1)
 
 returns-13 : tie.Need-returns-13
 returns-13 c = arms.arm-jump _ _ _ _ _ _ (omega arith) (c .before .match .keys13) (c .scan-branch .ensures)
 
 returns-14 : tie.Need-returns-14
-returns-14 c = arms.arm-get-url2 _ _ _ _ _ _ _ (c .before .before .match .keys14) (c .before .scan-get-url-2 .ensures) (c .flat-payload5 .ensures)
+returns-14 c = arms.arm-get-url-2 _ _ _ _ _ _ _ (c .before .before .match .keys14) (c .before .scan-get-url-2 .ensures) (c .flat-payload5 .ensures)
 
 same-length-8 : tie.Need-same-length-8
 same-length-8 c = search needs
@@ -186,10 +198,10 @@ returns-16 : tie.Need-returns-16
 returns-16 c = arms.arm-if _ _ _ _ _ _ (omega arith) (c .before .match .keys16) (c .scan-branch2 .ensures)
 
 returns-17 : tie.Need-returns-17
-returns-17 c = arms.arm-call _ _ _ _ _ (c .match .keys17)
+returns-17 c = arms.arm-call _ _ _ _ _ (c .before .match .keys17)
 
 returns-18 : tie.Need-returns-18
-returns-18 c = arms.arm-goto-frame2 _ _ _ _ _ _ _ (c .before .before .match .keys18) (c .before .scan-goto-frame-2 .ensures) (c .flat-payload6 .ensures)
+returns-18 c = arms.arm-goto-frame-2 _ _ _ _ _ _ _ (c .before .before .match .keys18) (c .before .scan-goto-frame-2 .ensures) (c .flat-payload6 .ensures)
 
 returns-19 : tie.Need-returns-19
 returns-19 c = let r = c .match .rest in arms.arm-unknown _ _ _ _ _ (arms.unlisted _ (c .before .before .before .before .pre .0) (omega arith) (r .0 .0 .0 .0 .0 .0 .0 .0 .0 .0 .0 .0 .0 .0 .0 .0 .0 .1, (r .0 .0 .0 .0 .0 .0 .0 .0 .0 .0 .0 .0 .0 .0 .0 .0 .1, (r .0 .0 .0 .0 .0 .0 .0 .0 .0 .0 .0 .0 .0 .0 .0 .1, (r .0 .0 .0 .0 .0 .0 .0 .0 .0 .0 .0 .0 .0 .0 .1, (r .0 .0 .0 .0 .0 .0 .0 .0 .0 .0 .0 .0 .0 .1, (r .0 .0 .0 .0 .0 .0 .0 .0 .0 .0 .0 .0 .1, (r .0 .0 .0 .0 .0 .0 .0 .0 .0 .0 .0 .1, (r .0 .0 .0 .0 .0 .0 .0 .0 .0 .0 .1, (r .0 .0 .0 .0 .0 .0 .0 .0 .0 .1, (r .0 .0 .0 .0 .0 .0 .0 .0 .1, (r .0 .0 .0 .0 .0 .0 .0 .1, (r .0 .0 .0 .0 .0 .0 .1, (r .0 .0 .0 .0 .0 .1, (r .0 .0 .0 .0 .1, (r .0 .0 .0 .1, (r .0 .0 .1, (r .0 .1, (r .1, tt)))))))))))))))))))
@@ -208,7 +220,8 @@ scan-payload-spec =
     add-t17
     scan-bytes-requires-2
     flat-payload-requires-2
-    add-t20
+    constant-pool-len-requires
+    add-t21
     scan-strings-requires
     long-payload-requires-2
     scan-wait-for-frame-requires
@@ -217,13 +230,15 @@ scan-payload-spec =
     long-payload-requires-3
     scan-string-requires-2
     long-payload-requires-4
-    add-t32
+    add-t33
     scan-bytes-requires-3
     flat-payload-requires-4
     scan-define-function-2-requires
     long-payload-requires-5
     scan-try-requires
-    add-t39
+    add-t40
+    push-len-requires
+    add-t44
     scan-push-requires
     long-payload-requires-6
     scan-branch-requires
@@ -232,6 +247,7 @@ scan-payload-spec =
     scan-define-function-requires
     long-payload-requires-7
     scan-branch-requires-2
+    add-t52
     scan-goto-frame-2-requires
     flat-payload-requires-6
     returns

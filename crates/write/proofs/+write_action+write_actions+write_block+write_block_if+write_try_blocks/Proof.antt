@@ -152,55 +152,58 @@ write-action-enum-told t c = search needs
 write-action-enum-told-2 : (t : ℕ) → write-action-lts.Need-enum-told-2 (write-action-calls t) (write-action-at t) write-action.Post
 write-action-enum-told-2 t c = search needs
 
-write-action-sub-write-block : (t : ℕ) → write-action-lts.Need-sub-write-block (write-action-calls t) (write-action-at t) write-action.Post
-write-action-sub-write-block t c =
-    let h = c .before .before .before .before .before .before in
+write-action-sub-t21 : (t : ℕ) → write-action-lts.Need-sub-t21 (write-action-calls t) (write-action-at t) write-action.Post
+write-action-sub-t21 t c =
+    let h = c .before .before .before .before .before .before .before in
     omega (arith, acts.one-room _ (h .before .before .action-at .ensures) (h .write-head .ensures) (sym (c .before .before .before .bodies-of .ensures) ∙ c .before .enum-told2 .given .1) (h .before .before .before .before .before .before .pre .1) (h .write-head .kept .1 .1 .1 .1 .1 .0) .1)
 
 write-action-write-block-requires : (t : ℕ) → write-action-lts.Need-write-block-requires (write-action-calls t) (write-action-at t) write-action.Post
 write-action-write-block-requires t c κs =
-    let h = c .before .before .before .before .before .before .before in
+    let h = c .before .before .before .before .before .before .before .before in
     (omega arith, acts.one-room _ (h .before .before .action-at .ensures) (h .write-head .ensures) (sym (c .before .before .before .before .bodies-of .ensures) ∙ c .before .before .enum-told2 .given .1) (h .before .before .before .before .before .before .pre .1) (h .write-head .kept .1 .1 .1 .1 .1 .0))
 
 write-action-enum-known-shape : (t : ℕ) → write-action-lts.Need-enum-known-shape (write-action-calls t) (write-action-at t) write-action.Post
 write-action-enum-known-shape t c = search needs
 
-write-action-add-write-try-blocks : (t : ℕ) → write-action-lts.Need-add-write-try-blocks (write-action-calls t) (write-action-at t) write-action.Post
-write-action-add-write-try-blocks t c = search needs
+write-action-add-t24 : (t : ℕ) → write-action-lts.Need-add-t24 (write-action-calls t) (write-action-at t) write-action.Post
+write-action-add-t24 t c = search needs
+
+write-action-add-t25 : (t : ℕ) → write-action-lts.Need-add-t25 (write-action-calls t) (write-action-at t) write-action.Post
+write-action-add-t25 t c = search needs
 
 write-action-write-try-blocks-requires : (t : ℕ) → write-action-lts.Need-write-try-blocks-requires (write-action-calls t) (write-action-at t) write-action.Post
 write-action-write-try-blocks-requires t c κs =
-    let h = c .before .before .before .before .before .before .before in
-    (omega arith, acts.tried-room _ (h .before .before .action-at .ensures) (h .write-head .ensures) _ (sym (c .before .before .before .before .bodies-of .ensures) ∙ c .before .before .shape .given .1) (h .before .before .before .before .before .before .pre .1) (h .write-head .kept .1 .1 .1 .1 .1 .0))
+    let h = c .before .before .before .before .before .before .before .before .before in
+    (omega arith, acts.tried-room _ (h .before .before .action-at .ensures) (h .write-head .ensures) _ _ (omega arith) (sym (c .before .before .before .before .before .bodies-of .ensures) ∙ c .before .before .before .shape .given .1) (h .before .before .before .before .before .before .pre .1) (h .write-head .kept .1 .1 .1 .1 .1 .0))
 
 write-action-same-length : (t : ℕ) → write-action-lts.Need-same-length (write-action-calls t) (write-action-at t) write-action.Post
-write-action-same-length t c = c .before .before .before .before .before .write-head .kept .1 .1 .1 .1 .1 .0
+write-action-same-length t c = c .before .before .before .before .before .before .write-head .kept .1 .1 .1 .1 .1 .0
 
 write-action-returns : (t : ℕ) → write-action-lts.Need-returns (write-action-calls t) (write-action-at t) write-action.Post
 write-action-returns t c =
-    let h = c .before .before .before .before .before in
+    let h = c .before .before .before .before .before .before in
     acts.none-wrote _ (h .before .before .action-at .ensures) (h .write-head .ensures) (sym (c .before .before .bodies-of .ensures) ∙ c .enum-told .given .1)
 
 write-action-same-length-2 : (t : ℕ) → write-action-lts.Need-same-length-2 (write-action-calls t) (write-action-at t) write-action.Post
-write-action-same-length-2 t c = c .before .before .write-block .kept .1 .1 .1 .1 .1 .1 .0 ∙ c .before .before .before .before .before .before .before .before .before .before .write-head .kept .1 .1 .1 .1 .1 .0
+write-action-same-length-2 t c = c .before .before .before .write-block .kept .1 .1 .1 .1 .1 .1 .0 ∙ c .before .before .before .before .before .before .before .before .before .before .before .before .write-head .kept .1 .1 .1 .1 .1 .0
 
 write-action-returns-2 : (t : ℕ) → write-action-lts.Need-returns-2 (write-action-calls t) (write-action-at t) write-action.Post
 write-action-returns-2 t c =
-    let w = c .before .before in
-    let h = w .before .before .before .before .before .before .before .before in
+    let w = c .before .before .before in
+    let h = w .before .before .before .before .before .before .before .before .before in
     acts.one-wrote _ (h .before .before .action-at .ensures) (h .write-head .ensures) (sym (w .before .before .before .before .before .bodies-of .ensures) ∙ w .before .before .before .enum-told2 .given .1) _ _ (w .write-block .ensures)
 
 write-action-same-length-3 : (t : ℕ) → write-action-lts.Need-same-length-3 (write-action-calls t) (write-action-at t) write-action.Post
-write-action-same-length-3 t c = c .before .before .write-try-blocks .kept .1 .1 .1 .1 .1 .1 .1 .0 ∙ c .before .before .before .before .before .before .before .before .before .before .write-head .kept .1 .1 .1 .1 .1 .0
+write-action-same-length-3 t c = c .before .before .before .write-try-blocks .kept .1 .1 .1 .1 .1 .1 .1 .0 ∙ c .before .before .before .before .before .before .before .before .before .before .before .before .before .write-head .kept .1 .1 .1 .1 .1 .0
 
 write-action-returns-3 : (t : ℕ) → write-action-lts.Need-returns-3 (write-action-calls t) (write-action-at t) write-action.Post
-write-action-returns-3 t c = acts.tried-wrote _ (c .before .before .before .before .before .before .before .before .before .before .before .before .action-at .ensures) (c .before .before .before .before .before .before .before .before .before .before .write-head .ensures) _ (sym (c .before .before .before .before .before .before .before .bodies-of .ensures) ∙ c .before .before .before .before .before .shape .given .1) _ _ (c .before .before .write-try-blocks .ensures)
+write-action-returns-3 t c = acts.tried-wrote _ (c .before .before .before .before .before .before .before .before .before .before .before .before .before .before .before .action-at .ensures) (c .before .before .before .before .before .before .before .before .before .before .before .before .before .write-head .ensures) _ _ (omega arith) (sym (c .before .before .before .before .before .before .before .before .before .bodies-of .ensures) ∙ c .before .before .before .before .before .before .before .shape .given .1) _ _ (c .before .before .before .write-try-blocks .ensures)
 
 abbrev write-actions-Inv-loop : write-actions-lts.InvT-loop
-write-actions-Inv-loop b at depth pos tab out₀ front left₀ p₀ w₀ out left p w = loop.Writing b at depth pos tab out₀ left p w out
+write-actions-Inv-loop b at depth tab out₀ front left₀ p₀ w₀ out left p w = loop.Writing b at depth (w₀ .0) tab out₀ left p (w .0) out
 
 abbrev write-actions-μ-loop : write-actions-lts.MeasureT-loop
-write-actions-μ-loop b at depth pos tab out₀ front left₀ p₀ w₀ out left p w = left
+write-actions-μ-loop b at depth tab out₀ front left₀ p₀ w₀ out left p w = left
 
 write-actions-add-front : (t : ℕ) → write-actions-lts.Need-add-front (write-actions-calls t) (write-actions-at t) write-actions.Post write-actions-Inv-loop write-actions-μ-loop
 write-actions-add-front t c = omega (arith, loop.fronted _ _ _ _ _ (c .before .before .before .pre .1 .reads) .first)
@@ -242,7 +245,7 @@ write-actions-loop-less t c = search needs
 
 write-actions-loop-again : (t : ℕ) → write-actions-lts.Need-loop-again (write-actions-calls t) (write-actions-at t) write-actions.Post write-actions-Inv-loop write-actions-μ-loop
 write-actions-loop-again t c =
-    let w = c .before .before in
+    let w = c .before .before .before in
     loop.writing-more _ _ _ _ _ _ _ _ _ _ _ _ (w .before .before .loop-test .taken) (w .before .before .before .loop .inv) (w .write-action .ensures)
 
 write-actions-same-length : (t : ℕ) → write-actions-lts.Need-same-length (write-actions-calls t) (write-actions-at t) write-actions.Post write-actions-Inv-loop write-actions-μ-loop
@@ -257,16 +260,16 @@ write-block-write-actions-requires t c κs = (omega arith, c .before .before .be
 write-block-write-block-length-at-requires :
     (t : ℕ) → write-block-lts.Need-write-block-length-at-requires (write-block-calls t) (write-block-at t) write-block.Post
 write-block-write-block-length-at-requires t c κs =
-    let w = c .before .before .before in
+    let w = c .before .before .before .before in
     steps.block-room _ (w .before .before .before .before .before .pre .1) (w .write-actions .ensures .ends) (w .write-actions .kept .1 .1 .1 .1 .1 .0)
 
 write-block-same-length : (t : ℕ) → write-block-lts.Need-same-length (write-block-calls t) (write-block-at t) write-block.Post
-write-block-same-length t c = c .before .before .write-block-length-at .kept .0 ∙ c .before .before .before .before .before .before .write-actions .kept .1 .1 .1 .1 .1 .0
+write-block-same-length t c = c .before .before .write-block-length-at .kept .0 ∙ c .before .before .before .before .before .before .before .write-actions .kept .1 .1 .1 .1 .1 .0
 
 write-block-returns : (t : ℕ) → write-block-lts.Need-returns (write-block-calls t) (write-block-at t) write-block.Post
 write-block-returns t c =
     let w = c .before .before in
-    steps.block-wrote _ _ _ _ _ _ _ _ _ (w .before .before .before .before .write-actions .ensures) (w .write-block-length-at .ensures)
+    steps.block-wrote _ _ _ _ _ _ _ _ _ (w .before .before .before .before .before .write-actions .ensures) (w .write-block-length-at .ensures)
 
 write-block-if-returns : (t : ℕ) → write-block-if-lts.Need-returns (write-block-if-calls t) (write-block-if-at t) write-block-if.Post
 write-block-if-returns t c = steps.if-absent _ _ _ _ _ _ _ (c .if1 .taken)
@@ -277,35 +280,35 @@ write-block-if-write-block-requires t c κs =
     (omega arith, (steps.if-room _ _ _ _ _ _ (c .before .if1 .left) (s .pre .1 .0), s .pre .1 .1))
 
 write-block-if-same-length : (t : ℕ) → write-block-if-lts.Need-same-length (write-block-if-calls t) (write-block-if-at t) write-block-if.Post
-write-block-if-same-length t c = c .before .before .write-block .kept .1 .1 .1 .1 .1 .1 .0
+write-block-if-same-length t c = c .before .before .before .write-block .kept .1 .1 .1 .1 .1 .1 .0
 
 write-block-if-returns-2 : (t : ℕ) → write-block-if-lts.Need-returns-2 (write-block-if-calls t) (write-block-if-at t) write-block-if.Post
-write-block-if-returns-2 t c = steps.if-wrote _ _ _ _ _ _ _ (c .before .before .before .before .if1 .left) (c .before .before .write-block .ensures)
+write-block-if-returns-2 t c = steps.if-wrote _ _ _ _ _ _ _ (c .before .before .before .before .before .if1 .left) (c .before .before .before .write-block .ensures)
 
 write-try-blocks-write-block-requires : (t : ℕ) → write-try-blocks-lts.Need-write-block-requires (write-try-blocks-calls t) (write-try-blocks-at t) write-try-blocks.Post
 write-try-blocks-write-block-requires t c κs = (omega arith, (steps.try-first _ _ _ _ _ _ _ (c .before .before .before .before .pre .1 .0), omega arith))
 
-write-try-blocks-add-write-block-if : (t : ℕ) → write-try-blocks-lts.Need-add-write-block-if (write-try-blocks-calls t) (write-try-blocks-at t) write-try-blocks.Post
-write-try-blocks-add-write-block-if t c = search needs
+write-try-blocks-add-t19 : (t : ℕ) → write-try-blocks-lts.Need-add-t19 (write-try-blocks-calls t) (write-try-blocks-at t) write-try-blocks.Post
+write-try-blocks-add-t19 t c = search needs
 
 write-try-blocks-write-block-if-requires :
     (t : ℕ) → write-try-blocks-lts.Need-write-block-if-requires (write-try-blocks-calls t) (write-try-blocks-at t) write-try-blocks.Post
 unfolding hasCatch
 write-try-blocks-write-block-if-requires t c κs =
-    let w = c .before .before .before in
+    let w = c .before .before .before .before .before in
     let r = w .before .before .before .before .before .pre .1 .0 in
     let l = w .write-block .kept .1 .1 .1 .1 .1 .1 .0 in
     (omega arith, (steps.try-second _ _ _ _ _ _ _ r (w .write-block .ensures .ends) _ l, omega (arith, steps.try-after _ _ _ _ _ _ _ r (w .write-block .ensures .ends))))
 
-write-try-blocks-add-write-block-if-2 : (t : ℕ) → write-try-blocks-lts.Need-add-write-block-if-2 (write-try-blocks-calls t) (write-try-blocks-at t) write-try-blocks.Post
-write-try-blocks-add-write-block-if-2 t c = search needs
+write-try-blocks-add-t19-2 : (t : ℕ) → write-try-blocks-lts.Need-add-t19-2 (write-try-blocks-calls t) (write-try-blocks-at t) write-try-blocks.Post
+write-try-blocks-add-t19-2 t c = search needs
 
 write-try-blocks-write-block-if-requires-2 :
     (t : ℕ) → write-try-blocks-lts.Need-write-block-if-requires-2 (write-try-blocks-calls t) (write-try-blocks-at t) write-try-blocks.Post
 unfolding hasCatch hasFinally
 write-try-blocks-write-block-if-requires-2 t c κs =
-    let x = c .before .before .before in
-    let w = x .before .before .before .before in
+    let x = c .before .before .before .before .before in
+    let w = x .before .before .before .before .before .before in
     let r = w .before .before .before .before .before .pre .1 .0 in
     let l = w .write-block .kept .1 .1 .1 .1 .1 .1 .0 in
     let m = x .write-block-if .kept .1 .1 .1 .1 .1 .1 .1 .0 in (
@@ -317,14 +320,14 @@ write-try-blocks-write-block-if-requires-2 t c κs =
     )
 
 write-try-blocks-same-length : (t : ℕ) → write-try-blocks-lts.Need-same-length (write-try-blocks-calls t) (write-try-blocks-at t) write-try-blocks.Post
-write-try-blocks-same-length t c = c .before .before .write-block-if2 .kept .1 .1 .1 .1 .1 .1 .1 .0 ∙ c .before .before .before .before .before .before .write-block-if .kept .1 .1 .1 .1 .1 .1 .1 .0 ∙ c .before .before .before .before .before .before .before .before .before .before .write-block .kept .1 .1 .1 .1 .1 .1 .0
+write-try-blocks-same-length t c = c .before .before .before .write-block-if2 .kept .1 .1 .1 .1 .1 .1 .1 .0 ∙ c .before .before .before .before .before .before .before .before .before .write-block-if .kept .1 .1 .1 .1 .1 .1 .1 .0 ∙ c .before .before .before .before .before .before .before .before .before .before .before .before .before .before .before .write-block .kept .1 .1 .1 .1 .1 .1 .0
 
 write-try-blocks-returns : (t : ℕ) → write-try-blocks-lts.Need-returns (write-try-blocks-calls t) (write-try-blocks-at t) write-try-blocks.Post
 unfolding hasCatch hasFinally
 write-try-blocks-returns t c =
-    let y = c .before .before in
-    let x = y .before .before .before .before in
-    let w = x .before .before .before .before in
+    let y = c .before .before .before in
+    let x = y .before .before .before .before .before .before in
+    let w = x .before .before .before .before .before .before in
     steps.try-wrote _ _ _ _ _ _ _ (w .write-block .ensures) (x .write-block-if .ensures) (y .write-block-if2 .ensures)
 
 pub +write-action+write-actions+write-block+write-block-if+write-try-blocks-spec :
@@ -343,10 +346,11 @@ pub +write-action+write-actions+write-block+write-block-if+write-try-blocks-spec
     (write-action-bodies-of-requires t)
     (write-action-enum-told t)
     (write-action-enum-told-2 t)
-    (write-action-sub-write-block t)
+    (write-action-sub-t21 t)
     (write-action-write-block-requires t)
     (write-action-enum-known-shape t)
-    (write-action-add-write-try-blocks t)
+    (write-action-add-t24 t)
+    (write-action-add-t25 t)
     (write-action-write-try-blocks-requires t)
     (write-action-same-length t)
     (write-action-returns t)
@@ -389,9 +393,9 @@ pub +write-action+write-actions+write-block+write-block-if+write-try-blocks-spec
     (write-try-blocks-calls t) (write-try-blocks-at t)
     write-try-blocks.Post
     (write-try-blocks-write-block-requires t)
-    (write-try-blocks-add-write-block-if t)
+    (write-try-blocks-add-t19 t)
     (write-try-blocks-write-block-if-requires t)
-    (write-try-blocks-add-write-block-if-2 t)
+    (write-try-blocks-add-t19-2 t)
     (write-try-blocks-write-block-if-requires-2 t)
     (write-try-blocks-same-length t)
     (write-try-blocks-returns t)
