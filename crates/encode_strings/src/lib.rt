@@ -65,9 +65,9 @@ pub fn write_constant_pool(out: &mut [u8], pos: BytePosition, b: &[u8], n: usize
     requires { ⌜ Room (written (λ q. headed false 0x88 (le16 n ++ q)) (stringsAt (now b) n at)) (pos .0) (now out) ⌝ }
     ensures { λ r. ⌜ Put (written (λ q. headed false 0x88 (le16 n ++ q)) (stringsAt (now (b .entry)) n at)) (pos .0) (now (out .entry)) (now (out .exit)) r ⌝ }
 {
-    let count = pos.0 + OpCode::HEADER_LEN;
-    write_u16(out, count, n);
-    let strings = count + OpCode::constant_pool_len(0);
+    let start = pos.0 + OpCode::HEADER_LEN;
+    write_u16(out, start, n);
+    let strings = start + OpCode::constant_pool_len(0);
     let e = write_strings(out, BytePosition(strings), b, n, at);
     let len = OpCode::constant_pool_len(e.pos.0 - strings);
     write_action_header(out, pos, OpCode::CONSTANT_POOL, len);

@@ -55,6 +55,9 @@ module _ (b tab : List ℕ) (end : BytePosition) (m : MainNear b end tab) where
   unfolding blockSize
   len-is = omega (arith, m .measured .is-end)
 
+  pub block-long : end .0 + 1 ≡ length (blockBytes t)
+  block-long = len-is ∙ sym (length-block t)
+
   -- It is short of every limit.
   pub len-small : end .0 + 1 ≤ 3145728
   len-small = omega (arith, m .measured .is-end, m .measured .limited, tree-small b t (m .measured .bytes) (m .measured .reads))
@@ -90,9 +93,8 @@ module _ (b tab : List ℕ) (end : BytePosition) (m : MainNear b end tab) where
           → MainAnswered blockIn b o (answer.Done (reached .0)) (front ++ drop (end .0 + 1) o)
       unfolding output number value answers.number answers.value
       near-done front reached w =
-          let z : end .0 + 1 ≡ length (blockBytes t) = len-is ∙ sym (length-block t) in
-          let f : front ≡ blockBytes t = w .wrote t (m .measured .reads) ∙ filled (take (end .0 + 1) o) (blockBytes t) (sym z ∙ sym front-long) in
-          answered-by t (m .measured .reads) (done (has-room t (length o) (omega (arith, len-is))) z (w .long t (m .measured .reads)) f)
+          let f : front ≡ blockBytes t = w .wrote t (m .measured .reads) ∙ filled (take (end .0 + 1) o) (blockBytes t) (sym block-long ∙ sym front-long) in
+          answered-by t (m .measured .reads) (done (has-room t (length o) (omega (arith, len-is))) block-long (w .long t (m .measured .reads)) f)
         where
           done : blockIn t (length o) ≡ answers.Done (blockBytes t) → end .0 + 1 ≡ length (blockBytes t) → reached .0 ≡ length (blockBytes t) → front ≡ blockBytes t
               → Answered (blockIn t (length o)) o (answer.Done (reached .0)) (front ++ drop (end .0 + 1) o)

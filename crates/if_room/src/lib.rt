@@ -6,8 +6,8 @@ use opcode::OpCode;
 use positions::BytePosition;
 use write::write_main;
 
-// A main body in which no branch goes too far, and whose actions end at position `end`: 11 or 0. The writer is lent the front of the
-// output that the block fills, with its End, and nothing past it.
+// A main body in which no branch goes too far, and whose actions end at position `end`: 11 or 0. The writer is lent the front of
+// the output that the block fills, its End with it, and nothing past it.
 pub fn pack_near(b: &[u8], end: BytePosition, tab: &[usize], out: &mut [u8]) -> Answer
     requires { ⌜ MainNear (now b) end (now tab) ⌝ }
     ensures { λ r. ⌜ MainAnswered blockIn (now (b .entry)) (now (out .entry)) r (now (out .exit)) ⌝ }

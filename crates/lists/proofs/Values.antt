@@ -7,7 +7,7 @@ use mathlib.Core.Option.{Option, none, some}
 use mathlib.Core.List.{List}
 use lib.ListN.{length, getD}
 use lib.Dec.{eqb}
-use borrow.Author.Tests.{lt-ltb, le-ltb, ne-eqb}
+use borrow.Author.Tests.{ne-eqb}
 use Rattle.layout.specs.Lists.{pick, firstWith}
 use Rattle.layout.specs.Numbers.{u16At}
 use Rattle.layout.specs.Answers.{CutShort, UnknownCode}

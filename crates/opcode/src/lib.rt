@@ -345,14 +345,14 @@ impl OpCode {
         OpCode::ALL
     }
 
-    // An opcode under 80 is an action's only byte. One from 80 on is followed by the length of its payload, and these three bytes are
+    // An opcode under 80 is an action's only byte. One from 80 on is followed by the length of its payload: three bytes, which are
     // the action's header.
     pub const SMALL_LEN: usize = 1;
 
     pub const HEADER_LEN: usize = 3;
 
-    // Payloads of one length, whatever they hold: a byte (StoreRegister, WaitForFrame2, GetUrl2), a u16 (GotoFrame, With, Jump, If),
-    // both (WaitForFrame), or nothing (Call). What measures and what writes by these is proved against the definitions' payloads.
+    // Payloads of one length, whatever they hold: a byte (StoreRegister, WaitForFrame2, GetUrl2), a u16 (GotoFrame, With, Jump,
+    // If), both (WaitForFrame), or nothing (Call). What measures and what writes by them is proved against the definitions.
     pub const U8_LEN: usize = 1;
 
     pub const U16_LEN: usize = 2;
@@ -361,8 +361,8 @@ impl OpCode {
 
     pub const CALL_LEN: usize = 0;
 
-    // Pushed values, each with its kind: the kind alone (null, undefined, and before a string), with a byte (a register, a boolean),
-    // an integer or a double.
+    // Pushed values with their kind: the kind alone (null, undefined, and before a string), with a byte (a register, a boolean),
+    // with an integer, with a double.
     pub const PUSH_KIND_LEN: usize = 1;
 
     pub const PUSH_U8_LEN: usize = 2;

@@ -1,15 +1,15 @@
 -- The main body's actions by the table are the block without its End. Assumes nothing.
 use mathlib.Core.Path.{_≡_, sym, ap, _∙_, subst}
-use Prim.Native.Nat.{ℕ, _+_, _<_, _≤_}
+use Prim.Native.Nat.{ℕ, _<_}
 use native.Mathlib.Omega.{arith}
 use mathlib.Core.Option.{Option, none}
-use mathlib.Core.List.{List, [], _∷_}
+use mathlib.Core.List.{List}
 use lib.ListN.{length}
 use lib.Seq.{sets}
 use Rattle.layout.specs.Tree.{Actions, ActionsOf}
 use Rattle.layout.specs.Read.{Text, edition1, deepest, Place, placed, got, readBody, readMain}
 use Rattle.layout.specs.Strings.{mapBody}
-use Rattle.layout.specs.Write.{bytes, bodyBytes, bodySize, Position, events, distanceBits, branchBits, blockBytes, blockSize, position, traceBody, lookup}
+use Rattle.layout.specs.Write.{bytes, bodyBytes, bodySize, Position, events, distanceBits, branchBits, blockSize, position, traceBody, lookup}
 use Rattle.layout.specs.Lengths.{length-body}
 use Rattle.layout.specs.Pack.{spelling}
 use Rattle.layout.specs.Judge.{tooFar}

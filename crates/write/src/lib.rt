@@ -131,9 +131,9 @@ fn write_try_blocks(
     }
 }
 
-// An action within which `depth` bodies may stand one in another. The length of its only body is the payload's last two bytes; the
-// three of a Try stand behind its shape. Each arm makes its result anew from a callee's: handed on as it is, a callee's result would
-// be kept in memory, also for actions without a body.
+// An action within which `depth` bodies may stand one in another. The length of an only body is the payload's last two bytes; the
+// three of a Try stand behind its shape. Each arm makes its result anew from a callee's: handed on as it is, a callee's result
+// would be kept in memory, also for actions without a body.
 fn write_action(
     b: &[u8],
     at: usize,

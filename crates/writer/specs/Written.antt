@@ -13,4 +13,4 @@ appended w bs = record { out = at-last (w .out) (sets (now (w .out)) (w .at .0) 
 
 -- A writer once a run of bytes is written at another position: the one reached stays.
 abbrev pub patched : Writer → BytePosition → List ℕ → Writer
-patched w place bs = record { out = at-last (w .out) (sets (now (w .out)) (place .0) bs); at = w .at }
+patched w earlier bs = record { out = at-last (w .out) (sets (now (w .out)) (earlier .0) bs); at = w .at }

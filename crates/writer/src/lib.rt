@@ -34,12 +34,12 @@ fn put_u16(out: &mut [u8], at: BytePosition, v: usize) -> BytePosition
     BytePosition(at.0 + 2)
 }
 
-// The low sixteen bits of a number at another position than the one reached, which is given back.
-fn put_u16_at(out: &mut [u8], at: BytePosition, place: BytePosition, v: usize) -> BytePosition
-    requires { ⌜ place .0 + 2 ≤ length (now out) ⌝ }
-    ensures { λ r. ⌜ (r .0 ≡ at .0) × (now (out .exit) ≡ sets (now (out .entry)) (place .0) (le16 v)) ⌝ }
+// The low sixteen bits of a number at an earlier position than the one reached, which is given back.
+fn put_u16_at(out: &mut [u8], at: BytePosition, earlier: BytePosition, v: usize) -> BytePosition
+    requires { ⌜ earlier .0 + 2 ≤ length (now out) ⌝ }
+    ensures { λ r. ⌜ (r .0 ≡ at .0) × (now (out .exit) ≡ sets (now (out .entry)) (earlier .0) (le16 v)) ⌝ }
 {
-    write_u16(out, place.0, v);
+    write_u16(out, earlier.0, v);
     at
 }
 
@@ -77,12 +77,12 @@ pub fn append_u16<'a>(w: Writer<'a>, v: usize) -> Writer<'a>
 }
 
 // The low sixteen bits of a number are written at an earlier position. The one reached stays.
-pub fn patch_u16<'a>(w: Writer<'a>, place: BytePosition, v: usize) -> Writer<'a>
-    requires { ⌜ place .0 + 2 ≤ length (now (w .out)) ⌝ }
-    ensures { λ r. ⌜ r ≡ patched (w .entry) place (le16 v) ⌝ }
+pub fn patch_u16<'a>(w: Writer<'a>, earlier: BytePosition, v: usize) -> Writer<'a>
+    requires { ⌜ earlier .0 + 2 ≤ length (now (w .out)) ⌝ }
+    ensures { λ r. ⌜ r ≡ patched (w .entry) earlier (le16 v) ⌝ }
 {
     let at = w.at;
-    let next = put_u16_at(&mut *w.out, at, place, v);
+    let next = put_u16_at(&mut *w.out, at, earlier, v);
     Writer {
         out: w.out,
         at: next,
@@ -96,7 +96,8 @@ pub fn finish<'a>(w: Writer<'a>) -> BytePosition
     w.at
 }
 
-// An action's header: its opcode, then the length of its payload, and the position after them. Opcodes under 80 have none and do not come here.
+// An action's header: its opcode, then the length of its payload. Answers the position after it. Opcodes under 80 have no header
+// and do not come here.
 pub fn write_action_header(out: &mut [u8], pos: BytePosition, op: u8, len: usize) -> BytePosition
     requires { ⌜ pos .0 + 3 ≤ length (now out) ⌝ }
     ensures { λ r. ⌜ (r .0 ≡ pos .0 + 3) × (now (out .exit) ≡ sets (now (out .entry)) (pos .0) (op ∷ le16 len)) ⌝ }

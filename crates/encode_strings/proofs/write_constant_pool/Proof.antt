@@ -7,8 +7,8 @@ use Rattle.encode_strings.proofs.Wholes as wholes
 use Rattle.encode_strings.proofs.write_constant_pool.Statement.{statement}
 use Rattle.encode_strings.proofs.write_constant_pool.Tie as tie
 
-add-count : tie.Need-add-count
-add-count c = search needs
+add-start : tie.Need-add-start
+add-start c = search needs
 
 write-u16-requires : tie.Need-write-u16-requires
 write-u16-requires c κs =
@@ -47,7 +47,7 @@ pub write-constant-pool-spec : {M : Type 1} → statement M
 write-constant-pool-spec =
     tie.close
     (tie.spec
-    add-count
+    add-start
     write-u16-requires
     constant-pool-len-requires
     add-strings
