@@ -24,12 +24,8 @@ pub fn scan_wait_for_frame(b: &[u8], at: usize, pos: BytePosition) -> Scan
     if b.len() - at < 2 {
         return Scan::Stops(Fault::CutShort, at);
     }
-    scan_bytes(
-        b,
-        at + 2,
-        1,
-        BytePosition(pos.0 + OpCode::WAIT_FOR_FRAME_LEN),
-    )
+    let end = BytePosition(pos.0 + OpCode::WAIT_FOR_FRAME_LEN);
+    scan_bytes(b, at + 2, 1, end)
 }
 
 // GotoFrame2: a bias and whether to play; the bias is written when it is not 0.
@@ -77,7 +73,7 @@ pub fn scan_get_url(b: &[u8], at: usize, pos: BytePosition) -> Scan
 
 // ---- payloads before bodies
 
-// A function's name and parameters.
+// A function's name and parameters. These are measured from the end of a payload without any, here and below.
 pub fn scan_define_function(b: &[u8], at: usize, pos: BytePosition) -> Scan
     requires { ⌜ Roomy (now b) at pos ⌝ }
     ensures { λ r. ⌜ r ≡ scanned ownerSize (pos .0) (readFunction (now (b .entry)) (placed at)) ⌝ }
@@ -126,7 +122,8 @@ pub fn scan_define_function_2(b: &[u8], at: usize, pos: BytePosition) -> Scan
     }
 }
 
-// A Try's shape and catch target.
+// A Try's shape and catch target. A name is measured from `target` on; a register, or the zero byte of a Try without a catch, ends
+// at `end`.
 pub fn scan_catch(b: &[u8], at: usize, pos: BytePosition) -> Scan
     requires { ⌜ Roomy (now b) at pos ⌝ }
     ensures { λ r. ⌜ r ≡ scanned caughtSize (pos .0) (readCaught (now (b .entry)) (placed at)) ⌝ }
@@ -135,15 +132,15 @@ pub fn scan_catch(b: &[u8], at: usize, pos: BytePosition) -> Scan
         return Scan::Stops(Fault::CutShort, at);
     }
     let p = at + 1;
-    let name = BytePosition(pos.0 + OpCode::try_len(0));
-    let byte = BytePosition(pos.0 + OpCode::try_len(1));
+    let target = BytePosition(pos.0 + OpCode::try_len(0));
+    let end = BytePosition(pos.0 + OpCode::try_len(1));
     match b[at] {
-        0 => Scan::Ends(p, byte),
-        1 => scan_string(b, p, name),
-        2 => Scan::Ends(p, byte),
-        3 => scan_string(b, p, name),
-        5 => scan_bytes(b, p, 1, byte),
-        7 => scan_bytes(b, p, 1, byte),
+        0 => Scan::Ends(p, end),
+        1 => scan_string(b, p, target),
+        2 => Scan::Ends(p, end),
+        3 => scan_string(b, p, target),
+        5 => scan_bytes(b, p, 1, end),
+        7 => scan_bytes(b, p, 1, end),
         _ => Scan::Stops(Fault::BadField, at),
     }
 }

@@ -54,27 +54,20 @@ fn scan_try(b: &[u8], at: usize, pos: BytePosition, over: &mut [usize]) -> Laid
     }
 }
 
-// The payload of an opcode from 80 on, which stands at a place; `pos` is the action's position.
+// The payload of an opcode from 80 on, which stands at a place; `pos` is the action's position. A payload of a byte ends at `byte`,
+// one of a u16 at `word`; a list is measured from the end of a payload whose list is empty.
 pub fn scan_payload(b: &[u8], op: u8, at: usize, pos: BytePosition, over: &mut [usize]) -> Laid
     requires { ⌜ (128 ≤ op) × (at < length (now b)) × (length (now over) ≡ 2) × Roomy (now b) at pos ⌝ }
     ensures { λ l. ⌜ Laying (λ inner. readFieldsIf edition1 (now (b .entry)) inner (opcodeOf op) (placed at) (placed (at + 1))) at (length (now (b .entry))) (pos .0) (now (over .entry)) (now (over .exit)) l ⌝ }
 {
     let p = at + 1;
     let w = BytePosition(pos.0 + OpCode::HEADER_LEN);
+    let byte = BytePosition(w.0 + OpCode::U8_LEN);
+    let word = BytePosition(w.0 + OpCode::U16_LEN);
     match op {
-        OpCode::GOTO_FRAME => flat_payload(scan_bytes(
-            b,
-            p,
-            2,
-            BytePosition(w.0 + OpCode::U16_LEN),
-        )),
+        OpCode::GOTO_FRAME => flat_payload(scan_bytes(b, p, 2, word)),
         OpCode::GET_URL => long_payload(scan_get_url(b, p, w), w, 0, over),
-        OpCode::STORE_REGISTER => flat_payload(scan_bytes(
-            b,
-            p,
-            1,
-            BytePosition(w.0 + OpCode::U8_LEN),
-        )),
+        OpCode::STORE_REGISTER => flat_payload(scan_bytes(b, p, 1, byte)),
         OpCode::CONSTANT_POOL => long_payload(
             scan_strings(b, p, 0, BytePosition(w.0 + OpCode::constant_pool_len(0))),
             w,
@@ -84,15 +77,10 @@ pub fn scan_payload(b: &[u8], op: u8, at: usize, pos: BytePosition, over: &mut [
         OpCode::WAIT_FOR_FRAME => flat_payload(scan_wait_for_frame(b, p, w)),
         OpCode::SET_TARGET => long_payload(scan_string(b, p, w), w, 0, over),
         OpCode::GOTO_LABEL => long_payload(scan_string(b, p, w), w, 0, over),
-        OpCode::WAIT_FOR_FRAME2 => flat_payload(scan_bytes(
-            b,
-            p,
-            1,
-            BytePosition(w.0 + OpCode::U8_LEN),
-        )),
+        OpCode::WAIT_FOR_FRAME2 => flat_payload(scan_bytes(b, p, 1, byte)),
         OpCode::DEFINE_FUNCTION2 => long_payload(scan_define_function_2(b, p, w), w, 1, over),
         OpCode::TRY => scan_try(b, p, w, over),
-        OpCode::WITH => Laid::Bodies(p, BytePosition(w.0 + OpCode::U16_LEN), 1),
+        OpCode::WITH => Laid::Bodies(p, word, 1),
         OpCode::PUSH => long_payload(
             scan_push(b, p, BytePosition(w.0 + OpCode::push_len(0))),
             w,

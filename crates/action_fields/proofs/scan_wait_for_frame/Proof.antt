@@ -10,11 +10,11 @@ sub-if1 c = search needs
 returns : tie.Need-returns
 returns c = steps.wait-out _ _ _ (omega arith)
 
-add-scan-bytes : tie.Need-add-scan-bytes
-add-scan-bytes c = search needs
-
 add-t5 : tie.Need-add-t5
 add-t5 c = search needs
+
+add-scan-bytes : tie.Need-add-scan-bytes
+add-scan-bytes c = search needs
 
 scan-bytes-requires : tie.Need-scan-bytes-requires
 scan-bytes-requires c κs = search needs
@@ -24,4 +24,11 @@ returns-2 c = steps.wait-in _ _ _ _ (omega arith) (c .scan-bytes .ensures)
 
 pub scan-wait-for-frame-spec : {M : Type 1} → statement M
 scan-wait-for-frame-spec =
-    tie.close (tie.spec sub-if1 returns add-scan-bytes add-t5 scan-bytes-requires returns-2)
+    tie.close
+    (tie.spec
+    sub-if1
+    returns
+    add-t5
+    add-scan-bytes
+    scan-bytes-requires
+    returns-2)

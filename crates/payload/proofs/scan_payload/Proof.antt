@@ -8,11 +8,14 @@ use Rattle.payload.proofs.scan_payload.Tie as tie
 add-p : tie.Need-add-p
 add-p c = search needs
 
-add-t8 : tie.Need-add-t8
-add-t8 c = search needs
+add-t10 : tie.Need-add-t10
+add-t10 c = search needs
 
-add-t11 : tie.Need-add-t11
-add-t11 c = search needs
+add-t10-2 : tie.Need-add-t10-2
+add-t10-2 c = search needs
+
+add-t10-3 : tie.Need-add-t10-3
+add-t10-3 c = search needs
 
 scan-bytes-requires : tie.Need-scan-bytes-requires
 scan-bytes-requires c κs = search needs
@@ -24,10 +27,7 @@ scan-get-url-requires : tie.Need-scan-get-url-requires
 scan-get-url-requires c κs = search needs
 
 long-payload-requires : tie.Need-long-payload-requires
-long-payload-requires c κs = (c .before .before .before .before .before .before .pre .2, lay.scanned-from-start _ _ _ _ _ (c .before .scan-get-url .ensures) (omega arith))
-
-add-t17 : tie.Need-add-t17
-add-t17 c = search needs
+long-payload-requires c κs = (c .before .before .before .before .before .before .before .before .pre .2, lay.scanned-from-start _ _ _ _ _ (c .before .scan-get-url .ensures) (omega arith))
 
 scan-bytes-requires-2 : tie.Need-scan-bytes-requires-2
 scan-bytes-requires-2 c κs = search needs
@@ -38,14 +38,16 @@ flat-payload-requires-2 c κs = search needs
 constant-pool-len-requires : tie.Need-constant-pool-len-requires
 constant-pool-len-requires c κs = search needs
 
-add-t21 : tie.Need-add-t21
-add-t21 c = search needs
+add-t19 : tie.Need-add-t19
+add-t19 c = search needs
 
 scan-strings-requires : tie.Need-scan-strings-requires
-scan-strings-requires c κs = search needs
+scan-strings-requires c κs =
+    let h = c .before .before .before .before .before .before .before .before .pre .3 in
+    (record { bytes = h .bytes; inside = omega arith; room = omega (arith, h .room, c .before .constant-pool-len .ensures) }, omega arith)
 
 long-payload-requires-2 : tie.Need-long-payload-requires-2
-long-payload-requires-2 c κs = (c .before .before .before .before .before .before .before .before .pre .2, lay.scanned-from-start _ _ _ _ _ (c .before .scan-strings .ensures) (omega arith))
+long-payload-requires-2 c κs = (c .before .before .before .before .before .before .before .before .before .before .pre .2, lay.scanned-from-start _ _ _ _ _ (c .before .scan-strings .ensures) (omega arith))
 
 scan-wait-for-frame-requires : tie.Need-scan-wait-for-frame-requires
 scan-wait-for-frame-requires c κs = search needs
@@ -57,16 +59,13 @@ scan-string-requires : tie.Need-scan-string-requires
 scan-string-requires c κs = search needs
 
 long-payload-requires-3 : tie.Need-long-payload-requires-3
-long-payload-requires-3 c κs = (c .before .before .before .before .before .before .pre .2, lay.scanned-from-start _ _ _ _ _ (c .before .scan-string .ensures) (omega arith))
+long-payload-requires-3 c κs = (c .before .before .before .before .before .before .before .before .pre .2, lay.scanned-from-start _ _ _ _ _ (c .before .scan-string .ensures) (omega arith))
 
 scan-string-requires-2 : tie.Need-scan-string-requires-2
 scan-string-requires-2 c κs = search needs
 
 long-payload-requires-4 : tie.Need-long-payload-requires-4
-long-payload-requires-4 c κs = (c .before .before .before .before .before .before .pre .2, lay.scanned-from-start _ _ _ _ _ (c .before .scan-string2 .ensures) (omega arith))
-
-add-t33 : tie.Need-add-t33
-add-t33 c = search needs
+long-payload-requires-4 c κs = (c .before .before .before .before .before .before .before .before .pre .2, lay.scanned-from-start _ _ _ _ _ (c .before .scan-string2 .ensures) (omega arith))
 
 scan-bytes-requires-3 : tie.Need-scan-bytes-requires-3
 scan-bytes-requires-3 c κs = search needs
@@ -78,34 +77,30 @@ scan-define-function-2-requires : tie.Need-scan-define-function-2-requires
 scan-define-function-2-requires c κs = search needs
 
 long-payload-requires-5 : tie.Need-long-payload-requires-5
-long-payload-requires-5 c κs = (c .before .before .before .before .before .before .pre .2, lay.scanned-from-start _ _ _ _ _ (c .before .scan-define-function-2 .ensures) (omega arith))
+long-payload-requires-5 c κs = (c .before .before .before .before .before .before .before .before .pre .2, lay.scanned-from-start _ _ _ _ _ (c .before .scan-define-function-2 .ensures) (omega arith))
 
 scan-try-requires : tie.Need-scan-try-requires
-scan-try-requires c κs = search needs
-
-add-t40 : tie.Need-add-t40
-add-t40 c = search needs
+scan-try-requires c κs =
+    let h = c .before .before .before .before .before .before .before .pre in
+    (h .2, record { bytes = h .3 .bytes; inside = omega arith; room = omega (arith, h .3 .room) })
 
 push-len-requires : tie.Need-push-len-requires
 push-len-requires c κs = search needs
 
-add-t44 : tie.Need-add-t44
-add-t44 c = search needs
+add-t38 : tie.Need-add-t38
+add-t38 c = search needs
 
 scan-push-requires : tie.Need-scan-push-requires
 scan-push-requires c κs = search needs
 
 long-payload-requires-6 : tie.Need-long-payload-requires-6
-long-payload-requires-6 c κs = (c .before .before .before .before .before .before .before .before .pre .2, lay.scanned-from-start _ _ _ _ _ (c .before .scan-push .ensures) (omega arith))
-
-scan-get-url-2-requires : tie.Need-scan-get-url-2-requires
-scan-get-url-2-requires c κs = search needs
+long-payload-requires-6 c κs = (c .before .before .before .before .before .before .before .before .before .before .pre .2, lay.scanned-from-start _ _ _ _ _ (c .before .scan-push .ensures) (omega arith))
 
 scan-branch-requires : tie.Need-scan-branch-requires
 scan-branch-requires c κs = search needs
 
-scan-branch-requires-2 : tie.Need-scan-branch-requires-2
-scan-branch-requires-2 c κs = search needs
+scan-get-url-2-requires : tie.Need-scan-get-url-2-requires
+scan-get-url-2-requires c κs = search needs
 
 flat-payload-requires-5 : tie.Need-flat-payload-requires-5
 flat-payload-requires-5 c κs = search needs
@@ -114,10 +109,13 @@ scan-define-function-requires : tie.Need-scan-define-function-requires
 scan-define-function-requires c κs = search needs
 
 long-payload-requires-7 : tie.Need-long-payload-requires-7
-long-payload-requires-7 c κs = (c .before .before .before .before .before .before .pre .2, lay.scanned-from-start _ _ _ _ _ (c .before .scan-define-function .ensures) (omega arith))
+long-payload-requires-7 c κs = (c .before .before .before .before .before .before .before .before .pre .2, lay.scanned-from-start _ _ _ _ _ (c .before .scan-define-function .ensures) (omega arith))
 
-add-t52 : tie.Need-add-t52
-add-t52 c = search needs
+scan-branch-requires-2 : tie.Need-scan-branch-requires-2
+scan-branch-requires-2 c κs = search needs
+
+add-t46 : tie.Need-add-t46
+add-t46 c = search needs
 
 scan-goto-frame-2-requires : tie.Need-scan-goto-frame-2-requires
 scan-goto-frame-2-requires c κs = search needs
@@ -126,7 +124,7 @@ flat-payload-requires-6 : tie.Need-flat-payload-requires-6
 flat-payload-requires-6 c κs = search needs
 
 returns : tie.Need-returns
-returns c = arms.arm-goto-frame _ _ _ _ _ _ _ (c .before .before .before .match .keys1) (c .before .scan-bytes .ensures) (c .flat-payload .ensures)
+returns c = arms.arm-goto-frame _ _ _ _ _ _ _ (c .before .before .match .keys1) (c .before .scan-bytes .ensures) (c .flat-payload .ensures)
 
 same-length : tie.Need-same-length
 same-length c = search needs
@@ -135,7 +133,7 @@ returns-2 : tie.Need-returns-2
 returns-2 c = arms.arm-get-url _ _ _ _ _ _ _ _ (c .before .before .before .before .before .match .keys2) (c .before .before .before .before .scan-get-url .ensures) (c .before .before .long-payload .ensures .0) (c .before .before .long-payload .ensures .1)
 
 returns-3 : tie.Need-returns-3
-returns-3 c = arms.arm-store-register _ _ _ _ _ _ _ (c .before .before .before .match .keys3) (c .before .scan-bytes2 .ensures) (c .flat-payload2 .ensures)
+returns-3 c = arms.arm-store-register _ _ _ _ _ _ _ (c .before .before .match .keys3) (c .before .scan-bytes2 .ensures) (c .flat-payload2 .ensures)
 
 same-length-2 : tie.Need-same-length-2
 same-length-2 c = search needs
@@ -159,22 +157,22 @@ returns-7 : tie.Need-returns-7
 returns-7 c = arms.arm-goto-label _ _ _ _ _ _ _ _ (c .before .before .before .before .before .match .keys7) (c .before .before .before .before .scan-string2 .ensures) (c .before .before .long-payload4 .ensures .0) (c .before .before .long-payload4 .ensures .1)
 
 returns-8 : tie.Need-returns-8
-returns-8 c = arms.arm-wait-for-frame-2 _ _ _ _ _ _ _ (c .before .before .before .match .keys8) (c .before .scan-bytes3 .ensures) (c .flat-payload4 .ensures)
+returns-8 c = arms.arm-wait-for-frame-2 _ _ _ _ _ _ _ (c .before .before .match .keys8) (c .before .scan-bytes3 .ensures) (c .flat-payload4 .ensures)
 
 same-length-5 : tie.Need-same-length-5
 same-length-5 c = search needs
 
 returns-9 : tie.Need-returns-9
-returns-9 c = arms.arm-define-function-2 _ _ _ _ _ _ _ (c .before .before .before .before .before .before .before .before .before .pre .3 .bytes) (omega arith) _ (c .before .before .before .before .before .match .keys9) (c .before .before .before .before .scan-define-function-2 .ensures) (c .before .before .long-payload5 .ensures .0) (c .before .before .long-payload5 .ensures .1)
+returns-9 c = arms.arm-define-function-2 _ _ _ _ _ _ _ (c .before .before .before .before .before .before .before .before .before .before .before .pre .3 .bytes) (omega arith) _ (c .before .before .before .before .before .match .keys9) (c .before .before .before .before .scan-define-function-2 .ensures) (c .before .before .long-payload5 .ensures .0) (c .before .before .long-payload5 .ensures .1)
 
 same-length-6 : tie.Need-same-length-6
 same-length-6 c = search needs
 
 returns-10 : tie.Need-returns-10
-returns-10 c = arms.arm-try _ _ _ _ _ (c .before .before .before .before .before .before .before .before .pre .3 .bytes) (omega arith) _ _ (c .before .before .before .before .match .keys10) (c .before .before .scan-try .ensures)
+returns-10 c = arms.arm-try _ _ _ _ _ (c .before .before .before .before .before .before .before .before .before .before .pre .3 .bytes) (omega arith) _ _ (c .before .before .before .before .match .keys10) (c .before .before .scan-try .ensures)
 
 returns-11 : tie.Need-returns-11
-returns-11 c = arms.arm-with _ _ _ _ _ (c .before .match .keys11) (omega arith)
+returns-11 c = arms.arm-with _ _ _ _ _ (c .match .keys11) (omega arith)
 
 same-length-7 : tie.Need-same-length-7
 same-length-7 c = search needs
@@ -192,7 +190,7 @@ same-length-8 : tie.Need-same-length-8
 same-length-8 c = search needs
 
 returns-15 : tie.Need-returns-15
-returns-15 c = arms.arm-define-function _ _ _ _ _ _ _ (c .before .before .before .before .before .before .before .before .before .pre .3 .bytes) (omega arith) _ (c .before .before .before .before .before .match .keys15) (c .before .before .before .before .scan-define-function .ensures) (c .before .before .long-payload7 .ensures .0) (c .before .before .long-payload7 .ensures .1)
+returns-15 c = arms.arm-define-function _ _ _ _ _ _ _ (c .before .before .before .before .before .before .before .before .before .before .before .pre .3 .bytes) (omega arith) _ (c .before .before .before .before .before .match .keys15) (c .before .before .before .before .scan-define-function .ensures) (c .before .before .long-payload7 .ensures .0) (c .before .before .long-payload7 .ensures .1)
 
 returns-16 : tie.Need-returns-16
 returns-16 c = arms.arm-if _ _ _ _ _ _ (omega arith) (c .before .match .keys16) (c .scan-branch2 .ensures)
@@ -204,24 +202,24 @@ returns-18 : tie.Need-returns-18
 returns-18 c = arms.arm-goto-frame-2 _ _ _ _ _ _ _ (c .before .before .match .keys18) (c .before .scan-goto-frame-2 .ensures) (c .flat-payload6 .ensures)
 
 returns-19 : tie.Need-returns-19
-returns-19 c = let r = c .match .rest in arms.arm-unknown _ _ _ _ _ (arms.unlisted _ (c .before .before .before .before .pre .0) (omega arith) (r .0 .0 .0 .0 .0 .0 .0 .0 .0 .0 .0 .0 .0 .0 .0 .0 .0 .1, (r .0 .0 .0 .0 .0 .0 .0 .0 .0 .0 .0 .0 .0 .0 .0 .0 .1, (r .0 .0 .0 .0 .0 .0 .0 .0 .0 .0 .0 .0 .0 .0 .0 .1, (r .0 .0 .0 .0 .0 .0 .0 .0 .0 .0 .0 .0 .0 .0 .1, (r .0 .0 .0 .0 .0 .0 .0 .0 .0 .0 .0 .0 .0 .1, (r .0 .0 .0 .0 .0 .0 .0 .0 .0 .0 .0 .0 .1, (r .0 .0 .0 .0 .0 .0 .0 .0 .0 .0 .0 .1, (r .0 .0 .0 .0 .0 .0 .0 .0 .0 .0 .1, (r .0 .0 .0 .0 .0 .0 .0 .0 .0 .1, (r .0 .0 .0 .0 .0 .0 .0 .0 .1, (r .0 .0 .0 .0 .0 .0 .0 .1, (r .0 .0 .0 .0 .0 .0 .1, (r .0 .0 .0 .0 .0 .1, (r .0 .0 .0 .0 .1, (r .0 .0 .0 .1, (r .0 .0 .1, (r .0 .1, (r .1, tt)))))))))))))))))))
+returns-19 c = let r = c .match .rest in arms.arm-unknown _ _ _ _ _ (arms.unlisted _ (c .before .before .before .before .before .before .pre .0) (omega arith) (r .0 .0 .0 .0 .0 .0 .0 .0 .0 .0 .0 .0 .0 .0 .0 .0 .0 .1, (r .0 .0 .0 .0 .0 .0 .0 .0 .0 .0 .0 .0 .0 .0 .0 .0 .1, (r .0 .0 .0 .0 .0 .0 .0 .0 .0 .0 .0 .0 .0 .0 .0 .1, (r .0 .0 .0 .0 .0 .0 .0 .0 .0 .0 .0 .0 .0 .0 .1, (r .0 .0 .0 .0 .0 .0 .0 .0 .0 .0 .0 .0 .0 .1, (r .0 .0 .0 .0 .0 .0 .0 .0 .0 .0 .0 .0 .1, (r .0 .0 .0 .0 .0 .0 .0 .0 .0 .0 .0 .1, (r .0 .0 .0 .0 .0 .0 .0 .0 .0 .0 .1, (r .0 .0 .0 .0 .0 .0 .0 .0 .0 .1, (r .0 .0 .0 .0 .0 .0 .0 .0 .1, (r .0 .0 .0 .0 .0 .0 .0 .1, (r .0 .0 .0 .0 .0 .0 .1, (r .0 .0 .0 .0 .0 .1, (r .0 .0 .0 .0 .1, (r .0 .0 .0 .1, (r .0 .0 .1, (r .0 .1, (r .1, tt)))))))))))))))))))
 
 pub scan-payload-spec : {M : Type 1} → statement M
 scan-payload-spec =
     tie.close
     (tie.spec
     add-p
-    add-t8
-    add-t11
+    add-t10
+    add-t10-2
+    add-t10-3
     scan-bytes-requires
     flat-payload-requires
     scan-get-url-requires
     long-payload-requires
-    add-t17
     scan-bytes-requires-2
     flat-payload-requires-2
     constant-pool-len-requires
-    add-t21
+    add-t19
     scan-strings-requires
     long-payload-requires-2
     scan-wait-for-frame-requires
@@ -230,15 +228,13 @@ scan-payload-spec =
     long-payload-requires-3
     scan-string-requires-2
     long-payload-requires-4
-    add-t33
     scan-bytes-requires-3
     flat-payload-requires-4
     scan-define-function-2-requires
     long-payload-requires-5
     scan-try-requires
-    add-t40
     push-len-requires
-    add-t44
+    add-t38
     scan-push-requires
     long-payload-requires-6
     scan-branch-requires
@@ -247,7 +243,7 @@ scan-payload-spec =
     scan-define-function-requires
     long-payload-requires-7
     scan-branch-requires-2
-    add-t52
+    add-t46
     scan-goto-frame-2-requires
     flat-payload-requires-6
     returns

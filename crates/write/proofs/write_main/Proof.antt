@@ -44,6 +44,7 @@ use Rattle.writer.specs.Written.{appended}
 use Rattle.writer.proofs.Writer as T
 use Rattle.writer.proofs.Position.{Pos, position, pos, pos-told, pos-typed, pos-fits, has-pos}
 use Rattle.writer.proofs.Held.{writer-typed}
+use Rattle.writer.proofs.Calls.{Made, Byte, Finish, made-of, byte-of}
 use Rattle.writer.proofs.writer_at as writer-at
 use Rattle.writer.proofs.writer_at.Symbol as writer-at-def
 use Rattle.writer.proofs.writer_at.Symbol.{name as #writer-at}
@@ -80,34 +81,14 @@ abbrev stayed : Stays (me.ended .signature .params) (me.ended .kept)
 stayed = (stay-dropped BodyS yes, (stay-dropped TableS yes, (gave-slice (2 ∷ []) tt (plain (λ _. u8)), tt)))
 
 module _ {M : Type 1} (𝓤 : URA M) (H : Heap 𝓤) (A : Atoms 𝓤) (mem : Memory → SProp 𝓤) (run : Routine → Fun 𝓤) where
-  -- The contract of `writer_at`.
-  abbrev Made : Contract 𝓤
-  Made = tripleOf 𝓤 H A writer-at.signature (writer-at.spec 𝓤 H A mem run)
-
   -- The contract of `append_main`.
   abbrev Main : Contract 𝓤
   Main = tripleOf 𝓤 H A append-main.signature (append-main.spec 𝓤 H A mem run)
-
-  -- The contract of `append_u8`.
-  abbrev Byte : Contract 𝓤
-  Byte = tripleOf 𝓤 H A append-u8.signature (append-u8.spec 𝓤 H A mem run)
-
-  -- The contract of `finish`.
-  abbrev Finish : Contract 𝓤
-  Finish = tripleOf 𝓤 H A finish.signature (finish.spec 𝓤 H A mem run)
-
-  -- What `writer_at` ensures of its result.
-  made-of : (κ : Lft) (x : RefT (List ℕ)) (n : BytePosition) (r : Writer) → ent 𝓤 (ensured 𝓤 H A writer-at.ended (writer-at.clauses 𝓤 H A mem run) (κ, tt) (x, (n, tt)) tt r) (fact 𝓤 ((r .out ≡ x) × (r .at ≡ n)))
-  made-of κ x n r = exE 𝓤 _ (λ ws. snd∗ 𝓤 (sem 𝓤 H A (lasts writer-at.ended (κ, tt) (x, (n, tt)) ws)) (fact 𝓤 ((r .out ≡ x) × (r .at ≡ n))))
 
   -- What `append_main` ensures of its result.
   main-of : (κs : Lfts 3) (h : Writer) (body table : RefT (List ℕ)) (r : Writer)
       → ent 𝓤 (ensured 𝓤 H A append-main.ended (append-main.clauses 𝓤 H A mem run) κs (h, (body, (table, tt))) tt r) (fact 𝓤 (AppendedMain (body .now) h r))
   main-of κs h body table r = exE 𝓤 _ (λ ws. snd∗ 𝓤 (sem 𝓤 H A (lasts append-main.ended κs (h, (body, (table, tt))) ws)) (fact 𝓤 (AppendedMain (body .now) h r)))
-
-  -- What `append_u8` ensures of its result.
-  byte-of : (κ : Lft) (h : Writer) (v : ℕ) (r : Writer) → ent 𝓤 (ensured 𝓤 H A append-u8.ended (append-u8.clauses 𝓤 H A mem run) (κ, tt) (h, (v, tt)) tt r) (fact 𝓤 (r ≡ appended h (v ∷ [])))
-  byte-of κ h v r = exE 𝓤 _ (λ ws. snd∗ 𝓤 (sem 𝓤 H A (lasts append-u8.ended (κ, tt) (h, (v, tt)) ws)) (fact 𝓤 (r ≡ appended h (v ∷ []))))
 
 module _ {M : Type 1} (𝓤 : URA M) (H : Heap 𝓤) (A : Atoms 𝓤) (W : Given 𝓤 H A) (mem : Memory → SProp 𝓤) (run : Routine → Fun 𝓤) (κb κt κ : Lft) (qb qt q : Share) (body table : RefT (List ℕ)) (b o : ℕ) (γ : GName) (ys : List ℕ) (more : MainWritable (body .now) (table .now) ys) where
   -- The output's lifetime.

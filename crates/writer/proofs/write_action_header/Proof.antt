@@ -47,6 +47,7 @@ use Rattle.writer.specs.Written.{appended}
 use Rattle.writer.proofs.Writer as T
 use Rattle.writer.proofs.Position.{Pos, position, pos, pos-vals, pos-tells, pos-told, pos-typed, pos-fits, has-pos}
 use Rattle.writer.proofs.Held.{writer-typed}
+use Rattle.writer.proofs.Calls.{Made, Byte, Finish, made-of, byte-of}
 use Rattle.writer.proofs.writer_at as writer-at
 use Rattle.writer.proofs.writer_at.Symbol as writer-at-def
 use Rattle.writer.proofs.writer_at.Symbol.{name as #writer-at}
@@ -73,29 +74,9 @@ abbrev stayed : Stays (me.ended .signature .params) (me.ended .kept)
 stayed = (gave-slice (0 ∷ []) tt (plain (λ _. u8)), (stay-none (λ _. Pos) yes, (stay-none (λ _. u8) yes, (stay-none (λ _. usize) yes, tt))))
 
 module _ {M : Type 1} (𝓤 : URA M) (H : Heap 𝓤) (A : Atoms 𝓤) (mem : Memory → SProp 𝓤) (run : Routine → Fun 𝓤) where
-  -- The contract of `writer_at`.
-  abbrev Made : Contract 𝓤
-  Made = tripleOf 𝓤 H A writer-at.signature (writer-at.spec 𝓤 H A mem run)
-
-  -- The contract of `append_u8`.
-  abbrev Byte : Contract 𝓤
-  Byte = tripleOf 𝓤 H A append-u8.signature (append-u8.spec 𝓤 H A mem run)
-
   -- The contract of `append_u16`.
   abbrev Pair : Contract 𝓤
   Pair = tripleOf 𝓤 H A append-u16.signature (append-u16.spec 𝓤 H A mem run)
-
-  -- The contract of `finish`.
-  abbrev Finish : Contract 𝓤
-  Finish = tripleOf 𝓤 H A finish.signature (finish.spec 𝓤 H A mem run)
-
-  -- What `writer_at` ensures of its result.
-  made-of : (κ : Lft) (x : RefT (List ℕ)) (n : BytePosition) (r : Writer) → ent 𝓤 (ensured 𝓤 H A writer-at.ended (writer-at.clauses 𝓤 H A mem run) (κ, tt) (x, (n, tt)) tt r) (fact 𝓤 ((r .out ≡ x) × (r .at ≡ n)))
-  made-of κ x n r = exE 𝓤 _ (λ ws. snd∗ 𝓤 (sem 𝓤 H A (lasts writer-at.ended (κ, tt) (x, (n, tt)) ws)) (fact 𝓤 ((r .out ≡ x) × (r .at ≡ n))))
-
-  -- What `append_u8` ensures of its result.
-  byte-of : (κ : Lft) (h : Writer) (v : ℕ) (r : Writer) → ent 𝓤 (ensured 𝓤 H A append-u8.ended (append-u8.clauses 𝓤 H A mem run) (κ, tt) (h, (v, tt)) tt r) (fact 𝓤 (r ≡ appended h (v ∷ [])))
-  byte-of κ h v r = exE 𝓤 _ (λ ws. snd∗ 𝓤 (sem 𝓤 H A (lasts append-u8.ended (κ, tt) (h, (v, tt)) ws)) (fact 𝓤 (r ≡ appended h (v ∷ []))))
 
   -- What `append_u16` ensures of its result.
   pair-of : (κ : Lft) (h : Writer) (v : ℕ) (r : Writer) → ent 𝓤 (ensured 𝓤 H A append-u16.ended (append-u16.clauses 𝓤 H A mem run) (κ, tt) (h, (v, tt)) tt r) (fact 𝓤 (r ≡ appended h (le16 v)))

@@ -43,6 +43,7 @@ use Rattle.writer.specs.Written.{patched}
 use Rattle.writer.proofs.Writer as T
 use Rattle.writer.proofs.Position.{Pos, position, pos, pos-vals, pos-tells, pos-typed, pos-fits, has-pos}
 use Rattle.writer.proofs.Held.{writer-typed}
+use Rattle.writer.proofs.Calls.{Made, Finish, made-of}
 use Rattle.writer.proofs.writer_at as writer-at
 use Rattle.writer.proofs.writer_at.Symbol as writer-at-def
 use Rattle.writer.proofs.writer_at.Symbol.{name as #writer-at}
@@ -65,21 +66,9 @@ abbrev stayed : Stays (me.ended .signature .params) (me.ended .kept)
 stayed = (gave-slice (0 ∷ []) tt (plain (λ _. u8)), (stay-none (λ _. Pos) yes, (stay-none (λ _. Pos) yes, (stay-none (λ _. Pos) yes, tt))))
 
 module _ {M : Type 1} (𝓤 : URA M) (H : Heap 𝓤) (A : Atoms 𝓤) (mem : Memory → SProp 𝓤) (run : Routine → Fun 𝓤) where
-  -- The contract of `writer_at`.
-  abbrev Made : Contract 𝓤
-  Made = tripleOf 𝓤 H A writer-at.signature (writer-at.spec 𝓤 H A mem run)
-
   -- The contract of `patch_u16`.
   abbrev Patch : Contract 𝓤
   Patch = tripleOf 𝓤 H A patch-u16.signature (patch-u16.spec 𝓤 H A mem run)
-
-  -- The contract of `finish`.
-  abbrev Finish : Contract 𝓤
-  Finish = tripleOf 𝓤 H A finish.signature (finish.spec 𝓤 H A mem run)
-
-  -- What `writer_at` ensures of its result.
-  made-of : (κ : Lft) (x : RefT (List ℕ)) (n : BytePosition) (r : Writer) → ent 𝓤 (ensured 𝓤 H A writer-at.ended (writer-at.clauses 𝓤 H A mem run) (κ, tt) (x, (n, tt)) tt r) (fact 𝓤 ((r .out ≡ x) × (r .at ≡ n)))
-  made-of κ x n r = exE 𝓤 _ (λ ws. snd∗ 𝓤 (sem 𝓤 H A (lasts writer-at.ended (κ, tt) (x, (n, tt)) ws)) (fact 𝓤 ((r .out ≡ x) × (r .at ≡ n))))
 
   -- What `patch_u16` ensures of its result.
   patch-of : (κ : Lft) (h : Writer) (p : BytePosition) (v : ℕ) (r : Writer) → ent 𝓤 (ensured 𝓤 H A patch-u16.ended (patch-u16.clauses 𝓤 H A mem run) (κ, tt) (h, (p, (v, tt))) tt r) (fact 𝓤 (r ≡ patched h p (le16 v)))
