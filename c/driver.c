@@ -27,8 +27,10 @@ enum {
     GUARD = 64,             /* bytes on both sides of the output and of the value that must keep theirs */
     SPACE = 4 * 1024 * 1024, /* the longest sheet and block, and the largest room, of a record */
     HEAD = 22,              /* the bytes of a record before its patterns */
-    STRICT = 1,             /* the bit of strict mode; no other is in use */
-    NUMBERS = 15            /* the answers of documents 01 and 02 */
+    STRICT = 1,             /* the bits of a mode */
+    CONTAINED = 2,
+    MODES = 4,
+    NUMBERS = 16            /* the answers of documents 01 and 02 */
 };
 
 static int status = 0;
@@ -78,14 +80,21 @@ struct answer {
     size_t changed; /* bytes that must keep their values and did not */
 };
 
+/* The entry, with a mode by its bits. */
+static uint32_t pack_in(unsigned mode, const uint8_t *sheet, size_t len, uint8_t *out, size_t room, uint8_t *value,
+                        size_t value_len)
+{
+    return merinovault_pack(sheet, len, mode & STRICT, mode & CONTAINED, out, room, value, value_len);
+}
+
 /* Packs into `room` bytes at `out`, after GUARD bytes and before GUARD more, all of them `fill` before the call. */
-static struct answer pack(const uint8_t *sheet, size_t len, bool strict, uint8_t *out, size_t room, uint8_t fill)
+static struct answer pack(unsigned mode, const uint8_t *sheet, size_t len, uint8_t *out, size_t room, uint8_t fill)
 {
     uint8_t value[GUARD + MERINOVAULT_VALUE_LEN + GUARD];
     memset(value, fill, sizeof value);
     memset(out - GUARD, fill, GUARD + room + GUARD);
     struct answer a;
-    a.number = merinovault_pack(sheet, len, strict, out, room, value + GUARD, MERINOVAULT_VALUE_LEN);
+    a.number = pack_in(mode, sheet, len, out, room, value + GUARD, MERINOVAULT_VALUE_LEN);
     a.value = number_in(value + GUARD);
     a.changed = changed(value, GUARD, fill) + changed(value + GUARD + MERINOVAULT_VALUE_LEN, GUARD, fill);
     size_t written = a.number == MERINOVAULT_DONE ? (size_t)a.value : 0;
@@ -150,7 +159,7 @@ static void step_short(uint8_t *end)
 }
 
 /* A value slice that has not 8 bytes, and runs without a byte, in one mode. */
-static void edges(bool strict)
+static void edges(unsigned mode)
 {
     const uint8_t empty[12] = {0, 0, 0, 0, 4, 0, 0, 0, 1, 0, 0x41, 0x31}, one[1] = {0};
     uint8_t out[4], value[16];
@@ -158,19 +167,19 @@ static void edges(bool strict)
     memset(value, 0xA5, sizeof value);
     for (size_t n = 0; n <= sizeof value; n++)
         if (n != MERINOVAULT_VALUE_LEN) {
-            if (merinovault_pack(empty, sizeof empty, strict, out, sizeof out, value, n) != MERINOVAULT_NO_ROOM ||
-                merinovault_pack(NULL, 0, strict, out, sizeof out, value, n) != MERINOVAULT_NO_ROOM ||
+            if (pack_in(mode, empty, sizeof empty, out, sizeof out, value, n) != MERINOVAULT_NO_ROOM ||
+                pack_in(mode, NULL, 0, out, sizeof out, value, n) != MERINOVAULT_NO_ROOM ||
                 merinovault_step(one, sizeof one, value, n) != MERINOVAULT_NO_ROOM)
                 fault(0, "a value slice of another length than 8 is not answered 11");
         }
-    if (merinovault_pack(empty, sizeof empty, strict, out, sizeof out, NULL, 0) != MERINOVAULT_NO_ROOM ||
+    if (pack_in(mode, empty, sizeof empty, out, sizeof out, NULL, 0) != MERINOVAULT_NO_ROOM ||
         merinovault_step(one, sizeof one, NULL, 0) != MERINOVAULT_NO_ROOM)
         fault(0, "no value slice is not answered 11");
     if (changed(out, sizeof out, 0xA5) + changed(value, sizeof value, 0xA5) != 0)
         fault(0, "a byte changed beside a value slice of another length than 8");
-    if (merinovault_pack(NULL, 0, strict, out, sizeof out, value, 8) != MERINOVAULT_BAD_TRAILER || number_in(value) != 0)
+    if (pack_in(mode, NULL, 0, out, sizeof out, value, 8) != MERINOVAULT_BAD_TRAILER || number_in(value) != 0)
         fault(0, "the empty sheet is not answered 2 with 0");
-    if (merinovault_pack(empty, sizeof empty, strict, NULL, 0, value, 8) != MERINOVAULT_NO_ROOM || number_in(value) != 1)
+    if (pack_in(mode, empty, sizeof empty, NULL, 0, value, 8) != MERINOVAULT_NO_ROOM || number_in(value) != 1)
         fault(0, "an empty output is not answered 11 with 1");
     if (merinovault_step(NULL, 0, value, 8) != MERINOVAULT_UNCLEAN || number_in(value) != 0)
         fault(0, "the empty block is not answered 13 with 0");
@@ -223,13 +232,12 @@ struct space {
 static bool agrees(const uint8_t *head, const struct space *space, size_t line)
 {
     size_t room = u32_at(head + 8), n = unroll(u32_at(head), space->copy), m = unroll(u32_at(head + 4), space->block);
-    if (room > SPACE || head[12] > STRICT || head[13] >= NUMBERS)
+    if (room > SPACE || head[12] >= MODES || head[13] >= NUMBERS)
         stop("a record with a room of more than 4 MiB, or with a mode or an answer that is none");
-    bool strict = head[12] == STRICT;
     uint8_t *sheet = memcpy(space->sheet_end - n, space->copy, n), *out = space->out_end - GUARD - room;
 
     /* A byte that is written with what it holds already shows in the other of two fills. */
-    struct answer first = pack(sheet, n, strict, out, room, 0x5A), a = pack(sheet, n, strict, out, room, 0xA5);
+    struct answer first = pack(head[12], sheet, n, out, room, 0x5A), a = pack(head[12], sheet, n, out, room, 0xA5);
     if (first.number != a.number || first.value != a.value)
         fault(line, "a second call tells something else");
     if (first.changed + a.changed != 0)
@@ -253,8 +261,8 @@ int main(int argc, char **argv)
     struct space space = {malloc(SPACE), malloc(SPACE), memory_end(SPACE), memory_end(GUARD + SPACE + GUARD), memory_end(SPACE)};
     if (space.copy == NULL || space.block == NULL)
         stop("no memory");
-    edges(false);
-    edges(true);
+    for (unsigned mode = 0; mode < MODES; mode++)
+        edges(mode);
     step_short(space.block_end);
 
     uint8_t head[HEAD];

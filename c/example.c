@@ -22,10 +22,10 @@ static void show_steps(const uint8_t *block, size_t block_len)
 }
 
 /* Packs the sheet and prints the block with its steps, or the answer that refused it. */
-static void show(const uint8_t *sheet, size_t sheet_len, bool strict)
+static void show(const uint8_t *sheet, size_t sheet_len, bool strict, bool contained)
 {
     uint8_t block[64], value[MERINOVAULT_VALUE_LEN];
-    uint32_t number = merinovault_pack(sheet, sheet_len, strict, block, sizeof block, value, sizeof value);
+    uint32_t number = merinovault_pack(sheet, sheet_len, strict, contained, block, sizeof block, value, sizeof value);
     if (number != MERINOVAULT_DONE) {
         printf("refused: answer %" PRIu32 ", value %" PRId64 "\n", number, number_in(value));
         return;
@@ -48,12 +48,24 @@ int main(void)
         0x0B, 0x00, 0x00, 0x00, /* trailer: the main body begins 11 bytes before it, */
         0x01, 0x00, 0x41, 0x31, /* edition 1, and the mark */
     };
-    show(sheet, sizeof sheet, false);
+    show(sheet, sizeof sheet, false, false);
     sheet[4] = 2; /* label 0 past the body's end, which is no record */
-    show(sheet, sizeof sheet, false);
-    show(sheet, sizeof sheet, true); /* NeverRecorded: the Jump's operand, at byte 3 of the block */
-    sheet[8] = 0x98;                 /* no opcode: UnknownCode at byte 8 of the sheet */
-    show(sheet, sizeof sheet, true);
+    show(sheet, sizeof sheet, false, false);
+    show(sheet, sizeof sheet, true, false); /* NeverRecorded: the Jump's operand, at byte 3 of the block */
+    sheet[8] = 0x98;                        /* no opcode: UnknownCode at byte 8 of the sheet */
+    show(sheet, sizeof sheet, true, false);
+
+    const uint8_t into[] = {
+        0x00, 0x00,                         /* no label entry */
+        0x02, 0x00,                         /* two actions: */
+        0x9B, 0x01, 0x00, 0x66, 0x00, 0x00, /* DefineFunction f, without parameters; its body: */
+        0x01, 0x00, 0x00, 0x00, 0x00, 0x00, /* one label entry, label 0 before action 0, */
+        0x01, 0x00, 0x06,                   /* and one action, Play */
+        0x99, 0x00, 0x00,                   /* Jump to label 0 */
+        0x16, 0x00, 0x00, 0x00, 0x01, 0x00, 0x41, 0x31,
+    };
+    show(into, sizeof into, true, false);
+    show(into, sizeof into, true, true); /* StrayBranch: the Jump leaves the main body */
 
     const uint8_t block[] = {
         0x96, 0x02, 0x00, 0x04, 0x01, /* Push register 1 */

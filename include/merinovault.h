@@ -11,8 +11,8 @@
  *  - out and value share no byte with any other run of the call.
  *  - While the call runs, nothing else writes to sheet or block, and nothing else reads or writes out or value.
  *  - A run of length 0 is never read or written; its pointer may be NULL. No run needs an alignment.
- *  - strict is true or false, as every bool is. If one was made to hold another byte by writing to its memory, the call is
- *    undefined.
+ *  - strict and contained are true or false, as every bool is. If one was made to hold another byte by writing to its memory, the
+ *    call is undefined.
  *
  * The functions keep nothing between calls and allocate nothing, so several threads may call at once. They always return.
  */
@@ -46,17 +46,20 @@ extern "C" {
 #define MERINOVAULT_INPUT_FULL 12u           /* 65,536; of the block program, and returned by no function here */
 #define MERINOVAULT_UNCLEAN 13u              /* place of an opcode whose step passes the end, or block_len; of stepping alone */
 #define MERINOVAULT_NEVER_RECORDED 14u       /* place in the block of a branch's operand; of strict mode alone */
+#define MERINOVAULT_STRAY_BRANCH 15u         /* place in the block of a branch's operand; of contained mode alone */
 
 /*
- * Packs sheet into the front of out: 0 to 11, or 14. Bytes of out past a Done length keep their values, and on any other answer
- * all do. A block is never longer than 3 x sheet_len. With out_len 0, NO_ROOM tells the length that a good sheet needs.
+ * Packs sheet into the front of out: 0 to 11, 14 or 15. Bytes of out past a Done length keep their values, and on any other
+ * answer all do. A block is never longer than 3 x sheet_len. With out_len 0, NO_ROOM tells the length that a good sheet needs.
  *
- * In plain mode, strict false, a branch (If or Jump) whose label no body records has distance 0, so it goes on with what stands
- * after it. In strict mode it is refused: NEVER_RECORDED, with the byte position in the block at which its operand would begin.
- * All else is as in plain mode.
+ * In plain mode, strict and contained false, a branch (If or Jump) whose label no body records has distance 0, so it goes on with
+ * what stands after it. In strict mode it is refused: NEVER_RECORDED, with the byte position in the block at which its operand
+ * would begin. In contained mode, strict or not, a branch is refused whose label is last recorded in another function body:
+ * STRAY_BRANCH, with the same position. The main body is one; bodies of With and Try belong to the function around them. All else
+ * is as in plain mode, the bytes of a block too.
  */
-uint32_t merinovault_pack(const uint8_t *sheet, size_t sheet_len, bool strict, uint8_t *out, size_t out_len, uint8_t *value,
-                          size_t value_len);
+uint32_t merinovault_pack(const uint8_t *sheet, size_t sheet_len, bool strict, bool contained, uint8_t *out, size_t out_len,
+                          uint8_t *value, size_t value_len);
 
 /*
  * Steps through block to its last byte. A step is one byte for an opcode under 0x80; else it is 3 bytes and as many more as the

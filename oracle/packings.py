@@ -1,5 +1,5 @@
 #!/usr/bin/env python3
-"""Writes stdin and stdout of crates/replay: sheets with rooms, and what the oracle answers to each in plain and in strict mode.
+"""Writes stdin and stdout of crates/replay: sheets with rooms, and what the oracle answers to each in every mode.
 
 Run in the checkout after the oracle is built: python3 oracle/packings.py
 """
@@ -15,7 +15,9 @@ GENERATE = "oracle/target/release/generate"
 # The rooms that are called ample: of small sheets, and of long ones all that the program can lend.
 SHEETS_SPACE, LONG_SPACE = 4096, 1048514
 POP, PLAY, STOP, CALL = b"\x17", b"\x06", b"\x07", b"\x9e"
-PLAIN, STRICT = 0, 1
+# The modes' names by their bytes: bit 0 is strict, bit 1 contained.
+MODES = ("plain", "strict", "contained", "both")
+PLAIN = 0
 
 
 def jump(label):
@@ -163,7 +165,22 @@ def small_questions():
         yield from generated(*kind, SHEETS_SPACE)
 
 
-# The sums that document 01 runs: a main body, and the answer's number and value in both modes; document 01 gives 0 no value here.
+def alike(due):
+    """An answer in every mode."""
+    return due, due, due, due
+
+
+def by_strict(plain, strict):
+    """The answers where contained mode refuses nothing."""
+    return plain, strict, plain, strict
+
+
+def by_contained(plain, contained):
+    """The answers where strict mode refuses nothing."""
+    return plain, plain, contained, contained
+
+
+# The sums that document 01 runs: a main body, and the answer's number and value in every mode; document 01 gives 0 no value here.
 RUN = [
     (body(target(65534)), 0, None),
     (body(target(65535)), 8, 65536),
@@ -183,7 +200,7 @@ def of_length(n):
 
 
 def orders():
-    """Which of two overflows is met first: a main body, and the answer's number and value in both modes."""
+    """Which of two overflows is met first: a main body, and the answer's number and value in every mode."""
     bad_payload = body(target(65535))
     # of the bodies of a Try that are too long, try before catch before finally
     for long in range(1, 8):
@@ -264,6 +281,90 @@ def unrecorded():
     yield body(with_(jump(0), *[POP] * 65531)), (9, 65536), (9, 65536)
 
 
+def contained():
+    """Document 02's item 9: a main body, and the answers' numbers and values in each mode."""
+    f = lambda inside: function(b"f", [], inside)
+    records, branches = body(PLAY, labels=[(0, 0)]), body(branch(0))
+    # A body of each kind: its action, the bytes before it, and whether it is a function's.
+    owners = [
+        (f, 9, True),
+        (lambda inside: function2(1)[:-4] + inside, 15, True),
+        (lambda inside: b"\x94" + inside, 5, False),
+        (lambda inside: attempt(inside, body(), body()), 12, False),
+        (lambda inside: attempt(body(), inside, body()), 12, False),
+        (lambda inside: attempt(body(), body(), inside), 12, False),
+    ]
+    for owner, n, apart in owners:
+        strays = lambda length, operand: by_contained((0, length), (15, operand)) if apart else alike((0, length))
+        # into it and out of it
+        yield body(owner(records), jump(0)), strays(n + 7, n + 4)
+        yield body(owner(branches), labels=[(0, 0)]), strays(n + 6, n + 3)
+        # to its end and to what follows it, which is the same position, from outside and from inside
+        yield body(owner(body(PLAY, labels=[(0, 1)])), branch(0)), strays(n + 7, n + 4)
+        yield body(owner(body(PLAY)), branch(0), labels=[(0, 1)]), alike((0, n + 7))
+        yield body(owner(branches), labels=[(0, 1)]), strays(n + 6, n + 3)
+        yield body(owner(body(branch(0), labels=[(0, 1)]))), alike((0, n + 6))
+        # recorded before it and in it, in it and behind it: the last counts
+        yield body(jump(0), owner(records), labels=[(0, 0)]), strays(n + 7, 3)
+        yield body(owner(body(jump(0), labels=[(0, 0)])), labels=[(0, 0)]), alike((0, n + 6))
+        yield body(jump(0), owner(records), labels=[(0, 2)]), alike((0, n + 7))
+        yield body(owner(body(jump(0), labels=[(0, 0)])), labels=[(0, 1)]), strays(n + 6, n + 3)
+        # in a function, to its label and from it
+        yield body(f(body(owner(branches), labels=[(0, 0)]))), strays(n + 15, n + 12)
+        yield body(f(body(owner(records), branch(0)))), strays(n + 16, n + 13)
+        # behind it, in the function around it
+        yield body(f(body(owner(body(PLAY)), jump(0), labels=[(0, 0)]))), alike((0, n + 16))
+        # in a function, to main's label and from main; a function in it
+        yield body(f(body(owner(branches))), labels=[(0, 0)]), by_contained((0, n + 15), (15, n + 12))
+        yield body(f(body(owner(records))), jump(0)), by_contained((0, n + 16), (15, n + 13))
+        yield body(owner(body(f(branches), labels=[(0, 0)]))), by_contained((0, n + 15), (15, n + 12))
+        yield body(owner(body(f(records))), jump(0)), by_contained((0, n + 16), (15, n + 13))
+    # from one function to another, forward and back; each with a label of the same number; an empty one
+    yield body(f(branches), f(records)), by_contained((0, 25), (15, 12))
+    yield body(f(records), f(branches)), by_contained((0, 25), (15, 22))
+    yield body(*[f(body(jump(0), labels=[(0, 0)]))] * 2), by_contained((0, 29), (15, 12))
+    yield body(f(body(labels=[(0, 0)])), jump(0)), by_contained((0, 15), (15, 12))
+    # from the deepest function to the one around it and to main
+    for index in (0, 14):
+        inside = branches
+        for depth in range(15):
+            inside = body(f(inside), labels=[(0, 0)] if depth == index else [])
+        yield inside, by_contained((0, 141), (15, 138))
+    # the first in writing order: in a body before main, behind one that stays, in each body of a Try
+    yield body(f(records), with_(branch(0)), jump(0)), by_contained((0, 26), (15, 18))
+    yield body(jump(1), f(records), jump(1), jump(0), labels=[(1, 0)]), by_contained((0, 26), (15, 23))
+    for k in range(3):
+        bodies = [body(POP, jump(0 if i == k else 1), labels=[(1, 0)]) for i in range(3)]
+        yield body(f(records), attempt(*bodies)), by_contained((0, 41), (15, 26 + 6 * k))
+    # a label without a record is left to strict mode; before one that strays and behind it
+    yield body(f(branches)), by_strict((0, 15), (14, 12))
+    yield body(f(branches), labels=[(0, 2)]), by_strict((0, 15), (14, 12))
+    yield body(f(body(labels=[(0, 1)])), jump(0)), by_strict((0, 15), (14, 12))
+    yield body(jump(1), f(records), jump(0)), ((0, 21), (14, 3), (15, 18), (14, 3))
+    yield body(f(records), jump(0), jump(1)), ((0, 21), (14, 18), (15, 13), (15, 13))
+    # a branch that strays and goes too far, back and forward, out of a function and into it
+    far = [POP] * 32768
+    yield body(f(records), *far, jump(0)), by_contained((10, -32774), (15, 32781))
+    yield body(jump(0), *far, f(records)), by_contained((10, 32777), (15, 3))
+    yield body(f(branches), *far, labels=[(0, 32769)]), by_contained((10, 32768), (15, 12))
+    yield body(*far, f(branches), labels=[(0, 0)]), by_contained((10, -32782), (15, 32780))
+    # one that strays before one that goes too far and behind it; before both, one without a record
+    yield body(f(records), jump(0), jump(1), *far, labels=[(1, 32771)]), by_contained((10, 32768), (15, 13))
+    yield body(jump(1), f(records), jump(0), *far, labels=[(1, 32771)]), alike((10, 32783))
+    yield body(jump(2), f(records), jump(0), jump(1), *far, labels=[(1, 32772)]), ((10, 32768), (14, 3), (15, 18), (14, 3))
+    # functions whose first bytes are a power of two from that of another
+    yield body(target(243), f(records), jump(0)), by_contained((0, 263), (15, 260))
+    yield body(target(65523), f(records), jump(0)), by_contained((0, 65543), (15, 65540))
+    yield body(f(branches), target(65518), f(records)), by_contained((10, 65531), (15, 12))
+    calls = with_(*[CALL] * 21845)
+    yield body(*[calls] * 31, target(65399), f(records), jump(0)), by_contained((11, 2097159), (15, 2097156))
+    # 8 and 9 come first, wherever they stand
+    for long, answer in ((target(65535), (8, 65536)), (b"\x94" + of_length(65536), (9, 65536))):
+        yield body(f(records), jump(0), long), alike(answer)
+        yield body(long, f(records), jump(0)), alike(answer)
+    yield body(f(body(branch(0), *[POP] * 65531)), labels=[(0, 0)]), alike((9, 65536))
+
+
 def payloads():
     """Payloads of 65,535 and 65,536 bytes, of each kind that can be so long."""
     for n in (65535, 65536):
@@ -316,26 +417,26 @@ def long_sheets():
 
 
 def long_questions():
-    """Sheets with rooms, and the answers in both modes where documents 01 and 02 give them."""
-    dues = [(main, (number, value), (number, value)) for main, number, value in [*RUN, *orders()]]
-    for main, plain, strict in [*dues, *unrecorded()]:
-        yield sheet(main), LONG_SPACE, plain, strict
-        # 8 to 10 and 14 come before 11
-        if plain[0] != 0 or strict[0] != 0:
-            yield sheet(main), 0, without_room(plain), without_room(strict)
+    """Sheets with rooms, and the answers in each mode where documents 01 and 02 give them."""
+    dues = [(main, alike((number, value))) for main, number, value in [*RUN, *orders()]]
+    dues += [(main, by_strict(plain, strict)) for main, plain, strict in unrecorded()]
+    for main, due in [*dues, *contained()]:
+        yield sheet(main), LONG_SPACE if len(main) > 1000 else SHEETS_SPACE, due
+        # 8 to 10, 14 and 15 come before 11
+        if any(number != 0 for number, _ in due):
+            yield sheet(main), 0, tuple(map(without_room, due))
     for n, main in payloads():
-        due = (0, None) if n < 65536 else (8, n)
-        yield sheet(main), LONG_SPACE, due, due
+        yield sheet(main), LONG_SPACE, alike((0, None) if n < 65536 else (8, n))
     for main in [*longest_branches(), *tables()]:
-        yield sheet(main), LONG_SPACE, None, None
+        yield sheet(main), LONG_SPACE, alike(None)
     sheets = [sheet(main) for main, number, _ in RUN if number == 0] + list(long_sheets())
     for s, (number, n, _) in zip(sheets, answers((s, LONG_SPACE, PLAIN) for s in sheets)):
-        yield s, LONG_SPACE, None, None
+        yield s, LONG_SPACE, alike(None)
         if number == 0:
-            yield from ((s, room, (0, n) if room == n else (11, n), None) for room in (n, n - 1, 0))
+            yield from ((s, room, ((0, n) if room == n else (11, n), None, None, None)) for room in (n, n - 1, 0))
     for family, step in (("distances", 11), ("limits", 13)):
         for s, room in generated(family, LONG_SPACE, step, 1, LONG_SPACE):
-            yield s, room, None, None
+            yield s, room, alike(None)
 
 
 def without_room(due):
@@ -405,22 +506,25 @@ def main():
         block = bytes.fromhex(text)
         assert answer == (0, len(block), block), answer
 
-    sheets = [(s, room, None, None) for s, room in small_questions()] + list(long_questions())
-    asked = [(s, room, mode) for s, room, *_ in sheets for mode in (PLAIN, STRICT)]
+    sheets = [(s, room, alike(None)) for s, room in small_questions()] + list(long_questions())
+    asked = [(s, room, mode) for s, room, _ in sheets for mode in range(len(MODES))]
     told = answers(asked)
-    for due, answer in zip([due for _, _, *dues in sheets for due in dues], told):
+    for due, answer in zip([due for *_, dues in sheets for due in dues], told):
         check(due, answer)
     # all else is as in plain mode
-    for plain, strict in zip(told[::2], told[1::2]):
-        assert strict == plain or strict[0] == 14 and plain[0] in (0, 10, 11), (plain, strict)
+    by_mode = [told[mode :: len(MODES)] for mode in range(len(MODES))]
+    for plain, strict, contained, both in zip(*by_mode):
+        for number, answer in ((14, strict), (15, contained)):
+            assert answer == plain or answer[0] == number and plain[0] in (0, 10, 11), (plain, answer)
+        assert both in (strict, contained), (strict, contained, both)
     stdin = b"".join(record(*question, *answer) for question, answer in zip(asked, told))
-    assert len(stdin) < 1048576, len(stdin)
+    assert len(stdin) < 2097152, len(stdin)
     numbers = Counter(number for number, _, _ in told)
     lines = [f"{number} {count}\n" for number, count in sorted(numbers.items())] + ["differ 0, first 0\n"]
     open("crates/replay/stdin", "wb").write(stdin)
     open("crates/replay/stdout", "w").write("".join(lines))
-    print(len(sheets), "sheets, each in both modes,", len(stdin), "bytes")
-    for mode, found in (("plain", told[::2]), ("strict", told[1::2])):
+    print(len(sheets), "sheets, each in every mode,", len(stdin), "bytes")
+    for mode, found in zip(MODES, by_mode):
         print(mode, dict(sorted(Counter(number for number, _, _ in found).items())))
 
 

@@ -1,5 +1,5 @@
-//! `compare [SHEETS]` packs generated sheets by the C entry and by the oracle, a million unless told otherwise, each in both
-//! modes: number, value, block, and every byte that must keep its value. It steps through each sheet and each block by the C
+//! `compare [SHEETS]` packs generated sheets by the C entry and by the oracle, a million unless told otherwise, each in every
+//! mode: number, value, block, and every byte that must keep its value. It steps through each sheet and each block by the C
 //! entry and by the oracle's plain stepper; a block must be clean. It prints counts by answer and mode, and the smallest sheet
 //! that is answered differently.
 
@@ -11,9 +11,15 @@ use oracle::stream::Question;
 use std::process::ExitCode;
 
 /// The modes: their names, ours and the oracle's.
-const MODES: [(&str, Mode, answer::Mode); 2] = [
+const MODES: [(&str, Mode, answer::Mode); 4] = [
     ("plain", Mode::PLAIN, answer::Mode::PLAIN),
     ("strict", Mode::STRICT, answer::Mode::STRICT),
+    ("contained", Mode::CONTAINED, answer::Mode::CONTAINED),
+    (
+        "both",
+        Mode::STRICT_CONTAINED,
+        answer::Mode::STRICT_CONTAINED,
+    ),
 ];
 
 /// What the output holds before a call, and the bytes before and behind it.
@@ -27,7 +33,7 @@ const SEED: u64 = 20_261_115;
 struct Counts {
     sheets: u64,
     /// By number, in each of the modes.
-    answers: [[u64; MODES.len()]; 15],
+    answers: [[u64; MODES.len()]; 16],
     /// Sheets and blocks that were stepped through, and those of them that are clean.
     stepped: u64,
     clean: u64,
@@ -51,7 +57,7 @@ impl Counts {
             if let Some(what) = self.difference(sheet, ours, room, &theirs) {
                 self.differs(sheet, room, format!("{name}: {what}"));
             }
-            // A strict block is the same bytes.
+            // A block of another mode is the same bytes.
             if ours == Mode::PLAIN
                 && let Ok(block) = &theirs
             {
@@ -137,7 +143,7 @@ fn main() -> ExitCode {
     }
     println!("random families: seeds {SEED} to {}", seed - 1);
     print_answers(&counts.answers);
-    println!("each sheet was packed in both modes");
+    println!("each sheet was packed in every mode");
     println!(
         "{} sheets and blocks stepped through, {} of them clean",
         counts.stepped, counts.clean
@@ -164,11 +170,16 @@ fn told(stepped: Stepped) -> String {
 
 /// A line for each number that was met.
 fn print_answers(answers: &[[u64; MODES.len()]]) {
-    let [plain, strict] = MODES.map(|(name, ..)| name);
-    println!("{:<8} {plain:>9} {strict:>9}", "answer");
-    for (number, [plain, strict]) in answers.iter().enumerate() {
-        if plain + strict > 0 {
-            println!("{number:<8} {plain:>9} {strict:>9}");
+    let line = |first: &str, rest: [String; MODES.len()]| {
+        println!(
+            "{first:<8} {}",
+            rest.map(|word| format!("{word:>9}")).join(" ")
+        );
+    };
+    line("answer", MODES.map(|(name, ..)| name.to_string()));
+    for (number, counts) in answers.iter().enumerate() {
+        if counts.iter().any(|count| *count > 0) {
+            line(&number.to_string(), counts.map(|count| count.to_string()));
         }
     }
 }

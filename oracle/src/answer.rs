@@ -5,23 +5,39 @@
 pub struct Mode {
     /// A branch whose label has no record is refused.
     pub strict: bool,
+    /// A branch whose label's last record is in another function body is refused.
+    pub contained: bool,
 }
 
 impl Mode {
-    pub const PLAIN: Mode = Mode { strict: false };
-    pub const STRICT: Mode = Mode { strict: true };
+    pub const PLAIN: Mode = Mode::of(0);
+    pub const STRICT: Mode = Mode::of(1);
+    pub const CONTAINED: Mode = Mode::of(2);
+    pub const STRICT_CONTAINED: Mode = Mode::of(3);
 
-    /// The mode of a byte: bit 0 is strict, and no other is set.
-    pub fn from_byte(byte: u8) -> Option<Mode> {
-        match byte {
-            0 => Some(Mode::PLAIN),
-            1 => Some(Mode::STRICT),
-            _ => None,
+    /// All modes, by their bytes.
+    pub const ALL: [Mode; 4] = [
+        Mode::PLAIN,
+        Mode::STRICT,
+        Mode::CONTAINED,
+        Mode::STRICT_CONTAINED,
+    ];
+
+    /// Bit 0 is strict, bit 1 contained.
+    const fn of(byte: u8) -> Mode {
+        Mode {
+            strict: byte & 1 != 0,
+            contained: byte & 2 != 0,
         }
     }
 
+    /// The mode of a byte, unless it has a further bit.
+    pub fn from_byte(byte: u8) -> Option<Mode> {
+        Mode::ALL.get(usize::from(byte)).copied()
+    }
+
     pub fn byte(self) -> u8 {
-        u8::from(self.strict)
+        u8::from(self.strict) | u8::from(self.contained) << 1
     }
 }
 
@@ -35,7 +51,7 @@ pub enum Fault {
     LeftOver,
 }
 
-/// 1 to 12 and 14, with what their values are made of.
+/// 1 to 12, 14 and 15, with what their values are made of.
 #[derive(Clone, Copy, Debug, Eq, PartialEq)]
 pub enum Refusal {
     SheetTooLong(usize),
@@ -47,6 +63,7 @@ pub enum Refusal {
     NoRoom(usize),
     InputFull(usize),
     NeverRecorded(usize),
+    StrayBranch(usize),
 }
 
 /// Done with the block, or a refusal.
@@ -68,6 +85,7 @@ impl Refusal {
             Refusal::NoRoom(_) => 11,
             Refusal::InputFull(_) => 12,
             Refusal::NeverRecorded(_) => 14,
+            Refusal::StrayBranch(_) => 15,
         }
     }
 
@@ -81,7 +99,8 @@ impl Refusal {
             | Refusal::BlockLenOverflow(n)
             | Refusal::NoRoom(n)
             | Refusal::InputFull(n)
-            | Refusal::NeverRecorded(n) => n as i64,
+            | Refusal::NeverRecorded(n)
+            | Refusal::StrayBranch(n) => n as i64,
         }
     }
 }

@@ -1,5 +1,6 @@
-//! Where branches and label records stand in a block, reckoned from document 01's lengths over the tree of actions. Strict mode
-//! is judged by it, since the encoder does not tell which branches it left alone.
+//! Where branches and label records stand in a block, reckoned from document 01's lengths over the tree of actions, and in which
+//! function bodies. What a mode refuses is judged by it, since the encoder knows no function around a label and does not tell
+//! which branches it left alone.
 
 use crate::answer::{Mode, Refusal};
 use crate::internal::as2_pcode::{Action, Actions, CatchTarget, PushValue};
@@ -9,15 +10,26 @@ use std::collections::HashMap;
 const HEADER: usize = 3;
 const OPERAND: usize = 2;
 
+/// Where a branch's operand or a label's record stands.
+#[derive(Clone, Copy, Default)]
+struct Spot {
+    /// How many bytes are written before it.
+    position: usize,
+    /// The function body it is in: 0 is the main block, the others are counted as they begin.
+    function: usize,
+}
+
 /// What a walk in writing order has met.
 #[derive(Default)]
 pub struct Walk<'a> {
-    /// How many bytes are written.
-    position: usize,
-    /// The position of each branch's operand, and its label.
-    branches: Vec<(usize, &'a str)>,
+    /// Where it stands.
+    now: Spot,
+    /// How many function bodies have begun, the main block left out.
+    functions: usize,
+    /// Each branch's operand, and its label.
+    branches: Vec<(Spot, &'a str)>,
     /// The last record of each label.
-    records: HashMap<&'a str, usize>,
+    records: HashMap<&'a str, Spot>,
 }
 
 impl<'a> Walk<'a> {
@@ -25,19 +37,25 @@ impl<'a> Walk<'a> {
     pub fn over(main: &'a Actions) -> Self {
         let mut walk = Self::default();
         walk.body(main);
-        walk.position += 1;
+        walk.now.position += 1;
         walk
     }
 
-    /// The first branch that is too far or, in strict mode, has no record.
+    /// The first branch that is too far; in strict mode, that has no record; in contained mode, that leaves its function body.
     pub fn judge(&self, mode: Mode) -> Result<(), Refusal> {
         for (operand, label) in &self.branches {
-            match self.distance(*operand, label) {
-                Some(distance) if i16::try_from(distance).is_err() => {
-                    return Err(Refusal::JumpOffsetOverflow(distance));
+            let Some(record) = self.records.get(label) else {
+                if mode.strict {
+                    return Err(Refusal::NeverRecorded(operand.position));
                 }
-                None if mode.strict => return Err(Refusal::NeverRecorded(*operand)),
-                _ => {}
+                continue;
+            };
+            if mode.contained && record.function != operand.function {
+                return Err(Refusal::StrayBranch(operand.position));
+            }
+            let distance = distance(operand, record);
+            if i16::try_from(distance).is_err() {
+                return Err(Refusal::JumpOffsetOverflow(distance));
             }
         }
         Ok(())
@@ -45,23 +63,18 @@ impl<'a> Walk<'a> {
 
     /// Holds the walk against a block of the encoder: its length, and where each branch stands with which distance.
     pub fn assert_wrote(&self, block: &[u8]) {
-        assert_eq!(self.position, block.len());
+        assert_eq!(self.now.position, block.len());
         for (operand, label) in &self.branches {
-            let distance = self.distance(*operand, label).unwrap_or(0);
+            let record = self.records.get(label);
+            let distance = record.map_or(0, |record| distance(operand, record));
             let distance = i16::try_from(distance).expect("a distance that the encoder took");
-            let (header, rest) = block[operand - HEADER..].split_at(HEADER);
+            let (header, rest) = block[operand.position - HEADER..].split_at(HEADER);
             assert!(
                 matches!(header, [0x99 | 0x9D, 2, 0]),
                 "no branch {header:?}"
             );
             assert_eq!(rest[..OPERAND], distance.to_le_bytes());
         }
-    }
-
-    /// From behind the operand to the label's record.
-    fn distance(&self, operand: usize, label: &str) -> Option<isize> {
-        let record = *self.records.get(label)?;
-        Some(record as isize - (operand + OPERAND) as isize)
     }
 
     /// Entries at an index are recorded before its action, those at the count after the last; none beyond it.
@@ -73,7 +86,7 @@ impl<'a> Walk<'a> {
         let mut entries = entries.into_iter().peekable();
         for index in 0..=body.actions.len() {
             while let Some((_, label)) = entries.next_if(|(at, _)| *at == index) {
-                self.records.insert(label, self.position);
+                self.records.insert(label, self.now);
             }
             if let Some(action) = body.actions.get(index) {
                 self.action(action);
@@ -83,13 +96,26 @@ impl<'a> Walk<'a> {
 
     fn action(&mut self, action: &'a Action) {
         if let Action::Jump(label) | Action::If(label) = action {
-            self.branches.push((self.position + HEADER, label));
+            let mut operand = self.now;
+            operand.position += HEADER;
+            self.branches.push((operand, label));
         }
-        self.position += payload(action).map_or(1, |length| HEADER + length);
+        self.now.position += payload(action).map_or(1, |length| HEADER + length);
+        let around = self.now.function;
+        if let Action::DefineFunction { .. } | Action::DefineFunction2 { .. } = action {
+            self.functions += 1;
+            self.now.function = self.functions;
+        }
         for body in bodies(action) {
             self.body(body);
         }
+        self.now.function = around;
     }
+}
+
+/// From behind the operand to the record.
+fn distance(operand: &Spot, record: &Spot) -> isize {
+    record.position as isize - (operand.position + OPERAND) as isize
 }
 
 /// The payload's length, bodies excluded; none for an opcode under 80.

@@ -102,35 +102,47 @@ mod tests {
     use crate::answer::number;
     use std::collections::BTreeSet;
 
-    /// The numbers that a family meets, in plain mode and in strict mode.
-    fn numbers(family: Family) -> BTreeSet<(u8, u8)> {
+    /// The numbers that a family meets, in each of the modes.
+    fn numbers(family: Family) -> BTreeSet<[u8; 4]> {
         let mut numbers = BTreeSet::new();
         questions(family, 1, 40, &mut |question| {
             let number = |mode| number(&pack(&question.sheet, mode, question.room as usize));
-            numbers.insert((number(Mode::PLAIN), number(Mode::STRICT)));
+            numbers.insert(Mode::ALL.map(number));
         });
         numbers
     }
 
-    /// What each family is made to meet: in both modes, and in plain mode where strict mode answers 14.
+    /// What each family is made to meet: in all modes; in plain mode, where strict mode answers 14; there, where contained mode
+    /// answers 15.
     #[test]
     fn families_meet_their_answers() {
-        let due: [(Family, &[u8], &[u8]); 5] = [
-            (Family::Mixed, &[0, 11], &[0, 11]),
-            (Family::Damaged, &[0, 2, 3, 4, 5, 7, 11], &[0, 11]),
+        type Due = &'static [u8];
+        let due: [(Family, Due, Due, Due); 5] = [
+            (Family::Mixed, &[0, 11], &[0, 11], &[0, 11]),
+            (Family::Damaged, &[0, 2, 3, 4, 5, 7, 11], &[0, 11], &[0, 11]),
             (
                 Family::Limits,
                 &[0, 1, 2, 3, 5, 6, 7, 8, 9, 10, 11],
                 &[0, 11],
+                &[0, 10],
             ),
-            (Family::Distances, &[0, 10, 11], &[0, 10, 11]),
-            (Family::Small, &[0, 2, 3, 4, 5, 7, 11], &[0, 11]),
+            (Family::Distances, &[0, 10, 11], &[0, 10, 11], &[0, 10, 11]),
+            (Family::Small, &[0, 2, 3, 4, 5, 7, 11], &[0, 11], &[0, 11]),
         ];
-        for (family, same, unrecorded) in due {
+        for (family, same, unrecorded, stray) in due {
             let numbers = numbers(family);
-            let same = same.iter().map(|number| (*number, *number));
-            for due in same.chain(unrecorded.iter().map(|number| (*number, 14))) {
-                assert!(numbers.contains(&due), "{family:?} {due:?}: {numbers:?}");
+            let meets = |mode: usize, plain: u8, number: u8| {
+                let mut all = numbers.iter();
+                all.any(|numbers| (numbers[0], numbers[mode]) == (plain, number))
+            };
+            for n in same {
+                assert!(numbers.contains(&[*n; 4]), "{family:?} {n}: {numbers:?}");
+            }
+            for n in unrecorded {
+                assert!(meets(1, *n, 14), "{family:?} {n} and 14: {numbers:?}");
+            }
+            for n in stray {
+                assert!(meets(2, *n, 15), "{family:?} {n} and 15: {numbers:?}");
             }
         }
     }

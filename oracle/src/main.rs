@@ -1,5 +1,5 @@
-//! `oracle` answers one sheet as document 01's block program does, `oracle --strict` in strict mode; `oracle stream` answers a
-//! stream of questions.
+//! `oracle` answers one sheet as document 01's block program does, `oracle --strict` in strict mode, `oracle --contained` in
+//! contained mode, with both words in both; `oracle stream` answers a stream of questions.
 
 use oracle::answer::{Answer, Mode, Refusal, number, value};
 use oracle::pack::pack;
@@ -16,9 +16,11 @@ fn main() -> ExitCode {
     let done = match words[..] {
         [] => one_sheet(Mode::PLAIN),
         ["--strict"] => one_sheet(Mode::STRICT),
+        ["--contained"] => one_sheet(Mode::CONTAINED),
+        ["--strict", "--contained"] => one_sheet(Mode::STRICT_CONTAINED),
         ["stream"] => all_questions(),
         _ => {
-            eprintln!("usage: oracle [--strict | stream] < INPUT");
+            eprintln!("usage: oracle [--strict] [--contained] < INPUT, or oracle stream < INPUT");
             return ExitCode::from(2);
         }
     };
@@ -79,6 +81,7 @@ mod tests {
         // P7
         sheet[4] = 2;
         assert_eq!(text(&sheet, Mode::STRICT), "14 3\n");
+        assert_eq!(text(&sheet, Mode::CONTAINED), "0 6\n99 02 00 00 00 00\n");
         let whole_lines = vec![0x0A; 32];
         let line = ["0A"; 16].join(" ");
         assert_eq!(print(&Ok(whole_lines)), format!("0 32\n{line}\n{line}\n"));

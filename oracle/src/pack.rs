@@ -5,7 +5,7 @@ use crate::branches::Walk;
 use crate::sheet;
 use crate::source::encoder::entry::{self, Overflow};
 
-/// Packs a sheet: 1 to 7 by our reader, 8 to 10 and the block by the encoder, 14 by our walk, 11 by the room.
+/// Packs a sheet: 1 to 7 by our reader, 8 to 10 and the block by the encoder, 14 and 15 by our walk, 11 by the room.
 ///
 /// The encoder takes strings of UTF-8 only, measures them and copies them. A sheet with others is packed twice, with
 /// the letter y and with the letter z for each of their bytes: the places where the two blocks differ are theirs, and
@@ -33,8 +33,8 @@ pub fn encode(sheet: &sheet::Whole) -> Answer {
     })
 }
 
-/// What the encoder gave, or 14 if a branch without a record comes before any that the encoder refused. The walk is first held
-/// against the encoder, so that strict mode rests on a walk that agrees with it.
+/// What the encoder gave; or 14 or 15, if the mode refuses a branch that does not come behind the one that the encoder refused.
+/// The walk is first held against the encoder, so that what a mode refuses rests on a walk that agrees with it.
 fn judged(sheet: &sheet::Whole, mode: Mode, encoded: Answer) -> Answer {
     if let Err(Refusal::ActionLenOverflow(_) | Refusal::BlockLenOverflow(_)) = encoded {
         return encoded;

@@ -1,5 +1,5 @@
 //! Sheets and answers as streams of records; numbers are little-endian.
-//! A question: u32 length, the sheet, u32 room, u8 mode (bit 0 is strict, the others are zero). An answer: u8 number, i64 value,
+//! A question: u32 length, the sheet, u32 room, u8 mode (bit 0 is strict, bit 1 contained). An answer: u8 number, i64 value,
 //! u32 length, the block (empty unless Done).
 
 use crate::answer::{Answer, Mode, number, value};
@@ -66,6 +66,8 @@ mod tests {
         let asked = [
             (vec![], 7, Mode::PLAIN),
             (vec![1, 2, 3], u32::MAX, Mode::STRICT),
+            (vec![4], 0, Mode::CONTAINED),
+            (vec![], 1, Mode::STRICT_CONTAINED),
         ];
         for (sheet, room, mode) in asked.clone() {
             let question = Question { sheet, room, mode };
@@ -77,8 +79,8 @@ mod tests {
             assert_eq!(next().expect("whole"), Some(question));
         }
         assert_eq!(next().expect("the end"), None);
-        assert!(Question::read(&mut &bytes[..bytes.len() - 1][9..]).is_err());
-        bytes[8] = 2;
+        assert!(Question::read(&mut &bytes[..8]).is_err());
+        bytes[8] = 4;
         assert!(Question::read(&mut &bytes[..]).is_err());
     }
 

@@ -1,4 +1,4 @@
-//! Packs a sheet and prints the answer in words: `pack [--strict] FILE`, where - is standard input.
+//! Packs a sheet and prints the answer in words: `pack [--strict] [--contained] FILE`, where - is standard input.
 //!
 //! Its status is 0 for a block, 1 for a refusal, so that a build stops, and 2 for wrong usage or a file that cannot be read.
 mod common;
@@ -10,7 +10,7 @@ use std::process::ExitCode;
 
 fn main() -> ExitCode {
     let Some((mode, file)) = arguments() else {
-        eprintln!("usage: pack [--strict] FILE, where - is standard input");
+        eprintln!("usage: pack [--strict] [--contained] FILE, where - is standard input");
         return ExitCode::from(2);
     };
     let Some(sheet) = read(&file) else {
@@ -38,7 +38,8 @@ fn arguments() -> Option<(Mode, PathBuf)> {
     let mut files = vec![];
     for word in env::args_os().skip(1) {
         match word.to_str() {
-            Some("--strict") => mode = Mode::STRICT,
+            Some("--strict") => mode.strict = true,
+            Some("--contained") => mode.contained = true,
             Some(other) if other.starts_with("--") => return None,
             _ => files.push(PathBuf::from(word)),
         }

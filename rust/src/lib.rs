@@ -31,20 +31,43 @@ pub const VALUE_LEN: usize = 8;
 
 const DONE: u32 = 0;
 
-/// How branches are judged. More fields may come, so a mode begins as one of the constants.
+/// How branches are judged. What a mode does not refuse is as in plain mode, the bytes of a block too. More fields may come, so a
+/// mode begins as one of the constants.
 #[derive(Clone, Copy, Debug, Default, PartialEq, Eq, Hash)]
 #[non_exhaustive]
 pub struct Mode {
-    /// Whether a branch whose label no body records is refused.
+    /// Whether a branch whose label no body records is refused: [`Refusal::NeverRecorded`].
     pub strict: bool,
+    /// Whether a branch is refused whose label is last recorded in another function body: [`Refusal::StrayBranch`]. The main body
+    /// is one; bodies of With and Try belong to the function around them.
+    pub contained: bool,
 }
 
 impl Mode {
-    /// A branch whose label no body records has distance 0, so it goes on with what stands after it. This is the default.
-    pub const PLAIN: Self = Self { strict: false };
+    /// Neither is refused. A branch whose label no body records has distance 0, so it goes on with what stands after it. This is
+    /// the default.
+    pub const PLAIN: Self = Self {
+        strict: false,
+        contained: false,
+    };
 
-    /// Such a branch is [`Refusal::NeverRecorded`]. All else is as in plain mode, the bytes of a block too.
-    pub const STRICT: Self = Self { strict: true };
+    /// Strict alone.
+    pub const STRICT: Self = Self {
+        strict: true,
+        contained: false,
+    };
+
+    /// Contained alone: a label that no body records is as in plain mode.
+    pub const CONTAINED: Self = Self {
+        strict: false,
+        contained: true,
+    };
+
+    /// Strict and contained.
+    pub const STRICT_CONTAINED: Self = Self {
+        strict: true,
+        contained: true,
+    };
 }
 
 /// Packs a sheet into the front of `out` and returns the length of the block.
@@ -52,7 +75,7 @@ impl Mode {
 /// Bytes of `out` past that length keep their values; on a refusal all do. A block is never longer than three times the sheet.
 pub fn pack(sheet: &[u8], mode: Mode, out: &mut [u8]) -> Result<usize, Refusal> {
     let mut value = [0; VALUE_LEN];
-    let number = raw::pack(sheet, mode.strict, out, &mut value);
+    let number = raw::pack(sheet, mode.strict, mode.contained, out, &mut value);
     let value = i64::from_le_bytes(value);
     match number {
         DONE => Ok(length(value)),

@@ -9,6 +9,7 @@ mod entries {
             sheet: *const u8,
             sheet_len: usize,
             strict: bool,
+            contained: bool,
             out: *mut u8,
             out_len: usize,
             value: *mut u8,
@@ -28,13 +29,14 @@ mod entries {
 // from each other and from the rest, and keeps other threads off; `&` keeps writers off `sheet` and `block`. A `bool` is C's, true
 // or false. The entries have no other demand, always return, do not unwind and keep no pointer.
 
-/// Packs a sheet into `out`, in plain mode or in strict mode.
-pub fn pack(sheet: &[u8], strict: bool, out: &mut [u8], value: &mut [u8]) -> u32 {
+/// Packs a sheet into `out`, in the mode of the two flags.
+pub fn pack(sheet: &[u8], strict: bool, contained: bool, out: &mut [u8], value: &mut [u8]) -> u32 {
     unsafe {
         entries::merinovault_pack(
             sheet.as_ptr(),
             sheet.len(),
             strict,
+            contained,
             out.as_mut_ptr(),
             out.len(),
             value.as_mut_ptr(),

@@ -3,8 +3,8 @@ use crate::length;
 use std::error::Error;
 use std::fmt;
 
-/// Why a sheet was not packed: answers 1 to 11 of document 01, and 14 of document 02. A place counts bytes from 0, the sheet's
-/// first.
+/// Why a sheet was not packed: answers 1 to 11 of document 01, and 14 and 15 of document 02. A place counts bytes from 0, the
+/// sheet's first.
 #[derive(Clone, Copy, Debug, PartialEq, Eq, Hash)]
 #[non_exhaustive]
 pub enum Refusal {
@@ -65,6 +65,11 @@ pub enum Refusal {
         /// The byte position in the block at which the branch's operand would begin.
         operand: usize,
     },
+    /// 15: a branch's label is last recorded in another function body. Only contained mode refuses this.
+    StrayBranch {
+        /// The byte position in the block at which the branch's operand would begin.
+        operand: usize,
+    },
 }
 
 use Refusal::*;
@@ -105,7 +110,10 @@ impl Refusal {
             14 => NeverRecorded {
                 operand: length(value),
             },
-            _ => unreachable!("packing answers 0 to 11 or 14, not {number}"),
+            15 => StrayBranch {
+                operand: length(value),
+            },
+            _ => unreachable!("packing answers 0 to 11, 14 or 15, not {number}"),
         }
     }
 
@@ -124,6 +132,7 @@ impl Refusal {
             JumpOffsetOverflow { .. } => "JumpOffsetOverflow",
             NoRoom { .. } => "NoRoom",
             NeverRecorded { .. } => "NeverRecorded",
+            StrayBranch { .. } => "StrayBranch",
         }
     }
 
@@ -142,6 +151,7 @@ impl Refusal {
             JumpOffsetOverflow { .. } => 10,
             NoRoom { .. } => 11,
             NeverRecorded { .. } => 14,
+            StrayBranch { .. } => 15,
         }
     }
 
@@ -159,7 +169,7 @@ impl Refusal {
             | BlockLenOverflow { length } => length as i64,
             JumpOffsetOverflow { distance } => distance,
             NoRoom { needed } => needed as i64,
-            NeverRecorded { operand } => operand as i64,
+            NeverRecorded { operand } | StrayBranch { operand } => operand as i64,
         }
     }
 }
@@ -215,6 +225,10 @@ impl fmt::Display for Refusal {
             NeverRecorded { operand } => write!(
                 f,
                 "byte {operand} of the block: no body records the label of the branch whose operand begins here"
+            ),
+            StrayBranch { operand } => write!(
+                f,
+                "byte {operand} of the block: the branch whose operand begins here goes to a label in another function body"
             ),
         }
     }

@@ -18,11 +18,11 @@ fn refused_in(mode: Mode, sheet: &[u8], number: u32, value: i64) -> Refusal {
     refusal
 }
 
-/// The refusal, which is the same in both modes.
+/// The refusal, which is the same in every mode.
 fn refused(sheet: &[u8], number: u32, value: i64) -> Refusal {
-    let refusal = refused_in(Mode::PLAIN, sheet, number, value);
-    assert_eq!(refused_in(Mode::STRICT, sheet, number, value), refusal);
-    refusal
+    let refusals = MODES.map(|mode| refused_in(mode, sheet, number, value));
+    assert_eq!(refusals, [refusals[0]; 4]);
+    refusals[0]
 }
 
 /// The block in plain mode.
@@ -30,10 +30,12 @@ fn taken_plain(sheet: &[u8]) -> Vec<u8> {
     packed(sheet, Mode::PLAIN, ROOM).expect("a block")
 }
 
-/// The block, which is the same in both modes.
+/// The block, which is the same in every mode.
 fn taken(sheet: &[u8]) -> Vec<u8> {
     let block = taken_plain(sheet);
-    assert_eq!(packed(sheet, Mode::STRICT, ROOM), Ok(block.clone()));
+    for mode in MODES {
+        assert_eq!(packed(sheet, mode, ROOM), Ok(block.clone()));
+    }
     block
 }
 
@@ -54,7 +56,11 @@ fn done_gives_the_block_and_keeps_the_rest() {
 #[test]
 fn plain_is_the_default() {
     assert_eq!(Mode::default(), Mode::PLAIN);
-    assert_eq!(MODES.map(|mode| mode.strict), [false, true]);
+    let flags = MODES.map(|mode| (mode.strict, mode.contained));
+    assert_eq!(
+        flags,
+        [(false, false), (true, false), (false, true), (true, true)]
+    );
 }
 
 #[test]
@@ -204,16 +210,33 @@ fn no_room() {
     }
 }
 
-/// Strict mode refuses the sheet of this main body at this operand. Plain mode takes it and gives that branch distance 0.
-fn never_recorded(main: &[u8], operand: usize) {
+/// The modes with a flag refuse the sheet of this main body so, the others take it.
+fn refused_where(flag: fn(Mode) -> bool, main: &[u8], number: u32, refusal: Refusal) {
     // The position is the block's: a note does not move it.
     for sheet in [sheet(main), sheet_with_note(b"a note", main)] {
-        assert_eq!(
-            refused_in(Mode::STRICT, &sheet, 14, operand as i64),
-            Refusal::NeverRecorded { operand }
-        );
-        assert_eq!(taken_plain(&sheet)[operand..operand + 2], [0, 0]);
+        let block = taken_plain(&sheet);
+        for mode in MODES {
+            if flag(mode) {
+                let told = refused_in(mode, &sheet, number, refusal.value());
+                assert_eq!(told, refusal);
+            } else {
+                assert_eq!(packed(&sheet, mode, ROOM), Ok(block.clone()));
+            }
+        }
     }
+}
+
+/// Strict mode refuses the sheet of this main body at this operand. Plain mode takes it and gives that branch distance 0.
+fn never_recorded(main: &[u8], operand: usize) {
+    let refusal = Refusal::NeverRecorded { operand };
+    refused_where(|mode| mode.strict, main, 14, refusal);
+    assert_eq!(taken_plain(&sheet(main))[operand..operand + 2], [0, 0]);
+}
+
+/// Contained mode refuses the sheet of this main body at this operand.
+fn stray(main: &[u8], operand: usize) {
+    let refusal = Refusal::StrayBranch { operand };
+    refused_where(|mode| mode.contained, main, 15, refusal);
 }
 
 #[test]
@@ -227,17 +250,12 @@ fn never_recorded_branches() {
     let inside = body(&[(3, 2)], &[&jump(3)]);
     never_recorded(&body(&[], &[POP, &with(&inside)]), 9);
     // in the last body of a Try
-    let attempt = [
-        &[0x8F, 2][..],
-        &body(&[], &[PLAY]),
-        &body(&[], &[&jump(1023)]),
-    ]
-    .concat();
-    never_recorded(&body(&[(1022, 0)], &[&attempt]), 15);
+    let (empty, last) = (body(&[], &[]), body(&[], &[&jump(1023)]));
+    never_recorded(&body(&[(1022, 0)], &[&attempt(&empty, &empty, &last)]), 15);
 }
 
 #[test]
-fn recorded_branches_are_taken_in_both_modes() {
+fn recorded_branches_are_taken_in_every_mode() {
     // right behind the branch, which has distance 0 as well
     let behind = body(&[(0, 1)], &[&jump(0)]);
     assert_eq!(taken(&sheet(&behind)), [0x99, 2, 0, 0, 0, 0]);
@@ -268,11 +286,82 @@ fn the_first_branch_decides_between_10_and_14() {
 }
 
 #[test]
+fn stray_branches() {
+    let records = body(&[(0, 0)], &[PLAY]);
+    let branches = body(&[], &[&[0x9D, 0, 0]]);
+    // into a function of either kind, and out of one
+    stray(&body(&[], &[&function(&records), &jump(0)]), 13);
+    stray(&body(&[], &[&function2(&records), &jump(0)]), 16);
+    stray(&body(&[(0, 0)], &[&function(&branches)]), 12);
+    stray(&body(&[(0, 0)], &[&function2(&branches)]), 15);
+    // from one to another, and to the one around it
+    stray(&body(&[], &[&function(&branches), &function(&records)]), 12);
+    let outer = body(&[(0, 0)], &[&function(&branches)]);
+    stray(&body(&[], &[&function(&outer)]), 21);
+    // to its end, which is also where the branch stands
+    let at_end = body(&[(0, 1)], &[PLAY]);
+    stray(&body(&[], &[&function(&at_end), &jump(0)]), 13);
+    // in a With that records the label too, but before the function does
+    let with_record = with(&body(&[(0, 0)], &[&jump(0)]));
+    stray(&body(&[], &[&with_record, &function(&records)]), 8);
+}
+
+#[test]
+fn branches_in_one_function_are_taken_in_every_mode() {
+    let records = body(&[(0, 0)], &[PLAY]);
+    let branches = body(&[], &[&jump(0)]);
+    let inside = body(
+        &[],
+        &[
+            &with(&records),
+            &attempt(&branches, &branches, &branches),
+            &with(&branches),
+        ],
+    );
+    taken(&sheet(&inside));
+    taken(&sheet(&body(&[], &[&function(&inside)])));
+    // a record in a function, and behind it one where the branch stands
+    let last = body(&[(0, 1)], &[&function(&records), &jump(0)]);
+    assert_eq!(taken(&sheet(&last))[10..], [0x99, 2, 0, 0xFB, 0xFF, 0]);
+}
+
+#[test]
+fn the_first_branch_decides_between_14_and_15() {
+    let (records, lost, stray) = (function(&body(&[(0, 0)], &[])), jump(1), jump(0));
+    let lost_first = sheet(&body(&[], &[&records, &lost, &stray]));
+    refused_in(Mode::STRICT, &lost_first, 14, 12);
+    refused_in(Mode::CONTAINED, &lost_first, 15, 17);
+    refused_in(Mode::STRICT_CONTAINED, &lost_first, 14, 12);
+    let stray_first = sheet(&body(&[], &[&records, &stray, &lost]));
+    refused_in(Mode::STRICT, &stray_first, 14, 17);
+    refused_in(Mode::CONTAINED, &stray_first, 15, 12);
+    refused_in(Mode::STRICT_CONTAINED, &stray_first, 15, 12);
+}
+
+#[test]
+fn one_branch_is_15_before_10() {
+    let (records, jump) = (function(&body(&[(0, 0)], &[])), jump(0));
+    let actions = [&[&records[..]][..], &[POP; 32_768], &[&jump]].concat();
+    let both = sheet(&body(&[], &actions));
+    for mode in MODES {
+        let (number, value) = match mode.contained {
+            true => (15, 32_780),
+            false => (10, -32_773),
+        };
+        refused_in(mode, &both, number, value);
+    }
+}
+
+#[test]
 fn lengths_come_before_branches() {
-    let lost = jump(0);
-    refused(&sheet(&body(&[], &[&lost, &set_target(65_535)])), 8, 65_536);
     let over = with(&body(&[], &[&[CALL][..], &[POP; 65_533]].concat()));
-    refused(&sheet(&body(&[], &[&lost, &over])), 9, 65_536);
+    let records = function(&body(&[(0, 0)], &[]));
+    for first in [POP, &records] {
+        let jump = jump(0);
+        let of = |last: &[u8]| sheet(&body(&[], &[first, &jump, last]));
+        refused(&of(&set_target(65_535)), 8, 65_536);
+        refused(&of(&over), 9, 65_536);
+    }
 }
 
 #[test]

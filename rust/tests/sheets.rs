@@ -1,7 +1,6 @@
 //! The list of crates/replay, packed from Rust: number, value and block are what the oracle answered.
 mod common;
-use common::packed;
-use merinovault::Mode;
+use common::{MODES, packed};
 use std::fs;
 use std::path::Path;
 
@@ -39,30 +38,21 @@ fn unrolled(pattern: &[u8]) -> Vec<u8> {
     bytes
 }
 
-/// Bit 0 is strict; no other bit has a meaning.
-fn mode(bits: u8) -> Mode {
-    match bits {
-        0 => Mode::PLAIN,
-        1 => Mode::STRICT,
-        _ => panic!("the list is wrong: mode {bits}"),
-    }
-}
-
 #[test]
 fn answers_are_the_oracles() {
     let file = Path::new(env!("CARGO_MANIFEST_DIR")).with_file_name("crates/replay/stdin");
     let records = fs::read(file).expect("crates/replay/stdin");
     let mut list = List(&records);
-    let (mut record, mut strict) = (0, 0);
+    let (mut record, mut by_mode) = (0, MODES.map(|_| 0));
     while !list.0.is_empty() {
         record += 1;
         let (sheet, block, room) = (list.u32(), list.u32(), list.u32());
         let [bits, number] = list.array();
-        let mode = mode(bits);
-        strict += usize::from(mode.strict);
+        let bits = usize::from(bits);
+        by_mode[bits] += 1;
         let value = i64::from_le_bytes(list.array());
         let (sheet, block) = (unrolled(list.bytes(sheet)), unrolled(list.bytes(block)));
-        match packed(&sheet, mode, room) {
+        match packed(&sheet, MODES[bits], room) {
             Ok(made) => {
                 assert_eq!((number, value), (0, made.len() as i64), "record {record}");
                 assert!(made == block, "record {record}: another block");
@@ -74,5 +64,5 @@ fn answers_are_the_oracles() {
         }
     }
     assert!(record > 3_000, "{record} records");
-    assert!(strict > 0, "no record is in strict mode");
+    assert_eq!(by_mode, MODES.map(|_| record / MODES.len()));
 }

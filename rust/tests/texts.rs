@@ -57,6 +57,10 @@ fn refusals() {
             Refusal::NeverRecorded { operand: 15 },
             "byte 15 of the block: no body records the label of the branch whose operand begins here",
         ),
+        (
+            Refusal::StrayBranch { operand: 15 },
+            "byte 15 of the block: the branch whose operand begins here goes to a label in another function body",
+        ),
     ];
     for (refusal, text) in texts {
         let error: &dyn Error = &refusal;

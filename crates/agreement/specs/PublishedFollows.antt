@@ -16,7 +16,7 @@ use Rattle.layout.specs.OpCode.{OpCode, SmallOpCode, smallByte, byte, smallOpCo
 use Rattle.layout.specs.Answers.{Done}
 use Rattle.layout.specs.Tree.{PushValue, String, Null, Undefined, Register, Boolean, Float, Integer, Constant, FunctionParam, functionParam, Flat, Small, GotoFrame, GetUrl, StoreRegister, ConstantPool, WaitForFrame, SetTarget, GotoLabel, WaitForFrame2, Push, GetUrl2, GotoFrame2, Owner, With, DefineFunction, DefineFunction2, Branch, Jump, If, Variable, ActionIndex, firstAction, nextAction, Entry, entry, Action, flat, branch, owner, Try, ActionList, empty, more, Actions, body, Catch, noCatch, catch, Finally, noFinally, finally}
 use Rattle.layout.specs.Payload.{zeroEnded, stringsBytes, constantBytes, doubleBytes, pushBytes, pushesBytes, opcode, gotoFrame2Bytes, getUrl2Bits, payload, paramsBytes, ownerOpCode, ownerFields, ownerPayload, branchOpCode, catchShape, finallyShape, catchName, tryPayload, framed}
-use Rattle.layout.specs.Write.{size, bodySize, catchSize, finallySize, Position, position, Event, labelAt, branchAt, payloadTooLong, bodyTooLong, moved, eventIf, payloadTest, bodyTest, labelsAt, trace, traces, traceBody, traceCatch, traceFinally, events, later, recordIf, lookup, distanceBits, branchBits, bytes, actionsBytes, bodyBytes, catchBytes, finallyBytes, blockBytes}
+use Rattle.layout.specs.Write.{bodySize, catchSize, finallySize, Position, blockStart, moved, toOperand, toBody, toTry, toCatch, toFinally, past, Event, labelAt, branchAt, payloadTooLong, bodyTooLong, eventIf, payloadTest, bodyTest, labelsAt, trace, traces, traceBody, traceCatch, traceFinally, events, later, recordIf, lookup, distanceBits, branchBits, bytes, actionsBytes, bodyBytes, catchBytes, finallyBytes, blockBytes}
 use Rattle.layout.specs.Judge.{judged, tooFar, Mode}
 use Rattle.layout.specs.Pack.{pack, ReadsAs}
 use Rattle.layout.specs.Lengths.{length-le16, length-tryPayload, framed-long, framed-short, length-framed, owner-long, length-bytes, length-body, length-catch, length-finally}
@@ -458,29 +458,32 @@ module _ (all : List Event) where
   record-of l = lookup l all
 
   -- a near branch's bits are its offset
-  offset-is : (l p : ℕ) → NoneFar record-of (branchAt l (position (p + 3)) ∷ []) → (z : ℤ) × SI16 z (le16 (offsetBits l (p + 5))) × Lands (final l) (p + 5) z
-  unfolding moved
-  offset-is l p h =
-      let j : judged (lookup l all) (p + 5) ≡ none = branch-near record-of l (position p) h in
-      let (z, s, d) = branch-offset (lookup l all) (p + 5) j (le16 (offsetBits l (p + 5)))
+  offset-is : (l : ℕ) (s : Position) → NoneFar record-of (branchAt l (toOperand s) ∷ [])
+      → (z : ℤ) × SI16 z (le16 (offsetBits l (s .at + 5))) × Lands (final l) (s .at + 5) z
+  offset-is l s h =
+      let p : ℕ = s .at in
+      let j : judged (lookup l all) (p + 5) ≡ none = branch-near record-of l s h in
+      let (z, y, d) = branch-offset (lookup l all) (p + 5) j (le16 (offsetBits l (p + 5)))
       (is-ui16 (offsetBits l (p + 5)) (bits-small (lookup l all) (p + 5))) in
-      (z, s, subst (λ (o : Option ℕ). Lands o (p + 5) z) (sym (last-is all l)) d)
+      (z, y, subst (λ (o : Option ℕ). Lands o (p + 5) z) (sym (last-is all l)) d)
 
-  is-branch : (k : Branch) (l p : ℕ) → NoneFar record-of (branchAt l (position (p + 3)) ∷ [])
-      → ActionRecord asWritten final p (branch k l) (framed (branchOpCode k) (le16 (offsetBits l (p + 5)))) []
+  is-branch : (k : Branch) (l : ℕ) (s : Position) → NoneFar record-of (branchAt l (toOperand s) ∷ [])
+      → ActionRecord asWritten final (s .at) (branch k l) (framed (branchOpCode k) (le16 (offsetBits l (s .at + 5)))) []
   unfolding branchOpCode byte
-  is-branch Jump l p h =
+  is-branch Jump l s h =
+      let p : ℕ = s .at in
       let w : ℕ = offsetBits l (p + 5) in
-      let (z, s, d) = offset-is l p h in
+      let (z, y, d) = offset-is l s h in
       let e : p + 5 ≡ p + length (framed OpCode.Jump (le16 w)) =
       ap (λ (n : ℕ). p + n) (sym (length-framed OpCode.Jump (le16 w) refl ∙ ap (λ (n : ℕ). 3 + n) (length-le16 w))) in
-      ActionJump s (is-fields OpCode.Jump (le16 w) refl refl (omega (arith, length-le16 w))) (subst (λ (n : ℕ). Lands (final l) n z) e d)
-  is-branch If l p h =
+      ActionJump y (is-fields OpCode.Jump (le16 w) refl refl (omega (arith, length-le16 w))) (subst (λ (n : ℕ). Lands (final l) n z) e d)
+  is-branch If l s h =
+      let p : ℕ = s .at in
       let w : ℕ = offsetBits l (p + 5) in
-      let (z, s, d) = offset-is l p h in
+      let (z, y, d) = offset-is l s h in
       let e : p + 5 ≡ p + length (framed OpCode.If (le16 w)) =
       ap (λ (n : ℕ). p + n) (sym (length-framed OpCode.If (le16 w) refl ∙ ap (λ (n : ℕ). 3 + n) (length-le16 w))) in
-      ActionIf s (is-fields OpCode.If (le16 w) refl refl (omega (arith, length-le16 w))) (subst (λ (n : ℕ). Lands (final l) n z) e d)
+      ActionIf y (is-fields OpCode.If (le16 w) refl refl (omega (arith, length-le16 w))) (subst (λ (n : ℕ). Lands (final l) n z) e d)
 
   -- with a body of m bytes: Length counts the fields, and the size counts the body
   is-owned : (d : Owner) (b : Actions) (p m : ℕ) {q : List ℕ} {ls : Places} → OwnerFits d → length (ownerFields d) + 2 < 65536 → m < 65536 → length q ≡ m
@@ -547,71 +550,71 @@ module _ (all : List Event) where
     unfolding trace bytes moved tryPayload placesOf
 
     -- what is written follows the layouts, and meets the labels that the definitions record
-    is-action : (a : Action) (p : ℕ) → Fits a → NoneFar record-of (trace a (position p))
-        → ActionRecord asWritten final p a (bytes offsetBits a p) (placesOf (trace a (position p)))
-    is-action (flat f) p h r =
-        subst (λ (ls : Places). ActionRecord asWritten final p (flat f) (framed (opcode f) (payload f)) ls)
-        (sym (places-payload (length (payload f)) (position p))) (ActionFlat (is-flat f (h .0) (h .1)))
-    is-action (branch k l) p h r = is-branch k l p r
-    is-action (owner d b) p h r =
-        let n : ℕ = p + (5 + length (ownerFields d)) in
-        let x : List Event = payloadTest (length (ownerFields d) + 2) (position p) in
-        let y : List Event = traceBody b (position n) in
-        let z : List Event = bodyTest (bodySize b) (position p) in
+    is-action : (a : Action) (s : Position) → Fits a → NoneFar record-of (trace a s)
+        → ActionRecord asWritten final (s .at) a (bytes offsetBits a (s .at)) (placesOf (trace a s))
+    is-action (flat f) s h r =
+        subst (λ (ls : Places). ActionRecord asWritten final (s .at) (flat f) (framed (opcode f) (payload f)) ls)
+        (sym (places-payload (length (payload f)) s)) (ActionFlat (is-flat f (h .0) (h .1)))
+    is-action (branch k l) s h r = is-branch k l s r
+    is-action (owner d b) s h r =
+        let n : ℕ = toBody d s .at in
+        let x : List Event = payloadTest (length (ownerFields d) + 2) s in
+        let y : List Event = traceBody b (toBody d s) in
+        let z : List Event = bodyTest (bodySize b) s in
         let g : NoneFar record-of y = near-left record-of y z (near-right record-of x (y ++ z) r) in
-        subst (λ (ls : Places). ActionRecord asWritten final p (owner d b) (framed (ownerOpCode d) (ownerPayload d (bodySize b)) ++ bodyBytes offsetBits b n) ls)
-        (owned-places (length (ownerFields d) + 2) (bodySize b) (position p) y)
-        (is-owned d b p (bodySize b) (h .0) (h .1) (h .2) (length-body offsetBits b n) (is-body b n (h .3) g))
-    is-action (Try b c f) p h r =
-        let n : ℕ = p + (10 + length (catchName c)) in
-        let n₁ : ℕ = n + bodySize b in
-        let n₂ : ℕ = n + (bodySize b + catchSize c) in
-        let x₀ : List Event = payloadTest (7 + length (catchName c)) (position p) in
-        let x₁ : List Event = traceBody b (position n) in
-        let x₂ : List Event = traceCatch c (position n₁) in
-        let x₃ : List Event = traceFinally f (position n₂) in
-        let x₄ : List Event = bodyTest (bodySize b) (position p) ++ (bodyTest (catchSize c) (position p) ++ bodyTest (finallySize f) (position p)) in
+        subst (λ (ls : Places). ActionRecord asWritten final (s .at) (owner d b) (framed (ownerOpCode d) (ownerPayload d (bodySize b)) ++ bodyBytes offsetBits b n) ls)
+        (owned-places (length (ownerFields d) + 2) (bodySize b) s y)
+        (is-owned d b (s .at) (bodySize b) (h .0) (h .1) (h .2) (length-body offsetBits b n) (is-body b (toBody d s) (h .3) g))
+    is-action (Try b c f) s h r =
+        let n : ℕ = toTry c s .at in
+        let n₁ : ℕ = toCatch b c s .at in
+        let n₂ : ℕ = toFinally b c s .at in
+        let x₀ : List Event = payloadTest (7 + length (catchName c)) s in
+        let x₁ : List Event = traceBody b (toTry c s) in
+        let x₂ : List Event = traceCatch c (toCatch b c s) in
+        let x₃ : List Event = traceFinally f (toFinally b c s) in
+        let x₄ : List Event = bodyTest (bodySize b) s ++ (bodyTest (catchSize c) s ++ bodyTest (finallySize f) s) in
         let r₁ : NoneFar record-of (x₁ ++ (x₂ ++ (x₃ ++ x₄))) = near-right record-of x₀ (x₁ ++ (x₂ ++ (x₃ ++ x₄))) r in
         let r₂ : NoneFar record-of (x₂ ++ (x₃ ++ x₄)) = near-right record-of x₁ (x₂ ++ (x₃ ++ x₄)) r₁ in
         let r₃ : NoneFar record-of (x₃ ++ x₄) = near-right record-of x₂ (x₃ ++ x₄) r₂ in
-        let t₁ : BodyRecords asWritten final n b (bodyBytes offsetBits b n) (placesOf x₁) = is-body b n (h .5) (near-left record-of x₁ (x₂ ++ (x₃ ++ x₄)) r₁) in
-        let t₂ : CatchRecords asWritten final n₁ c (catchBytes offsetBits c n₁) (placesOf x₂) = is-catch c n₁ (h .6) (near-left record-of x₂ (x₃ ++ x₄) r₂) in
-        let t₃ : FinallyRecords asWritten final n₂ f (finallyBytes offsetBits f n₂) (placesOf x₃) = is-finally f n₂ (h .7) (near-left record-of x₃ x₄ r₃) in
-        subst (λ (ls : Places). ActionRecord asWritten final p (Try b c f)
+        let t₁ : BodyRecords asWritten final n b (bodyBytes offsetBits b n) (placesOf x₁) = is-body b (toTry c s) (h .5) (near-left record-of x₁ (x₂ ++ (x₃ ++ x₄)) r₁) in
+        let t₂ : CatchRecords asWritten final n₁ c (catchBytes offsetBits c n₁) (placesOf x₂) = is-catch c (toCatch b c s) (h .6) (near-left record-of x₂ (x₃ ++ x₄) r₂) in
+        let t₃ : FinallyRecords asWritten final n₂ f (finallyBytes offsetBits f n₂) (placesOf x₃) = is-finally f (toFinally b c s) (h .7) (near-left record-of x₃ x₄ r₃) in
+        subst (λ (ls : Places). ActionRecord asWritten final (s .at) (Try b c f)
         (framed OpCode.Try (tryPayload (catchShape c + finallyShape f) (bodySize b) (catchSize c) (finallySize f) (catchName c))
         ++ (bodyBytes offsetBits b n ++ (catchBytes offsetBits c n₁ ++ finallyBytes offsetBits f n₂))) ls)
-        (try-places (7 + length (catchName c)) (bodySize b) (catchSize c) (finallySize f) (position p) x₁ x₂ x₃)
-        (is-try b c f p (bodySize b) (catchSize c) (finallySize f) (h .0) (h .1) (h .2) (h .3) (h .4)
+        (try-places (7 + length (catchName c)) (bodySize b) (catchSize c) (finallySize f) s x₁ x₂ x₃)
+        (is-try b c f (s .at) (bodySize b) (catchSize c) (finallySize f) (h .0) (h .1) (h .2) (h .3) (h .4)
         (length-body offsetBits b n) (length-catch offsetBits c n₁) (length-finally offsetBits f n₂) t₁ t₂ t₃)
 
-    is-actions : (xs : ActionList) (es : List Entry) (i : ActionIndex) (p : ℕ) → ActionsFit xs → NoneFar record-of (traces xs es i (position p))
-        → ActionRecords asWritten final p xs es i (actionsBytes offsetBits xs p) (placesOf (traces xs es i (position p)))
-    is-actions empty es i p h r = end (places-labels es i (position p))
-    is-actions (more a xs) es i p h r =
-        let n : ℕ = p + size a in
-        let x : List Event = labelsAt es i (position p) in
-        let y : List Event = trace a (position p) in
-        let z : List Event = traces xs es (nextAction i) (position n) in
+    is-actions : (xs : ActionList) (es : List Entry) (i : ActionIndex) (s : Position) → ActionsFit xs → NoneFar record-of (traces xs es i s)
+        → ActionRecords asWritten final (s .at) xs es i (actionsBytes offsetBits xs (s .at)) (placesOf (traces xs es i s))
+    is-actions empty es i s h r = end (places-labels es i s)
+    is-actions (more a xs) es i s h r =
+        let n : ℕ = past a s .at in
+        let x : List Event = labelsAt es i s in
+        let y : List Event = trace a s in
+        let z : List Event = traces xs es (nextAction i) (past a s) in
         let g : NoneFar record-of (y ++ z) = near-right record-of x (y ++ z) r in
-        let e : n ≡ p + length (bytes offsetBits a p) = ap (λ (m : ℕ). p + m) (sym (length-bytes offsetBits a p)) in
-        next (is-action a p (h .0) (near-left record-of y z g))
+        let e : n ≡ s .at + length (bytes offsetBits a (s .at)) = ap (λ (m : ℕ). s .at + m) (sym (length-bytes offsetBits a (s .at))) in
+        next (is-action a s (h .0) (near-left record-of y z g))
         (subst (λ (m : ℕ). ActionRecords asWritten final m xs es (nextAction i) (actionsBytes offsetBits xs n) (placesOf z)) e
-        (is-actions xs es (nextAction i) n (h .1) (near-right record-of y z g))) refl
-        (places-append x (y ++ z) ∙ ap₂ (λ (u v : Places). u ++ v) (places-labels es i (position p)) (places-append y z))
+        (is-actions xs es (nextAction i) (past a s) (h .1) (near-right record-of y z g))) refl
+        (places-append x (y ++ z) ∙ ap₂ (λ (u v : Places). u ++ v) (places-labels es i s) (places-append y z))
 
-    is-body : (b : Actions) (p : ℕ) → BodyFits b → NoneFar record-of (traceBody b (position p))
-        → BodyRecords asWritten final p b (bodyBytes offsetBits b p) (placesOf (traceBody b (position p)))
-    is-body (body es xs) p h r = code (is-actions xs es firstAction p h r)
+    is-body : (b : Actions) (s : Position) → BodyFits b → NoneFar record-of (traceBody b s)
+        → BodyRecords asWritten final (s .at) b (bodyBytes offsetBits b (s .at)) (placesOf (traceBody b s))
+    is-body (body es xs) s h r = code (is-actions xs es firstAction s h r)
 
-    is-catch : (c : Catch) (p : ℕ) → CatchFits c → NoneFar record-of (traceCatch c (position p))
-        → CatchRecords asWritten final p c (catchBytes offsetBits c p) (placesOf (traceCatch c (position p)))
-    is-catch noCatch p h r = noCatchBody
-    is-catch (catch t b) p h r = CatchBody (is-body b p h r)
+    is-catch : (c : Catch) (s : Position) → CatchFits c → NoneFar record-of (traceCatch c s)
+        → CatchRecords asWritten final (s .at) c (catchBytes offsetBits c (s .at)) (placesOf (traceCatch c s))
+    is-catch noCatch s h r = noCatchBody
+    is-catch (catch t b) s h r = CatchBody (is-body b s h r)
 
-    is-finally : (f : Finally) (p : ℕ) → FinallyFits f → NoneFar record-of (traceFinally f (position p))
-        → FinallyRecords asWritten final p f (finallyBytes offsetBits f p) (placesOf (traceFinally f (position p)))
-    is-finally noFinally p h r = noFinallyBody
-    is-finally (finally b) p h r = FinallyBody (is-body b p h r)
+    is-finally : (f : Finally) (s : Position) → FinallyFits f → NoneFar record-of (traceFinally f s)
+        → FinallyRecords asWritten final (s .at) f (finallyBytes offsetBits f (s .at)) (placesOf (traceFinally f s))
+    is-finally noFinally s h r = noFinallyBody
+    is-finally (finally b) s h r = FinallyBody (is-body b s h r)
 
 -- a tree whose lengths fit, and in which nothing is too far
 tree-follows : (t : Actions) → BodyFits t → tooFar (events t) (events t) ≡ none → Block asWritten t (blockBytes t)
@@ -620,7 +623,7 @@ tree-follows t h n =
     record {
       actions = bodyBytes (branchBits t) t 0;
       labels = placesOf (events t);
-      records = is-body (traceBody t (position 0)) t 0 h n;
+      records = is-body (traceBody t blockStart) t blockStart h n;
       is-ended = refl;
     }
 

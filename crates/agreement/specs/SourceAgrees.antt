@@ -11,10 +11,10 @@ use lib.IntN.{ℤ, pos, subℕ}
 use lib.Dec.{leb}
 use borrow.Author.Tests.{leb-true, leb-false}
 use Rattle.layout.specs.OpCode.{OpCode, SmallOpCode, smallByte, byte}
-use Rattle.layout.specs.Answers.{Fault, CutShort, UnknownCode, BadField, TooDeep, LeftOver, Refusal, SheetTooLong, BadTrailer, ReadingFault, ActionLenOverflow, BlockLenOverflow, JumpOffsetOverflow, NoRoom, InputFull, Unclean, NeverRecorded, Answer, Done, Refused, faultNumber, refusalNumber, refusalValue}
+use Rattle.layout.specs.Answers.{Fault, CutShort, UnknownCode, BadField, TooDeep, LeftOver, Refusal, SheetTooLong, BadTrailer, ReadingFault, ActionLenOverflow, BlockLenOverflow, JumpOffsetOverflow, NoRoom, InputFull, Unclean, NeverRecorded, StrayBranch, Answer, Done, Refused, faultNumber, refusalNumber, refusalValue}
 use Rattle.layout.specs.Tree.{Actions}
 use Rattle.layout.specs.Payload.{headed, framed}
-use Rattle.layout.specs.Write.{Position, position, Event, labelAt, branchAt, payloadTooLong, bodyTooLong, traceBody, events, lookup, branchBits, bodyBytes, blockBytes, blockSize}
+use Rattle.layout.specs.Write.{Position, blockStart, Event, labelAt, branchAt, payloadTooLong, bodyTooLong, traceBody, events, lookup, branchBits, bodyBytes, blockBytes, blockSize}
 use Rattle.layout.specs.Judge.{tooLong, distance, isNear, farUnless, judged, orElse, firstRefused, tooFar, judge, plainMode}
 use Rattle.layout.specs.Pack.{unless, ifRoom, packTree, pack, ReadsAs}
 use Rattle.layout.specs.Order.{tree-next}
@@ -124,11 +124,11 @@ module _ (t : Actions) (well : WellBody t) where
 
   drafted-is : write-actions t new ≡ resultOf (firstOverflow seen) drafted
   unfolding new events
-  drafted-is = (does-body t well 0) .does new refl ∙ perform-is (traceBody t (position 0)) (bodyBytes blank t 0) new
+  drafted-is = (does-body t well blockStart) .does new refl ∙ perform-is (traceBody t blockStart) (bodyBytes blank t 0) new
 
   ended-is : write-small-action SmallOpCode.End drafted ≡ resultOf none ended
   ended-is =
-      (does-small SmallOpCode.End (length (bodyBytes blank t 0)) (position 0)) .does drafted refl
+      (does-small SmallOpCode.End (length (bodyBytes blank t 0)) blockStart) .does drafted refl
       ∙ perform-is [] (framed (OpCode.Small SmallOpCode.End) []) drafted
       ∙ (unfold firstOverflow pendingOf recorded framed headed byte smallByte in
       ap (λ (w : List PendingLabelWrite). resultOf none (encoder (bodyBytes blank t 0 ++ 0 ∷ []) w (recorded (events t) []))) (append-nil (pendingOf seen)))
@@ -146,7 +146,7 @@ module _ (t : Actions) (well : WellBody t) where
   unfolding patch-labels
   patched-is =
       let d : Turns seen seen (bodyBytes blank t 0 ++ 0 ∷ []) (blockBytes t) =
-      (unfold events in turns-as (events t) (turns-body seen t 0 [] (0 ∷ []) refl) refl refl block-is) in
+      (unfold events in turns-as (events t) (turns-body seen t blockStart [] (0 ∷ []) refl) refl refl block-is) in
       ap (λ (ws : List PendingLabelWrite). for-each patch-label ws ended) (sym (append-nil (pendingOf seen)))
       ∙ d .turns (pendingOf seen) []
       ∙ (unfold for-each in orErr-result (firstFar seen seen) patched)
@@ -206,6 +206,7 @@ refusal-once (NoRoom n) x e v = absurd (omega (arith, error-from x .1))
 refusal-once InputFull x e v = absurd (omega (arith, error-from x .1))
 refusal-once (Unclean p) x e v = absurd (omega (arith, error-from x .1))
 refusal-once (NeverRecorded p) x e v = absurd (omega (arith, error-from x .1))
+refusal-once (StrayBranch p) x e v = absurd (omega (arith, error-from x .1))
 
 -- ---- no answer agrees with a panic
 

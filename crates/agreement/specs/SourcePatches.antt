@@ -14,7 +14,7 @@ use Rattle.layout.specs.Numbers.{le16}
 use Rattle.layout.specs.OpCode.{OpCode, byte}
 use Rattle.layout.specs.Tree.{Owner, Branch, ActionIndex, firstAction, nextAction, Entry, entry, Action, flat, branch, owner, Try, ActionList, empty, more, Actions, body, Catch, noCatch, catch, Finally, noFinally, finally}
 use Rattle.layout.specs.Payload.{opcode, payload, ownerOpCode, ownerFields, ownerPayload, branchOpCode, catchShape, finallyShape, catchName, tryPayload, framed}
-use Rattle.layout.specs.Write.{size, bodySize, catchSize, finallySize, Position, position, Event, labelAt, branchAt, payloadTooLong, bodyTooLong, moved, eventIf, payloadTest, bodyTest, labelsAt, trace, traces, traceBody, traceCatch, traceFinally, later, recordIf, lookup, distanceBits, bytes, actionsBytes, bodyBytes, catchBytes, finallyBytes}
+use Rattle.layout.specs.Write.{bodySize, catchSize, finallySize, Position, moved, toOperand, toBody, toTry, toCatch, toFinally, past, Event, labelAt, branchAt, payloadTooLong, bodyTooLong, eventIf, payloadTest, bodyTest, labelsAt, trace, traces, traceBody, traceCatch, traceFinally, later, recordIf, lookup, distanceBits, bytes, actionsBytes, bodyBytes, catchBytes, finallyBytes}
 use Rattle.layout.specs.Judge.{isNear}
 use Rattle.layout.specs.Lengths.{length-ownerFields, length-ownerPayload, length-tryPayload, framed-long, length-framed, branch-long, owner-long, try-long, length-bytes, length-body, length-catch}
 use Rattle.laws.specs.Demands.{sub-up, sub-down}
@@ -208,13 +208,13 @@ module _ (all : List Event) where
   after-orErr none e k = refl
   after-orErr (some x) e k = refl
 
-  turns-operand : (l q : ℕ) (pre post : List ℕ) → length pre ≡ q
-      → Turns (branchAt l (position q) ∷ []) (pre ++ (le16 0 ++ post)) (pre ++ (le16 (bits l (q + 2)) ++ post))
+  turns-operand : (l : ℕ) (s : Position) (pre post : List ℕ) → length pre ≡ s .at
+      → Turns (branchAt l s ∷ []) (pre ++ (le16 0 ++ post)) (pre ++ (le16 (bits l (s .at + 2)) ++ post))
   unfolding pendingOf firstFar for-each
-  turns-operand l q pre post hq =
+  turns-operand l s pre post hq =
       record {
-        turns = λ w rest. ap (λ (r : Result). after r (for-each patch-label rest)) (label-patch l q pre post hq w)
-            ∙ after-orErr (farBranch (lookup l all) (q + 2)) _ (for-each patch-label rest);
+        turns = λ w rest. ap (λ (r : Result). after r (for-each patch-label rest)) (label-patch l (s .at) pre post hq w)
+            ∙ after-orErr (farBranch (lookup l all) (s .at + 2)) _ (for-each patch-label rest);
       }
 
   branch-parts : (op : OpCode) (n : ℕ) (pre post : List ℕ) → ltb (byte op) 128 ≡ false
@@ -223,16 +223,17 @@ module _ (all : List Event) where
   branch-parts op n pre post h =
       append-assoc pre (byte op ∷ le16 2) (le16 n ++ post) ∙ ap (λ (t : List ℕ). pre ++ (t ++ post)) (sym (framed-long op (le16 n) h))
 
-  turns-branch : (k : Branch) (l p : ℕ) (pre post : List ℕ) → length pre ≡ p
-      → Turns (branchAt l (position (p + 3)) ∷ []) (pre ++ (framed (branchOpCode k) (le16 0) ++ post))
-      (pre ++ (framed (branchOpCode k) (le16 (bits l (p + 5))) ++ post))
-  turns-branch k l p pre post h =
+  turns-branch : (k : Branch) (l : ℕ) (s : Position) (pre post : List ℕ) → length pre ≡ s .at
+      → Turns (branchAt l (toOperand s) ∷ []) (pre ++ (framed (branchOpCode k) (le16 0) ++ post))
+      (pre ++ (framed (branchOpCode k) (le16 (bits l (s .at + 5))) ++ post))
+  unfolding moved
+  turns-branch k l s pre post h =
       let hd : List ℕ = byte (branchOpCode k) ∷ le16 2 in
-      let e : p + 3 + 2 ≡ p + 5 = omega arith in
-      turns-as (turns-operand l (p + 3) (pre ++ hd) post
+      let e : s .at + 3 + 2 ≡ s .at + 5 = omega arith in
+      turns-as (turns-operand l (toOperand s) (pre ++ hd) post
       (length-append pre hd ∙ ap₂ (λ (x y : ℕ). x + y) h (unfold le16 in refl))) refl
       (branch-parts (branchOpCode k) 0 pre post (branch-long k))
-      (branch-parts (branchOpCode k) (bits l (p + 3 + 2)) pre post (branch-long k)
+      (branch-parts (branchOpCode k) (bits l (s .at + 3 + 2)) pre post (branch-long k)
       ∙ ap (λ (n : ℕ). pre ++ (framed (branchOpCode k) (le16 (bits l n)) ++ post)) e)
 
   -- ---- what is no branch
@@ -266,23 +267,23 @@ module _ (all : List Event) where
   mutual
     unfolding trace bytes moved tryPayload
 
-    turns-action : (a : Action) (p : ℕ) (pre post : List ℕ) → length pre ≡ p
-        → Turns (trace a (position p)) (pre ++ (bytes blank a p ++ post)) (pre ++ (bytes bits a p ++ post))
-    turns-action (flat f) p pre post h = payload-quiet (length (payload f)) (position p) (pre ++ (framed (opcode f) (payload f) ++ post))
-    turns-action (branch k l) p pre post h = turns-branch k l p pre post h
-    turns-action (owner d b) p pre post h =
-        let n : ℕ = p + (5 + length (ownerFields d)) in
+    turns-action : (a : Action) (s : Position) (pre post : List ℕ) → length pre ≡ s .at
+        → Turns (trace a s) (pre ++ (bytes blank a (s .at) ++ post)) (pre ++ (bytes bits a (s .at) ++ post))
+    turns-action (flat f) s pre post h = payload-quiet (length (payload f)) s (pre ++ (framed (opcode f) (payload f) ++ post))
+    turns-action (branch k l) s pre post h = turns-branch k l s pre post h
+    turns-action (owner d b) s pre post h =
+        let n : ℕ = toBody d s .at in
         let q : List ℕ = framed (ownerOpCode d) (ownerPayload d (bodySize b)) in
         let l : length q ≡ 5 + length (ownerFields d) = length-owner d (bodySize b) in
         turns-as
-        (turns-then (payload-quiet (length (ownerFields d) + 2) (position p) ((pre ++ q) ++ (bodyBytes blank b n ++ post)))
-        (turns-then (turns-body b n (pre ++ q) post (omega (arith, length-append pre q))) (event-quiet (bodySize b) (position p) ((pre ++ q) ++ (bodyBytes bits b n ++ post)))))
+        (turns-then (payload-quiet (length (ownerFields d) + 2) s ((pre ++ q) ++ (bodyBytes blank b n ++ post)))
+        (turns-then (turns-body b (toBody d s) (pre ++ q) post (omega (arith, length-append pre q))) (event-quiet (bodySize b) s ((pre ++ q) ++ (bodyBytes bits b n ++ post)))))
         refl (regroup pre q (bodyBytes blank b n) post) (regroup pre q (bodyBytes bits b n) post)
-    turns-action (Try b c f) p pre post h =
+    turns-action (Try b c f) s pre post h =
         let m : ℕ = 10 + length (catchName c) in
-        let n : ℕ = p + (10 + length (catchName c)) in
-        let n₁ : ℕ = n + bodySize b in
-        let n₂ : ℕ = n + (bodySize b + catchSize c) in
+        let n : ℕ = toTry c s .at in
+        let n₁ : ℕ = toCatch b c s .at in
+        let n₂ : ℕ = toFinally b c s .at in
         let q : List ℕ = framed OpCode.Try (tryPayload (catchShape c + finallyShape f) (bodySize b) (catchSize c) (finallySize f) (catchName c)) in
         let l : length q ≡ m = length-framed OpCode.Try _ try-long ∙ ap (λ (k : ℕ). 3 + k) (length-tryPayload (catchShape c + finallyShape f) (bodySize b) (catchSize c) (finallySize f) (catchName c)) ∙ omega arith in
         let x : List ℕ = bodyBytes blank b n in
@@ -294,40 +295,40 @@ module _ (all : List Event) where
         let lq : length (pre ++ q) ≡ n = omega (arith, length-append pre q) in
         let l₁ : length ((pre ++ q) ++ x′) ≡ n₁ = omega (arith, length-append (pre ++ q) x′, length-body bits b n) in
         let l₂ : length (((pre ++ q) ++ x′) ++ y′) ≡ n₂ = omega (arith, length-append ((pre ++ q) ++ x′) y′, length-catch bits c n₁) in
-        let d₁ : Turns (traceBody b (position n)) (pre ++ ((q ++ (x ++ (y ++ z))) ++ post)) (pre ++ ((q ++ (x′ ++ (y ++ z))) ++ post)) =
-        turns-as (turns-body b n (pre ++ q) (y ++ (z ++ post)) lq) refl (simp append-assoc) (simp append-assoc) in
-        let d₂ : Turns (traceCatch c (position n₁)) (pre ++ ((q ++ (x′ ++ (y ++ z))) ++ post)) (pre ++ ((q ++ (x′ ++ (y′ ++ z))) ++ post)) =
-        turns-as (turns-catch c n₁ ((pre ++ q) ++ x′) (z ++ post) l₁) refl (simp append-assoc) (simp append-assoc) in
-        let d₃ : Turns (traceFinally f (position n₂)) (pre ++ ((q ++ (x′ ++ (y′ ++ z))) ++ post)) (pre ++ ((q ++ (x′ ++ (y′ ++ z′))) ++ post)) =
-        turns-as (turns-finally f n₂ (((pre ++ q) ++ x′) ++ y′) post l₂) refl (simp append-assoc) (simp append-assoc) in
+        let d₁ : Turns (traceBody b (toTry c s)) (pre ++ ((q ++ (x ++ (y ++ z))) ++ post)) (pre ++ ((q ++ (x′ ++ (y ++ z))) ++ post)) =
+        turns-as (turns-body b (toTry c s) (pre ++ q) (y ++ (z ++ post)) lq) refl (simp append-assoc) (simp append-assoc) in
+        let d₂ : Turns (traceCatch c (toCatch b c s)) (pre ++ ((q ++ (x′ ++ (y ++ z))) ++ post)) (pre ++ ((q ++ (x′ ++ (y′ ++ z))) ++ post)) =
+        turns-as (turns-catch c (toCatch b c s) ((pre ++ q) ++ x′) (z ++ post) l₁) refl (simp append-assoc) (simp append-assoc) in
+        let d₃ : Turns (traceFinally f (toFinally b c s)) (pre ++ ((q ++ (x′ ++ (y′ ++ z))) ++ post)) (pre ++ ((q ++ (x′ ++ (y′ ++ z′))) ++ post)) =
+        turns-as (turns-finally f (toFinally b c s) (((pre ++ q) ++ x′) ++ y′) post l₂) refl (simp append-assoc) (simp append-assoc) in
         let o : List ℕ = pre ++ ((q ++ (x′ ++ (y′ ++ z′))) ++ post) in
-        turns-then (payload-quiet (7 + length (catchName c)) (position p) _)
+        turns-then (payload-quiet (7 + length (catchName c)) s _)
         (turns-then d₁
         (turns-then d₂
         (turns-then d₃
-        (turns-then (event-quiet (bodySize b) (position p) o) (turns-then (event-quiet (catchSize c) (position p) o) (event-quiet (finallySize f) (position p) o))))))
+        (turns-then (event-quiet (bodySize b) s o) (turns-then (event-quiet (catchSize c) s o) (event-quiet (finallySize f) s o))))))
 
-    turns-actions : (xs : ActionList) (es : List Entry) (i : ActionIndex) (p : ℕ) (pre post : List ℕ) → length pre ≡ p
-        → Turns (traces xs es i (position p)) (pre ++ (actionsBytes blank xs p ++ post)) (pre ++ (actionsBytes bits xs p ++ post))
-    turns-actions empty es i p pre post h = labels-quiet es i (position p) (pre ++ post)
-    turns-actions (more a xs) es i p pre post h =
-        let n : ℕ = p + size a in
-        let x : List ℕ = bytes bits a p in
-        turns-then (labels-quiet es i (position p) _)
+    turns-actions : (xs : ActionList) (es : List Entry) (i : ActionIndex) (s : Position) (pre post : List ℕ) → length pre ≡ s .at
+        → Turns (traces xs es i s) (pre ++ (actionsBytes blank xs (s .at) ++ post)) (pre ++ (actionsBytes bits xs (s .at) ++ post))
+    turns-actions empty es i s pre post h = labels-quiet es i s (pre ++ post)
+    turns-actions (more a xs) es i s pre post h =
+        let n : ℕ = past a s .at in
+        let x : List ℕ = bytes bits a (s .at) in
+        turns-then (labels-quiet es i s _)
         (turns-then
-        (turns-as (turns-action a p pre (actionsBytes blank xs n ++ post) h) refl (ap (λ (t : List ℕ). pre ++ t) (sym (append-assoc (bytes blank a p) (actionsBytes blank xs n) post))) refl)
-        (turns-as (turns-actions xs es (nextAction i) n (pre ++ x) post (omega (arith, length-append pre x, length-bytes bits a p))) refl (append-assoc pre x (actionsBytes blank xs n ++ post)) (regroup pre x (actionsBytes bits xs n) post)))
+        (turns-as (turns-action a s pre (actionsBytes blank xs n ++ post) h) refl (ap (λ (t : List ℕ). pre ++ t) (sym (append-assoc (bytes blank a (s .at)) (actionsBytes blank xs n) post))) refl)
+        (turns-as (turns-actions xs es (nextAction i) (past a s) (pre ++ x) post (omega (arith, length-append pre x, length-bytes bits a (s .at)))) refl (append-assoc pre x (actionsBytes blank xs n ++ post)) (regroup pre x (actionsBytes bits xs n) post)))
 
-    pub turns-body : (b : Actions) (p : ℕ) (pre post : List ℕ) → length pre ≡ p
-        → Turns (traceBody b (position p)) (pre ++ (bodyBytes blank b p ++ post)) (pre ++ (bodyBytes bits b p ++ post))
-    turns-body (body es xs) p pre post h = turns-actions xs es firstAction p pre post h
+    pub turns-body : (b : Actions) (s : Position) (pre post : List ℕ) → length pre ≡ s .at
+        → Turns (traceBody b s) (pre ++ (bodyBytes blank b (s .at) ++ post)) (pre ++ (bodyBytes bits b (s .at) ++ post))
+    turns-body (body es xs) s pre post h = turns-actions xs es firstAction s pre post h
 
-    turns-catch : (c : Catch) (p : ℕ) (pre post : List ℕ) → length pre ≡ p
-        → Turns (traceCatch c (position p)) (pre ++ (catchBytes blank c p ++ post)) (pre ++ (catchBytes bits c p ++ post))
-    turns-catch noCatch p pre post h = none-quiet (pre ++ post)
-    turns-catch (catch t b) p pre post h = turns-body b p pre post h
+    turns-catch : (c : Catch) (s : Position) (pre post : List ℕ) → length pre ≡ s .at
+        → Turns (traceCatch c s) (pre ++ (catchBytes blank c (s .at) ++ post)) (pre ++ (catchBytes bits c (s .at) ++ post))
+    turns-catch noCatch s pre post h = none-quiet (pre ++ post)
+    turns-catch (catch t b) s pre post h = turns-body b s pre post h
 
-    turns-finally : (f : Finally) (p : ℕ) (pre post : List ℕ) → length pre ≡ p
-        → Turns (traceFinally f (position p)) (pre ++ (finallyBytes blank f p ++ post)) (pre ++ (finallyBytes bits f p ++ post))
-    turns-finally noFinally p pre post h = none-quiet (pre ++ post)
-    turns-finally (finally b) p pre post h = turns-body b p pre post h
+    turns-finally : (f : Finally) (s : Position) (pre post : List ℕ) → length pre ≡ s .at
+        → Turns (traceFinally f s) (pre ++ (finallyBytes blank f (s .at) ++ post)) (pre ++ (finallyBytes bits f (s .at) ++ post))
+    turns-finally noFinally s pre post h = none-quiet (pre ++ post)
+    turns-finally (finally b) s pre post h = turns-body b s pre post h

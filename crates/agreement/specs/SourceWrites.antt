@@ -14,7 +14,7 @@ use Rattle.layout.specs.Numbers.{le16, le32, bit}
 use Rattle.layout.specs.OpCode.{OpCode, SmallOpCode, byte}
 use Rattle.layout.specs.Tree.{PushValue, String, Null, Undefined, Register, Boolean, Float, Integer, Constant, FunctionParam, functionParam, Flat, Small, GotoFrame, GetUrl, StoreRegister, ConstantPool, WaitForFrame, SetTarget, GotoLabel, WaitForFrame2, Push, GetUrl2, GotoFrame2, Owner, With, DefineFunction, DefineFunction2, Branch, Jump, If, Variable, ActionIndex, firstAction, nextAction, Entry, Action, flat, branch, owner, Try, ActionList, empty, more, Actions, body, Catch, noCatch, catch, Finally, noFinally, finally}
 use Rattle.layout.specs.Payload.{zeroEnded, stringsBytes, constantBytes, doubleBytes, pushBytes, pushesBytes, opcode, gotoFrame2Bytes, getUrl2Bits, payload, paramsBytes, ownerOpCode, ownerFields, ownerPayload, branchOpCode, catchShape, finallyShape, catchName, tryPayload, headed, framed}
-use Rattle.layout.specs.Write.{size, bodySize, catchSize, finallySize, Position, position, Event, branchAt, bodyTooLong, moved, eventIf, payloadTest, bodyTest, labelsAt, trace, traces, traceBody, traceCatch, traceFinally, bytes, actionsBytes, bodyBytes, catchBytes, finallyBytes}
+use Rattle.layout.specs.Write.{size, bodySize, catchSize, finallySize, Position, moved, toOperand, toBody, toTry, toCatch, toFinally, past, Event, branchAt, bodyTooLong, eventIf, payloadTest, bodyTest, labelsAt, trace, traces, traceBody, traceCatch, traceFinally, bytes, actionsBytes, bodyBytes, catchBytes, finallyBytes}
 use Rattle.layout.specs.Lengths.{length-le16, length-zeroEnded, length-tryPayload, framed-long, try-long, framed-short, length-bytes, length-body, length-catch, length-finally}
 use Rattle.laws.specs.Fits.{OwnerFits, Well, WellActions, WellBody, WellCatch, WellFinally}
 use Rattle.agreement.specs.Source.{PendingLabelWrite, Map, ActionEncoder, EncoderError, Result, ok, err, panicked, Writing, after, _>>_, _>>=_, output-len, for-each, fold, if-else, assert, get, put, write-u8, two-le-bytes, write-u16, write-i16, write-i32, write-u64, write-string, copied, copy-from-slice, rotate-left-32, write-f64-me, insert-labels, labels-per-pos, write-action-header, write-small-action, write-goto-frame, write-goto-frame-2, write-goto-label, write-constant-pool, write-block-length, write-block-length-at, flag-bit, function-flags, write-param, param-name, is-some-catch, is-register, is-some-finally, try-flags, target-len, write-target, push-label-write, write-if, write-jump, value-len, write-constant, write-push-value, write-push, write-set-target, write-store-register, write-get-url, write-get-url-2, write-wait-for-frame, write-wait-for-frame-2, write-flat, write-define-function, write-define-function-2, write-with, patch-sizes, write-try, count, write-labelled, write-actions, write-each, write-action, write-catch, write-finally}
@@ -616,16 +616,16 @@ abbrev pub blank : ℕ → ℕ → ℕ
 blank l p = 0
 
 -- a branch waits where its operand stands
-does-operand : (l p : ℕ) → Does (push-label-write l) p (branchAt l (position p) ∷ []) []
+does-operand : (l : ℕ) (s : Position) → Does (push-label-write l) (s .at) (branchAt l s ∷ []) []
 unfolding push-label-write perform resultOf firstOverflow pendingOf recorded
-does-operand l p = record { does = λ e h. rw (h, append-nil (e .output)) }
+does-operand l s = record { does = λ e h. rw (h, append-nil (e .output)) }
 
 -- write_jump and write_if
-does-branch : (k : Branch) (l p : ℕ)
-    → Does (write-action (branch k l)) p (branchAt l (position (p + 3)) ∷ []) (framed (branchOpCode k) (le16 0))
-unfolding write-action write-jump write-if branchOpCode byte framed headed le16 payloadTest eventIf
-does-branch Jump l p = does-then (does-header OpCode.Jump 2 p (position 0) refl) (does-then (does-operand l (p + 3)) (does-i16 0 (p + 3 + 0)))
-does-branch If l p = does-then (does-header OpCode.If 2 p (position 0) refl) (does-then (does-operand l (p + 3)) (does-i16 0 (p + 3 + 0)))
+does-branch : (k : Branch) (l : ℕ) (s : Position)
+    → Does (write-action (branch k l)) (s .at) (branchAt l (toOperand s) ∷ []) (framed (branchOpCode k) (le16 0))
+unfolding write-action write-jump write-if branchOpCode byte framed headed le16 payloadTest eventIf moved
+does-branch Jump l s = does-then (does-header OpCode.Jump 2 (s .at) s refl) (does-then (does-operand l (toOperand s)) (does-i16 0 (s .at + 3 + 0)))
+does-branch If l s = does-then (does-header OpCode.If 2 (s .at) s refl) (does-then (does-operand l (toOperand s)) (does-i16 0 (s .at + 3 + 0)))
 
 -- ---- Try
 
@@ -685,11 +685,6 @@ module _ (b : Actions) (c : Catch) (f : Finally) (p i j k : ℕ) (s : Position) 
 
 -- ---- write_actions and write_action
 
--- a position said otherwise in the events and in the bytes
-does-shift : {w : Writing} (F : ℕ → List Event) (G : ℕ → List ℕ) (p n k : ℕ) → Does w p (F p) (G p) → p ≡ n → p ≡ k
-    → Does w p (F n) (G k)
-does-shift F G p n k d hn hk = does-as d (ap F hn) (ap G hk)
-
 -- the same function said otherwise
 does-same : {m m′ : Writing} {p : ℕ} {xs : List Event} {q : List ℕ} → ((e : ActionEncoder) → m e ≡ m′ e) → Does m′ p xs q → Does m p xs q
 does-same h d = record { does = λ e k. h e ∙ d .does e k }
@@ -701,58 +696,54 @@ after-assoc (err x) k l = refl
 after-assoc panicked k l = refl
 
 -- the labels of an action's index are recorded before it
-does-labelled : {w : Writing} {xs : List Event} {q : List ℕ} (es : List Entry) (i : ActionIndex) (p : ℕ) → Does w p xs q
-    → Does (write-labelled (labels-per-pos es) (i .index) w) p (labelsAt es i (position p) ++ xs) q
+does-labelled : {w : Writing} {xs : List Event} {q : List ℕ} (es : List Entry) (i : ActionIndex) (s : Position) → Does w (s .at) xs q
+    → Does (write-labelled (labels-per-pos es) (i .index) w) (s .at) (labelsAt es i s ++ xs) q
 unfolding write-labelled
-does-labelled es i p d = does-then (does-entries es i p) (does-at d (omega arith))
+does-labelled es i s d = does-then (does-entries es i s) (does-at d (omega arith))
 
 mutual
   unfolding trace bytes moved write-action tryPayload after count
 
   -- write_action does what the definitions trace, and writes their bytes
-  does-action : (a : Action) → Well a → (p : ℕ) → Does (write-action a) p (trace a (position p)) (bytes blank a p)
-  does-action (flat f) h p = does-flat f p (position p)
-  does-action (branch k l) h p = does-branch k l p
-  does-action (owner d b) h p =
-      let n : ℕ = p + (5 + length (ownerFields d)) in
-      does-owner b p (bodySize b) (position p) (length-body blank b n) d (h .0)
-      (does-body b (h .1) n)
-  does-action (Try b c f) h p =
-      let n : ℕ = p + (10 + length (catchName c)) in
-      let n₁ : ℕ = n + bodySize b in
-      let n₂ : ℕ = n + (bodySize b + catchSize c) in
-      does-try b c f p (bodySize b) (catchSize c) (finallySize f) (position p)
-      (length-body blank b n) (length-catch blank c n₁) (length-finally blank f n₂)
-      (does-body b (h .1) n) (does-catch c (h .2) n₁) (does-finally f (h .3) n₂)
+  does-action : (a : Action) → Well a → (s : Position) → Does (write-action a) (s .at) (trace a s) (bytes blank a (s .at))
+  does-action (flat f) h s = does-flat f (s .at) s
+  does-action (branch k l) h s = does-branch k l s
+  does-action (owner d b) h s =
+      let t : Position = toBody d s in
+      does-owner b (s .at) (bodySize b) s (length-body blank b (t .at)) d (h .0)
+      (does-body b (h .1) t)
+  does-action (Try b c f) h s =
+      let t : Position = toTry c s in
+      let t₁ : Position = toCatch b c s in
+      let t₂ : Position = toFinally b c s in
+      does-try b c f (s .at) (bodySize b) (catchSize c) (finallySize f) s
+      (length-body blank b (t .at)) (length-catch blank c (t₁ .at)) (length-finally blank f (t₂ .at))
+      (does-body b (h .1) t) (does-catch c (h .2) t₁) (does-finally f (h .3) t₂)
 
   -- write_actions, from index i on; j is the index after the last
-  does-each : (xs : ActionList) → WellActions xs → (es : List Entry) (i : ActionIndex) (j p : ℕ) → j ≡ i .index + count xs
-      → Does (write-each (labels-per-pos es) (i .index) xs >> insert-labels (get j (labels-per-pos es))) p
-      (traces xs es i (position p)) (actionsBytes blank xs p)
-  does-each empty h es i j p e =
+  does-each : (xs : ActionList) → WellActions xs → (es : List Entry) (i : ActionIndex) (j : ℕ) (s : Position) → j ≡ i .index + count xs
+      → Does (write-each (labels-per-pos es) (i .index) xs >> insert-labels (get j (labels-per-pos es))) (s .at)
+      (traces xs es i s) (actionsBytes blank xs (s .at))
+  does-each empty h es i j s e =
       let e′ : j ≡ i .index = omega arith in
-      rw e′ (does-entries es i p)
-  does-each (more a xs) h es i j p e =
-      let n : ℕ = p + length (bytes blank a p) in
-      let en : n ≡ p + size a = ap (λ (m : ℕ). p + m) (length-bytes blank a p) in
+      rw e′ (does-entries es i s)
+  does-each (more a xs) h es i j s e =
+      let en : s .at + length (bytes blank a (s .at)) ≡ s .at + size a = ap (λ (m : ℕ). s .at + m) (length-bytes blank a (s .at)) in
       let e′ : j ≡ i .index + 1 + count xs = omega arith in
       let first : Writing = write-labelled (labels-per-pos es) (i .index) (write-action a) in
       let last : Writing = insert-labels (get j (labels-per-pos es)) in
-      let ys : List Event = traces xs es (nextAction i) (position (p + size a)) in
       does-as
       (does-same (λ u. after-assoc (first u) (write-each (labels-per-pos es) (i .index + 1) xs) last)
-      (does-then (does-labelled es i p (does-action a (h .0) p))
-      (does-shift (λ m. traces xs es (nextAction i) (position m)) (λ m. actionsBytes blank xs m) n (p + size a) (p + size a)
-      (does-each xs (h .1) es (nextAction i) j n e′) en en)))
-      (append-assoc (labelsAt es i (position p)) (trace a (position p)) ys) refl
+      (does-then (does-labelled es i s (does-action a (h .0) s)) (does-at (does-each xs (h .1) es (nextAction i) j (past a s) e′) en)))
+      (append-assoc (labelsAt es i s) (trace a s) (traces xs es (nextAction i) (past a s))) refl
 
-  pub does-body : (b : Actions) → WellBody b → (p : ℕ) → Does (write-actions b) p (traceBody b (position p)) (bodyBytes blank b p)
-  does-body (body es xs) h p = does-each xs h es firstAction (count xs) p (omega arith)
+  pub does-body : (b : Actions) → WellBody b → (s : Position) → Does (write-actions b) (s .at) (traceBody b s) (bodyBytes blank b (s .at))
+  does-body (body es xs) h s = does-each xs h es firstAction (count xs) s (omega arith)
 
-  does-catch : (c : Catch) → WellCatch c → (p : ℕ) → Does (write-catch c) p (traceCatch c (position p)) (catchBytes blank c p)
-  does-catch noCatch h p = does-pass
-  does-catch (catch t b) h p = does-body b h p
+  does-catch : (c : Catch) → WellCatch c → (s : Position) → Does (write-catch c) (s .at) (traceCatch c s) (catchBytes blank c (s .at))
+  does-catch noCatch h s = does-pass
+  does-catch (catch t b) h s = does-body b h s
 
-  does-finally : (f : Finally) → WellFinally f → (p : ℕ) → Does (write-finally f) p (traceFinally f (position p)) (finallyBytes blank f p)
-  does-finally noFinally h p = does-pass
-  does-finally (finally b) h p = does-body b h p
+  does-finally : (f : Finally) → WellFinally f → (s : Position) → Does (write-finally f) (s .at) (traceFinally f s) (finallyBytes blank f (s .at))
+  does-finally noFinally h s = does-pass
+  does-finally (finally b) h s = does-body b h s

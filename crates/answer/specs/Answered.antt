@@ -12,7 +12,7 @@ use Rattle.layout.specs.Pack.{output}
 use Rattle.answer.specs.declared.Answer.{Answer}
 use Rattle.answer.specs.declared.Answer.the-variants as answer
 
--- the column "No." of document 01's table, and document 02's 14
+-- the column "No." of document 01's table, and document 02's 14 and 15
 unfoldable pub number : Answer → ℕ
 number (answer.Done n) = 0
 number (answer.SheetTooLong n) = 1
@@ -27,6 +27,7 @@ number (answer.BlockLenOverflow n) = 9
 number (answer.JumpOffsetOverflow bits) = 10
 number (answer.NoRoom n) = 11
 number (answer.NeverRecorded p) = 14
+number (answer.StrayBranch p) = 15
 
 -- the column "Value, and when"; 10 carries the 64 bits of a signed distance
 unfoldable pub value : Answer → ℤ
@@ -43,6 +44,7 @@ value (answer.BlockLenOverflow n) = pos n
 value (answer.JumpOffsetOverflow bits) = signed64 bits
 value (answer.NoRoom n) = pos n
 value (answer.NeverRecorded p) = pos (p .0)
+value (answer.StrayBranch p) = pos (p .0)
 
 -- the value that an answer's number and 64 bits tell: only the bits of 10 are signed
 unfoldable pub valueBy : ℕ → ℕ → ℤ

@@ -19,6 +19,7 @@ pub enum Answer {
     JumpOffsetOverflow(u64),
     NoRoom(usize),
     NeverRecorded(BytePosition),
+    StrayBranch(BytePosition),
 }
 
 // The answer's number.
@@ -39,6 +40,7 @@ pub fn number_of(a: Answer) -> u32
         Answer::JumpOffsetOverflow(_) => 10,
         Answer::NoRoom(_) => 11,
         Answer::NeverRecorded(_) => 14,
+        Answer::StrayBranch(_) => 15,
     }
 }
 
@@ -60,5 +62,6 @@ pub fn value_of(a: Answer) -> u64
         Answer::JumpOffsetOverflow(bits) => bits,
         Answer::NoRoom(n) => n as u64,
         Answer::NeverRecorded(p) => p.0 as u64,
+        Answer::StrayBranch(p) => p.0 as u64,
     }
 }

@@ -19,12 +19,12 @@ use Rattle.layout.specs.Tree.{Entry, entry, ActionIndex, ActionOf, ActionListOf
 use Rattle.layout.specs.Read.{Text, edition1, Place, placed, Read, got, bad, Reader, chain, repeat, readU16, readEntries, readFields, readFieldsIf, readAction, readActions, readBodyWith, readBody}
 use Rattle.layout.specs.Strings.{mapAction, mapActions, mapBody, mapFlat}
 use Rattle.layout.specs.Payload.{opcode, payload, headed, framed}
-use Rattle.layout.specs.Write.{size, sizes, bodySize, Position, moved, Event, eventIf, labelAt, payloadTest, bodyTest, labelsAt, trace, traces, traceBody}
+use Rattle.layout.specs.Write.{size, sizes, bodySize, Position, position, moved, Event, eventIf, labelAt, payloadTest, bodyTest, labelsAt, trace, traces, traceBody}
 use Rattle.layout.specs.Lengths.{total}
 use Rattle.layout.specs.Pack.{spelling}
 use Rattle.laws.specs.ReadFits.{good-got, action-good, body-good}
 use Rattle.laws.specs.Packed.{spells}
-use Rattle.labels.specs.Table.{entriesAt, due, Rising, recordAll}
+use Rattle.labels.specs.Table.{entriesAt, due, Rising, Tables, recordAll, recorded, positionOf}
 use Rattle.positions.specs.declared.BytePosition.{BytePosition}
 use Rattle.opcode.specs.Listed.{listed, isSome}
 use Rattle.positions.specs.declared.Scan.{Scan}
@@ -36,7 +36,7 @@ use Rattle.operands.proofs.Reading.{u8-in, u8-out}
 use Rattle.measure.specs.declared.Laid.{Laid}
 use Rattle.measure.specs.declared.Laid.the-variants as laid
 use Rattle.laws.specs.Resolved.{actionSize, actionTrace, bodyLength, bodyEvents}
-use Rattle.measure.specs.Walk.{State, state, notedIf, firstLong, noteAll, run, Outcome, done, fault, outcome, Ran, ran, stopped, inBodies, bodyTests, bodiesEvents, Laying, flat, to-label, bodies, stops}
+use Rattle.measure.specs.Walk.{State, state, notedIf, firstLong, noteAll, run, Outcome, done, fault, outcome, Ran, ran, stopped, inBodies, bodyTests, bodiesEvents, Owning, Laying, flat, to-label, bodies, function, stops}
 use Rattle.measure.proofs.Longs.{Apt, first-apt, noted-twice}
 use Rattle.measure.proofs.Runs.{outcome-got, run-append, run-none, run-body, noted-short}
 use Rattle.front.specs.Front.{Front, readFront, Fronted}
@@ -65,8 +65,8 @@ ran-fault s e = rw e stopped
 
 -- ---- an outcome and the reading
 
-module _ {A : Type 0} (sz : A → ℕ) (tr : A → ℕ → List Event) (pos : ℕ) (s : State) where
-  pub outcome-is : {q w : ℕ} {u : State} (x : Read A) → outcome sz tr pos s x ≡ done q w u → (a : A) × (x ≡ got a (placed q)) × (w ≡ pos + sz a) × (u ≡ run (tr a pos) s)
+module _ {A : Type 0} (sz : A → ℕ) (tr : A → Position → List Event) (from : Position) (s : State) where
+  pub outcome-is : {q w : ℕ} {u : State} (x : Read A) → outcome sz tr from s x ≡ done q w u → (a : A) × (x ≡ got a (placed q)) × (w ≡ from .at + sz a) × (u ≡ run (tr a from) s)
   unfolding outcome
   outcome-is (got a p) e = (a, ap (got a) (place-is p cc), cc, cc)
     where
@@ -77,17 +77,37 @@ module _ {A : Type 0} (sz : A → ℕ) (tr : A → ℕ → List Event) (pos : �
       absurd (omega arith)
 
   -- a fault goes past what would have followed
-  pub fault-then : {B : Type 0} (sz′ : B → ℕ) (tr′ : B → ℕ → List Event) (pos′ : ℕ) (s′ : State) {f : Fault} {p : ℕ} (x : Read A) (k : A → Reader B)
-      → outcome sz tr pos s x ≡ fault f p → outcome sz′ tr′ pos′ s′ (chain x k) ≡ fault f p
+  pub fault-then : {B : Type 0} (sz′ : B → ℕ) (tr′ : B → Position → List Event) (from′ : Position) (s′ : State) {f : Fault} {p : ℕ} (x : Read A) (k : A → Reader B)
+      → outcome sz tr from s x ≡ fault f p → outcome sz′ tr′ from′ s′ (chain x k) ≡ fault f p
   unfolding outcome
-  fault-then sz′ tr′ pos′ s′ (got a q) k e =
+  fault-then sz′ tr′ from′ s′ (got a q) k e =
       let z : _≡_ {A = ℕ} 0 1 = cc in
       absurd (omega arith)
-  fault-then sz′ tr′ pos′ s′ (bad g q) k e = e
+  fault-then sz′ tr′ from′ s′ (bad g q) k e = e
 
-  pub outcome-no : {f : answers.Fault} {p : ℕ} {x : Read A} → x ≡ bad f (placed p) → outcome sz tr pos s x ≡ fault (faultOf f) p
+  pub outcome-no : {f : answers.Fault} {p : ℕ} {x : Read A} → x ≡ bad f (placed p) → outcome sz tr from s x ≡ fault (faultOf f) p
   unfolding outcome
   outcome-no e = rw e
+
+-- ---- what a payload's answer tells of the bodies behind it
+
+module _ {read : Reader (ActionsOf Text ℕ) → Read (ActionOf Text ℕ)} {at end pos : ℕ} {over over′ : List ℕ} where
+  pub did-bodies : {l : Laid} {q n : ℕ} {w : BytePosition} → Laying read at end pos over over′ l → l ≡ laid.Bodies q w n → Owning read at end pos over over′ q w n (λ home. home)
+  did-bodies {q = q} {n = n} {w = w} y e = go (rw e at y)
+    where
+      go : Laying read at end pos over over′ (laid.Bodies q w n) → Owning read at end pos over over′ q w n (λ home. home)
+      go (bodies least o) = o
+
+  pub did-function : {l : Laid} {q : ℕ} {w : BytePosition} → Laying read at end pos over over′ l → l ≡ laid.Function q w → Owning read at end pos over over′ q w 1 (λ home. w .0)
+  did-function {q = q} {w = w} y e = go (rw e at y)
+    where
+      go : Laying read at end pos over over′ (laid.Function q w) → Owning read at end pos over over′ q w 1 (λ home. w .0)
+      go (function o) = o
+
+-- there is room for them
+pub owned-place : {read : Reader (ActionsOf Text ℕ) → Read (ActionOf Text ℕ)} {b over over′ : List ℕ} {at q n : ℕ} {pos w : BytePosition} {inside : ℕ → ℕ}
+    → Owning read at (length b) (pos .0) over over′ q w n inside → Roomy b at pos → Roomy b q w
+owned-place o r = record { bytes = r .bytes; inside = o .onward .within; room = omega (arith, r .room, r .inside, o .onward .beyond, o .onward .within, o .onward .written) }
 
 -- ---- an action
 
@@ -103,12 +123,12 @@ module _ (b : List ℕ) (d at : ℕ) where
   unfolding readAction
   action-in h = rw (u8-in b at (omega arith))
 
-  module _ (pos : BytePosition) (tab over : List ℕ) where
+  module _ (pos home : BytePosition) (tab : Tables) (over : List ℕ) where
     abbrev Out : Outcome
-    Out = outcome actionSize actionTrace (pos .0) (state tab over) theAction
+    Out = outcome actionSize actionTrace (positionOf pos home) (state tab over) theAction
 
     pub did-out : length b ≤ at → Ran Out (scan.Stops (faultOf CutShort) at) (state tab over)
-    did-out h = ran-fault _ (outcome-no actionSize actionTrace (pos .0) _ (action-out h))
+    did-out h = ran-fault _ (outcome-no actionSize actionTrace (positionOf pos home) _ (action-out h))
 
     module _ (h : at < length b) where
       -- an opcode under 80 hex is a whole action
@@ -116,11 +136,11 @@ module _ (b : List ℕ) (d at : ℕ) where
       unfolding outcome mapAction mapFlat size trace opcode payload framed headed byte payloadTest eventIf readFields isSome readFieldsIf
       did-small l e = go (opcodeOf (getD b at 0)) refl (unfold listed in e)
         where
-          of-small : (x : SmallOpCode) → smallByte x < 128 → outcome actionSize actionTrace (pos .0) (state tab over) (got (flat (Small x)) (placed (at + 1))) ≡ done (at + 1) (pos .0 + 1) (state tab over)
+          of-small : (x : SmallOpCode) → smallByte x < 128 → outcome actionSize actionTrace (positionOf pos home) (state tab over) (got (flat (Small x)) (placed (at + 1))) ≡ done (at + 1) (pos .0 + 1) (state tab over)
           of-small x k = rw (lt-ltb (smallByte x) 128 k) (ap (done (at + 1) (pos .0 + 1)) (run-none (state tab over)))
 
           of : (x : OpCode) → byte x < 128
-              → outcome actionSize actionTrace (pos .0) (state tab over) (readFields edition1 b (readBody edition1 b d) x (placed (at + 1))) ≡ done (at + 1) (pos .0 + 1) (state tab over)
+              → outcome actionSize actionTrace (positionOf pos home) (state tab over) (readFields edition1 b (readBody edition1 b d) x (placed (at + 1))) ≡ done (at + 1) (pos .0 + 1) (state tab over)
           of (OpCode.Small x) k = of-small x k
           of OpCode.GotoFrame k = absurd (omega arith)
           of OpCode.GetUrl k = absurd (omega arith)
@@ -153,7 +173,7 @@ module _ (b : List ℕ) (d at : ℕ) where
       did-unknown e = go (opcodeOf (getD b at 0)) refl (unfold listed in e)
         where
           go : (o : Option OpCode) → opcodeOf (getD b at 0) ≡ o → isSome o ≡ false → Ran Out (scan.Stops (faultOf UnknownCode) at) (state tab over)
-          go none f k = ran-fault _ (outcome-no actionSize actionTrace (pos .0) _ (action-in h ∙ rw f))
+          go none f k = ran-fault _ (outcome-no actionSize actionTrace (positionOf pos home) _ (action-in h ∙ rw f))
           go (some x) f k =
               let z : _≡_ {A = ℕ} 0 1 = cc in
               absurd (omega arith)
@@ -167,38 +187,31 @@ module _ (b : List ℕ) (d at : ℕ) where
         did-stops f q e = go (rw e at y)
           where
             go : Here (laid.Stops f q) → Ran Out (scan.Stops f q) (state tab over′)
-            go (stops g) = ran-fault _ (rw (action-in h) (g (readBody edition1 b d) (state tab over)))
+            go (stops g) = ran-fault _ (rw (action-in h) (g (readBody edition1 b d) (state tab over) (home .0)))
 
         pub did-flat : (q : ℕ) (w : BytePosition) → l ≡ laid.Flat q w → Ran Out (scan.Ends q w) (state tab over′)
         did-flat q w e = go (rw e at y)
           where
             go : Here (laid.Flat q w) → Ran Out (scan.Ends q w) (state tab over′)
-            go (flat g m) = ran-done (rw (action-in h) (g (readBody edition1 b d) tab))
+            go (flat g m) = ran-done (rw (action-in h) (g (readBody edition1 b d) tab (home .0)))
 
         pub did-branch : (q : ℕ) (w : BytePosition) (n : ℕ) → l ≡ laid.Branch q w n → Ran Out (scan.Ends q w) (state tab over′)
         did-branch q w n e = go (rw e at y)
           where
             go : Here (laid.Branch q w n) → Ran Out (scan.Ends q w) (state tab over′)
             go (to-label {k = k} i u v g) =
-                ran-done (rw (action-in h, ← v) (outcome-got actionSize actionTrace (pos .0) (state tab over) (g (readBody edition1 b d)) (unfold size mapAction in i) (unfold trace mapAction run recordAll noteAll in refl)))
+                ran-done (rw (action-in h, ← v) (outcome-got actionSize actionTrace (positionOf pos home) (state tab over) (g (readBody edition1 b d)) (unfold size mapAction in i) (unfold trace mapAction run recorded recordAll noteAll in refl)))
 
-        pub did-place : (q : ℕ) (w : BytePosition) (n : ℕ) → l ≡ laid.Bodies q w n → Roomy b at pos → Roomy b q w
-        did-place q w n e r = go (rw e at y)
-          where
-            go : Here (laid.Bodies q w n) → Roomy b q w
-            go (bodies least o g m) = record { bytes = r .bytes; inside = o .within; room = omega (arith, r .room, r .inside, o .beyond, o .within, o .written) }
-
-        pub did-bodies : (q : ℕ) (w : BytePosition) (n : ℕ) (r : Scan) (s′ : State) → l ≡ laid.Bodies q w n
-            → Ran (outcome (total bodyLength) bodiesEvents (w .0) (state tab over′) (repeat (readBody edition1 b d) n (placed q))) r s′ → Ran Out r s′
-        did-bodies q w n r s′ e o = go (rw e at y)
-          where
-            go : Here (laid.Bodies q w n) → Ran Out r s′
-            go (bodies least a g m) = rw (action-in h, g (readBody edition1 b d) tab) o
+      -- what its bodies come to
+      pub owned-ran : {over′ : List ℕ} {q n : ℕ} {w : BytePosition} {inside : ℕ → ℕ}
+          → Owning (λ inner. readFieldsIf edition1 b inner (opcodeOf (getD b at 0)) (placed at) (placed (at + 1))) at (length b) (pos .0) over over′ q w n inside
+          → {r : Scan} {s′ : State} → Ran (outcome (total bodyLength) bodiesEvents (position (w .0) (inside (home .0))) (state tab over′) (repeat (readBody edition1 b d) n (placed q))) r s′ → Ran Out r s′
+      owned-ran o k = rw (action-in h, o .runs (readBody edition1 b d) tab (home .0)) k
 
 -- ---- the actions of a body, from index i on
 
-abbrev pub outcomes : List Entry → ℕ → ℕ → State → Read (ActionListOf Text ℕ) → Outcome
-outcomes es i w s x = outcome (λ xs. sizes (mapActions spelling xs)) (λ xs p. traces (mapActions spelling xs) es (record { index = i }) (record { at = p })) w s x
+abbrev pub outcomes : List Entry → ℕ → Position → State → Read (ActionListOf Text ℕ) → Outcome
+outcomes es i w s x = outcome (λ xs. sizes (mapActions spelling xs)) (λ xs p. traces (mapActions spelling xs) es (record { index = i }) p) w s x
 
 module _ (b : List ℕ) (inner : Reader (ActionsOf Text ℕ)) where
   actions-none : (n p : ℕ) → n ≤ 0 → readActions edition1 b inner n (placed p) ≡ got empty (placed p)
@@ -212,23 +225,23 @@ module _ (b : List ℕ) (inner : Reader (ActionsOf Text ℕ)) where
   actions-more zero p h = absurd (omega arith)
   actions-more (suc n) p h = simp sub-one
 
-  module _ (es : List Entry) (i w : ℕ) (s : State) (n p : ℕ) where
+  module _ (es : List Entry) (i : ℕ) (w : Position) (s : State) (n p : ℕ) where
     abbrev labels : List Event
-    labels = labelsAt es (record { index = i }) (record { at = w })
+    labels = labelsAt es (record { index = i }) w
 
     step-done : (q x : ℕ) (u : State) → 0 < n → outcome actionSize actionTrace w (run labels s) (readAction edition1 b inner (placed p)) ≡ done q x u
-        → outcomes es i w s (readActions edition1 b inner n (placed p)) ≡ outcomes es (i + 1) x u (readActions edition1 b inner (n - 1) (placed q))
+        → outcomes es i w s (readActions edition1 b inner n (placed p)) ≡ outcomes es (i + 1) (position x (w .home)) u (readActions edition1 b inner (n - 1) (placed q))
     unfolding outcome sizes traces mapActions moved
     step-done q x u h e =
         let o = outcome-is actionSize actionTrace w (run labels s) (readAction edition1 b inner (placed p)) e in
         go (o .0) (o .1) (o .2) (o .3) (readActions edition1 b inner (n - 1) (placed q)) refl
       where
-        go : (a : ActionOf Text ℕ) → readAction edition1 b inner (placed p) ≡ got a (placed q) → x ≡ w + actionSize a → u ≡ run (actionTrace a w) (run labels s)
+        go : (a : ActionOf Text ℕ) → readAction edition1 b inner (placed p) ≡ got a (placed q) → x ≡ w .at + actionSize a → u ≡ run (actionTrace a w) (run labels s)
             → (y : Read (ActionListOf Text ℕ)) → readActions edition1 b inner (n - 1) (placed q) ≡ y
-            → outcomes es i w s (readActions edition1 b inner n (placed p)) ≡ outcomes es (i + 1) x u (readActions edition1 b inner (n - 1) (placed q))
+            → outcomes es i w s (readActions edition1 b inner n (placed p)) ≡ outcomes es (i + 1) (position x (w .home)) u (readActions edition1 b inner (n - 1) (placed q))
         go a f c g (got xs r) k =
-            let l : w + (actionSize a + sizes (mapActions spelling xs)) ≡ w + actionSize a + sizes (mapActions spelling xs) = omega arith in
-            let z : List Event = traces (mapActions spelling xs) es (record { index = i + 1 }) (record { at = w + actionSize a }) in
+            let l : w .at + (actionSize a + sizes (mapActions spelling xs)) ≡ w .at + actionSize a + sizes (mapActions spelling xs) = omega arith in
+            let z : List Event = traces (mapActions spelling xs) es (record { index = i + 1 }) (position (w .at + actionSize a) (w .home)) in
             rw (actions-more n p h, f, k, c, g, l, run-append labels (actionTrace a w ++ z) s, run-append (actionTrace a w) z (run labels s))
         go a f c g (bad m r) k = rw (actions-more n p h, f, k)
 
@@ -236,10 +249,10 @@ module _ (b : List ℕ) (inner : Reader (ActionsOf Text ℕ)) where
         → outcomes es i w s (readActions edition1 b inner n (placed p)) ≡ fault f v
     step-fault f v h e = rw (actions-more n p h) (fault-then actionSize actionTrace w (run labels s) _ _ w s (readAction edition1 b inner (placed p)) _ e)
 
-    step-end : n ≤ 0 → outcomes es i w s (readActions edition1 b inner n (placed p)) ≡ done p w (run labels s)
+    step-end : n ≤ 0 → outcomes es i w s (readActions edition1 b inner n (placed p)) ≡ done p (w .at) (run labels s)
     unfolding outcome sizes traces mapActions
     step-end h =
-        let l : w + 0 ≡ w = omega arith in
+        let l : w .at + 0 ≡ w .at = omega arith in
         rw (actions-none n p h, l)
 
 -- ---- a body
@@ -281,7 +294,7 @@ pub record Facts (b : List ℕ) (at end n d : ℕ) : Type 0 where
   pub inside : end ≤ length b
   pub place : end ≡ at + 4 + 4 * n
   pub rising : Rising 1024 0 (entriesAt b n (at + 2))
-  pub start : (pos : ℕ) (s : State)
+  pub start : (pos : Position) (s : State)
       → outcomes (entriesAt b n (at + 2)) 0 pos s (readActions edition1 b (readBody edition1 b d) (u16At b (end - 2)) (placed end)) ≡ outcome bodyLength bodyEvents pos s (readBody edition1 b (d + 1) (placed at))
 
 pub facts : (b : List ℕ) (at end n d : ℕ) → at ≤ length b → Fronted b at end → n ≡ u16At b at → Facts b at end n d
@@ -296,7 +309,7 @@ facts b at end n d l f e = go (f .front) (f .reads) (front-read b at end (f .fro
       start = λ pos s. rw (body-step b at d, a, e, ← p .same, ← p .counted) (last pos s (readActions edition1 b (readBody edition1 b d) (g .count) (placed end)));
     }
       where
-        last : (pos : ℕ) (s : State) (x : Read (ActionListOf Text ℕ)) → outcomes (g .entries) 0 pos s x ≡ outcome bodyLength bodyEvents pos s (chain x (λ xs r. got (body (g .entries) xs) r))
+        last : (pos : Position) (s : State) (x : Read (ActionListOf Text ℕ)) → outcomes (g .entries) 0 pos s x ≡ outcome bodyLength bodyEvents pos s (chain x (λ xs r. got (body (g .entries) xs) r))
         last pos s (got xs r) = refl
         last pos s (bad k r) = refl
 
@@ -305,7 +318,7 @@ body-less b at d h =
     let e : d - 1 + 1 ≡ d = omega arith in
     rw e
 
-module _ (b : List ℕ) (at d pos : ℕ) (s : State) where
+module _ (b : List ℕ) (at d : ℕ) (pos : Position) (s : State) where
   pub body-stops : (w : ℕ) (r : Scan) (f : Fault) (q : ℕ) (s′ : State) → (d ≡ 0 → ⊥) → r ≡ scanned (λ _. 0) w (readFront b (placed at)) → r ≡ scan.Stops f q
       → Ran (outcome bodyLength bodyEvents pos s (readBody edition1 b d (placed at))) (scan.Stops f q) s′
   body-stops w r f q s′ h k e = let z = stops-is (λ _. 0) w (readFront b (placed at)) k e in go (z .0) (z .1) (z .2)
@@ -329,56 +342,59 @@ labels-quiet (entry l k ∷ es) j s over = go (eqb (j .index) (k .index)) (label
 
 -- ---- the loop over a body's actions: what is left gives what the whole gives
 
-pub record Going (b : List ℕ) (at d pos : ℕ) (s₀ : State) (n count next i p : ℕ) (w : BytePosition) (tab over : List ℕ) : Type 0 where
-  pub same : outcomes (entriesAt b n (at + 2)) i (w .0) (state tab over) (readActions edition1 b (readBody edition1 b d) (count - i) (placed p)) ≡ outcome bodyLength bodyEvents pos s₀ (readBody edition1 b (d + 1) (placed at))
+pub record Going (b : List ℕ) (at d : ℕ) (pos home : BytePosition) (s₀ : State) (n count next i p : ℕ) (w : BytePosition) (tab : Tables) (over : List ℕ) : Type 0 where
+  pub same : outcomes (entriesAt b n (at + 2)) i (positionOf w home) (state tab over) (readActions edition1 b (readBody edition1 b d) (count - i) (placed p)) ≡ outcome bodyLength bodyEvents (positionOf pos home) s₀ (readBody edition1 b (d + 1) (placed at))
   pub roomy : Roomy b p w
   pub counted : i ≤ count
   pub is-due : next ≡ due (entriesAt b n (at + 2)) (65536 * i)
-  pub full : length tab ≡ 1024
+  pub full : length (tab .positions) ≡ 1024
+  pub homes-full : length (tab .homes) ≡ length (s₀ .labels .homes)
   pub two : length over ≡ 2
 
-module _ (b : List ℕ) (at d : ℕ) (pos : BytePosition) (end n count : ℕ) (tab₀ over₀ : List ℕ) (f : Facts b at end n d) where
-  pub going-start : (next : ℕ) → Ready b at pos tab₀ over₀ → count ≡ u16At b (end - 2) → next ≡ due (entriesAt b n (at + 2)) 0
-      → Going b at d (pos .0) (state tab₀ over₀) n count next 0 end pos tab₀ over₀
+module _ (b : List ℕ) (at d : ℕ) (pos home : BytePosition) (end n count : ℕ) (tab₀ : Tables) (over₀ : List ℕ) (f : Facts b at end n d) where
+  pub going-start : (next : ℕ) → Ready b at pos (tab₀ .positions) over₀ → count ≡ u16At b (end - 2) → next ≡ due (entriesAt b n (at + 2)) 0
+      → Going b at d pos home (state tab₀ over₀) n count next 0 end pos tab₀ over₀
   going-start next r e g =
       let l : count - 0 ≡ u16At b (end - 2) = omega arith in
       record {
-        same = rw l (f .start (pos .0) (state tab₀ over₀));
+        same = rw l (f .start (positionOf pos home) (state tab₀ over₀));
         roomy = record { bytes = r .roomy .bytes; inside = f .inside; room = omega (arith, r .roomy .room, r .roomy .inside, f .inside, f .place) };
         counted = omega arith;
         is-due = g;
         full = r .full;
+        homes-full = refl;
         two = r .two;
       }
 
-  module _ (next i p : ℕ) (w : BytePosition) (tab over tab₁ : List ℕ) (g : Going b at d (pos .0) (state tab₀ over₀) n count next i p w tab over)
-      (m : tab₁ ≡ recordAll (labelsAt (entriesAt b n (at + 2)) (record { index = i }) (record { at = w .0 })) tab) where
-    marked : state tab₁ over ≡ run (labelsAt (entriesAt b n (at + 2)) (record { index = i }) (record { at = w .0 })) (state tab over)
+  module _ (next i p : ℕ) (w : BytePosition) (tab : Tables) (over : List ℕ) (tab₁ : Tables) (g : Going b at d pos home (state tab₀ over₀) n count next i p w tab over)
+      (m : tab₁ ≡ recorded (labelsAt (entriesAt b n (at + 2)) (record { index = i }) (positionOf w home)) tab) where
+    marked : state tab₁ over ≡ run (labelsAt (entriesAt b n (at + 2)) (record { index = i }) (positionOf w home)) (state tab over)
     unfolding run
-    marked = ap₂ state m (sym (labels-quiet (entriesAt b n (at + 2)) (record { index = i }) (record { at = w .0 }) over))
+    marked = ap₂ state m (sym (labels-quiet (entriesAt b n (at + 2)) (record { index = i }) (positionOf w home) over))
 
-    module _ (r : Scan) (tab₂ over₂ : List ℕ) (h : i < count) (o : Ran (outcome actionSize actionTrace (w .0) (state tab₁ over) (theAction b d p)) r (state tab₂ over₂)) where
-      pub going-bad : (k : Fault) (v : ℕ) → r ≡ scan.Stops k v → Ran (outcome bodyLength bodyEvents (pos .0) (state tab₀ over₀) (readBody edition1 b (d + 1) (placed at))) (scan.Stops k v) (state tab₂ over₂)
-      going-bad k v e = ran-fault _ (sym (g .same) ∙ step-fault b (readBody edition1 b d) (entriesAt b n (at + 2)) i (w .0) (state tab over) (count - i) p k v (omega arith) (rw marked at (ran-bad o e)))
+    module _ (r : Scan) (tab₂ : Tables) (over₂ : List ℕ) (h : i < count) (o : Ran (outcome actionSize actionTrace (positionOf w home) (state tab₁ over) (theAction b d p)) r (state tab₂ over₂)) where
+      pub going-bad : (k : Fault) (v : ℕ) → r ≡ scan.Stops k v → Ran (outcome bodyLength bodyEvents (positionOf pos home) (state tab₀ over₀) (readBody edition1 b (d + 1) (placed at))) (scan.Stops k v) (state tab₂ over₂)
+      going-bad k v e = ran-fault _ (sym (g .same) ∙ step-fault b (readBody edition1 b d) (entriesAt b n (at + 2)) i (positionOf w home) (state tab over) (count - i) p k v (omega arith) (rw marked at (ran-bad o e)))
 
-      pub going-more : (q : ℕ) (x : BytePosition) (next′ : ℕ) → r ≡ scan.Ends q x → next′ ≡ due (entriesAt b n (at + 2)) (65536 * (i + 1)) → length tab₂ ≡ 1024 → length over₂ ≡ 2
-          → Going b at d (pos .0) (state tab₀ over₀) n count next′ (i + 1) q x tab₂ over₂
-      going-more q x next′ e a c t =
+      pub going-more : (q : ℕ) (x : BytePosition) (next′ : ℕ) → r ≡ scan.Ends q x → next′ ≡ due (entriesAt b n (at + 2)) (65536 * (i + 1)) → length (tab₂ .positions) ≡ 1024 → length (tab₂ .homes) ≡ length (tab .homes) → length over₂ ≡ 2
+          → Going b at d pos home (state tab₀ over₀) n count next′ (i + 1) q x tab₂ over₂
+      going-more q x next′ e a c v t =
           let o′ = rw marked at (ran-is o e) in
-          let z = outcome-is actionSize actionTrace (w .0) _ (theAction b d p) o′ in
+          let z = outcome-is actionSize actionTrace (positionOf w home) _ (theAction b d p) o′ in
           let y = good-got (z .0) (placed q) (action-good edition1 b (g .roomy .bytes) spelling (Unit {0}) (spells b (g .roomy .bytes) edition1) (readBody edition1 b d) (body-good edition1 b (g .roomy .bytes) spelling (Unit {0}) (spells b (g .roomy .bytes) edition1) d) (placed p) (g .roomy .inside)) (z .1) in
           let l : count - (i + 1) ≡ count - i - 1 = omega arith in
           record {
-            same = rw l (sym (step-done b (readBody edition1 b d) (entriesAt b n (at + 2)) i (w .0) (state tab over) (count - i) p q (x .0) (state tab₂ over₂) (omega arith) o′) ∙ g .same);
+            same = rw l (sym (step-done b (readBody edition1 b d) (entriesAt b n (at + 2)) i (positionOf w home) (state tab over) (count - i) p q (x .0) (state tab₂ over₂) (omega arith) o′) ∙ g .same);
             roomy = record { bytes = g .roomy .bytes; inside = y .1; room = omega (arith, y .0 .1 tt, y .0 .2, y .1, z .2, g .roomy .room, g .roomy .inside) };
             counted = omega arith;
             is-due = a;
             full = c;
+            homes-full = v ∙ g .homes-full;
             two = t;
           }
 
-    pub going-end : count ≤ i → Ran (outcome bodyLength bodyEvents (pos .0) (state tab₀ over₀) (readBody edition1 b (d + 1) (placed at))) (scan.Ends p w) (state tab₁ over)
-    going-end h = ran-done (sym (g .same) ∙ step-end b (readBody edition1 b d) (entriesAt b n (at + 2)) i (w .0) (state tab over) (count - i) p (omega arith) ∙ ap (done p (w .0)) (sym marked))
+    pub going-end : count ≤ i → Ran (outcome bodyLength bodyEvents (positionOf pos home) (state tab₀ over₀) (readBody edition1 b (d + 1) (placed at))) (scan.Ends p w) (state tab₁ over)
+    going-end h = ran-done (sym (g .same) ∙ step-end b (readBody edition1 b d) (entriesAt b n (at + 2)) i (positionOf w home) (state tab over) (count - i) p (omega arith) ∙ ap (done p (w .0)) (sym marked))
 
 -- ---- the bodies after a payload
 
@@ -393,17 +409,18 @@ repeat-more one zero p h = absurd (omega arith)
 repeat-more one (suc n) p h = simp sub-one
 
 -- the loop: `waiting` are the tests of the bodies already read
-pub record Bodying (one : Reader (ActionsOf Text ℕ)) (b : List ℕ) (n at pos : ℕ) (s₀ : State) (left p : ℕ) (w : BytePosition) (kept : ℕ) (tab over : List ℕ) : Type 0 where
+pub record Bodying (one : Reader (ActionsOf Text ℕ)) (b : List ℕ) (n at : ℕ) (pos home : BytePosition) (s₀ : State) (left p : ℕ) (w : BytePosition) (kept : ℕ) (tab : Tables) (over : List ℕ) : Type 0 where
   pub waiting : List Event
-  pub same : outcome (total bodyLength) (λ xs q. inBodies xs q ++ (waiting ++ bodyTests xs pos)) (w .0) (state tab over) (repeat one left (placed p)) ≡ outcome (total bodyLength) bodiesEvents pos s₀ (repeat one n (placed at))
-  pub notes : (tab over : List ℕ) → length over ≡ 2 → run waiting (state tab over) ≡ state tab (notedIf 9 kept over)
+  pub same : outcome (total bodyLength) (λ xs q. inBodies xs q ++ (waiting ++ bodyTests xs (positionOf pos home))) (positionOf w home) (state tab over) (repeat one left (placed p)) ≡ outcome (total bodyLength) bodiesEvents (positionOf pos home) s₀ (repeat one n (placed at))
+  pub notes : (tab : Tables) (over : List ℕ) → length over ≡ 2 → run waiting (state tab over) ≡ state tab (notedIf 9 kept over)
   pub is-apt : Apt kept
   pub roomy : Roomy b p w
-  pub full : length tab ≡ 1024
+  pub full : length (tab .positions) ≡ 1024
+  pub homes-full : length (tab .homes) ≡ length (s₀ .labels .homes)
   pub two : length over ≡ 2
 
-module _ (d : ℕ) (b : List ℕ) (n at : ℕ) (pos : BytePosition) (tab₀ over₀ : List ℕ) where
-  pub bodying-start : Ready b at pos tab₀ over₀ → Bodying (readBody edition1 b d) b n at (pos .0) (state tab₀ over₀) n at pos 0 tab₀ over₀
+module _ (d : ℕ) (b : List ℕ) (n at : ℕ) (pos home : BytePosition) (tab₀ : Tables) (over₀ : List ℕ) where
+  pub bodying-start : Ready b at pos (tab₀ .positions) over₀ → Bodying (readBody edition1 b d) b n at pos home (state tab₀ over₀) n at pos 0 tab₀ over₀
   unfolding Apt outcome bodiesEvents
   bodying-start r = record {
     waiting = [];
@@ -412,17 +429,18 @@ module _ (d : ℕ) (b : List ℕ) (n at : ℕ) (pos : BytePosition) (tab₀ over
     is-apt = inl refl;
     roomy = r .roomy;
     full = r .full;
+    homes-full = refl;
     two = r .two;
   }
     where
       same-start : (x : Read (List (ActionsOf Text ℕ)))
-          → outcome (total bodyLength) (λ xs q. inBodies xs q ++ ([] ++ bodyTests xs (pos .0))) (pos .0) (state tab₀ over₀) x ≡ outcome (total bodyLength) bodiesEvents (pos .0) (state tab₀ over₀) x
+          → outcome (total bodyLength) (λ xs q. inBodies xs q ++ ([] ++ bodyTests xs (positionOf pos home))) (positionOf pos home) (state tab₀ over₀) x ≡ outcome (total bodyLength) bodiesEvents (positionOf pos home) (state tab₀ over₀) x
       same-start (got xs q) = refl
       same-start (bad k q) = refl
 
-  module _ (left p : ℕ) (w : BytePosition) (kept : ℕ) (tab over : List ℕ) (g : Bodying (readBody edition1 b d) b n at (pos .0) (state tab₀ over₀) left p w kept tab over) where
+  module _ (left p : ℕ) (w : BytePosition) (kept : ℕ) (tab : Tables) (over : List ℕ) (g : Bodying (readBody edition1 b d) b n at pos home (state tab₀ over₀) left p w kept tab over) where
     pub bodying-end : left ≤ 0 → (over′ : List ℕ) → over′ ≡ notedIf 9 kept over
-        → Ran (outcome (total bodyLength) bodiesEvents (pos .0) (state tab₀ over₀) (repeat (readBody edition1 b d) n (placed at))) (scan.Ends p w) (state tab over′)
+        → Ran (outcome (total bodyLength) bodiesEvents (positionOf pos home) (state tab₀ over₀) (repeat (readBody edition1 b d) n (placed at))) (scan.Ends p w) (state tab over′)
     unfolding outcome total inBodies bodyTests
     bodying-end h over′ e =
         let x = rw (repeat-none (readBody edition1 b d) left p h) at (g .same) in
@@ -430,41 +448,42 @@ module _ (d : ℕ) (b : List ℕ) (n at : ℕ) (pos : BytePosition) (tab₀ over
         let y : run (g .waiting ++ []) (state tab over) ≡ state tab over′ = rw e (simp append-nil (g .notes tab over (g .two))) in
         ran-done (sym x ∙ rw (l, y))
 
-    module _ (h : 0 < left) (r : Scan) (tab₂ over₂ : List ℕ) (o : Ran (outcome bodyLength bodyEvents (w .0) (state tab over) (readBody edition1 b d (placed p))) r (state tab₂ over₂)) where
+    module _ (h : 0 < left) (r : Scan) (tab₂ : Tables) (over₂ : List ℕ) (o : Ran (outcome bodyLength bodyEvents (positionOf w home) (state tab over) (readBody edition1 b d (placed p))) r (state tab₂ over₂)) where
       pub bodying-bad : (k : Fault) (v : ℕ) → r ≡ scan.Stops k v
-          → Ran (outcome (total bodyLength) bodiesEvents (pos .0) (state tab₀ over₀) (repeat (readBody edition1 b d) n (placed at))) (scan.Stops k v) (state tab₂ over₂)
-      bodying-bad k v e = ran-fault _ (sym (g .same) ∙ rw (repeat-more (readBody edition1 b d) left p h) (fault-then bodyLength bodyEvents (w .0) (state tab over) _ _ (w .0) (state tab over) (readBody edition1 b d (placed p)) _ (ran-bad o e)))
+          → Ran (outcome (total bodyLength) bodiesEvents (positionOf pos home) (state tab₀ over₀) (repeat (readBody edition1 b d) n (placed at))) (scan.Stops k v) (state tab₂ over₂)
+      bodying-bad k v e = ran-fault _ (sym (g .same) ∙ rw (repeat-more (readBody edition1 b d) left p h) (fault-then bodyLength bodyEvents (positionOf w home) (state tab over) _ _ (positionOf w home) (state tab over) (readBody edition1 b d (placed p)) _ (ran-bad o e)))
 
-      pub bodying-more : (q : ℕ) (x : BytePosition) (kept′ : ℕ) → r ≡ scan.Ends q x → kept′ ≡ firstLong kept (x .0 - w .0) → length tab₂ ≡ 1024 → length over₂ ≡ 2
-          → Bodying (readBody edition1 b d) b n at (pos .0) (state tab₀ over₀) (left - 1) q x kept′ tab₂ over₂
-      unfolding outcome total inBodies bodyTests
-      bodying-more q x kept′ e k a c =
-          let z = outcome-is bodyLength bodyEvents (w .0) _ (readBody edition1 b d (placed p)) (ran-is o e) in
+      pub bodying-more : (q : ℕ) (x : BytePosition) (kept′ : ℕ) → r ≡ scan.Ends q x → kept′ ≡ firstLong kept (x .0 - w .0) → length (tab₂ .positions) ≡ 1024 → length (tab₂ .homes) ≡ length (tab .homes) → length over₂ ≡ 2
+          → Bodying (readBody edition1 b d) b n at pos home (state tab₀ over₀) (left - 1) q x kept′ tab₂ over₂
+      unfolding outcome total inBodies bodyTests moved
+      bodying-more q x kept′ e k a u c =
+          let z = outcome-is bodyLength bodyEvents (positionOf w home) _ (readBody edition1 b d (placed p)) (ran-is o e) in
           go (z .0) (z .1) (z .2) (z .3)
         where
-          next-same : (t : ActionsOf Text ℕ) → readBody edition1 b d (placed p) ≡ got t (placed q) → x .0 ≡ w .0 + bodyLength t → state tab₂ over₂ ≡ run (bodyEvents t (w .0)) (state tab over)
+          next-same : (t : ActionsOf Text ℕ) → readBody edition1 b d (placed p) ≡ got t (placed q) → x .0 ≡ w .0 + bodyLength t → state tab₂ over₂ ≡ run (bodyEvents t (positionOf w home)) (state tab over)
               → (y : Read (List (ActionsOf Text ℕ))) → repeat (readBody edition1 b d) (left - 1) (placed q) ≡ y
-              → outcome (total bodyLength) (λ xs u. inBodies xs u ++ ((g .waiting ++ bodyTest (bodyLength t) (record { at = pos .0 })) ++ bodyTests xs (pos .0))) (x .0) (state tab₂ over₂) y
-              ≡ outcome (total bodyLength) (λ xs u. inBodies xs u ++ (g .waiting ++ bodyTests xs (pos .0))) (w .0) (state tab over) (repeat (readBody edition1 b d) left (placed p))
+              → outcome (total bodyLength) (λ xs u. inBodies xs u ++ ((g .waiting ++ bodyTest (bodyLength t) (positionOf pos home)) ++ bodyTests xs (positionOf pos home))) (positionOf x home) (state tab₂ over₂) y
+              ≡ outcome (total bodyLength) (λ xs u. inBodies xs u ++ (g .waiting ++ bodyTests xs (positionOf pos home))) (positionOf w home) (state tab over) (repeat (readBody edition1 b d) left (placed p))
           next-same t f i j (got xs u) m =
               let l : x .0 + total bodyLength xs ≡ w .0 + (bodyLength t + total bodyLength xs) = omega arith in
-              let v : (bodyEvents t (w .0) ++ inBodies xs (w .0 + bodyLength t)) ++ (g .waiting ++ (bodyTest (bodyLength t) (record { at = pos .0 }) ++ bodyTests xs (pos .0)))
-              ≡ bodyEvents t (w .0) ++ (inBodies xs (w .0 + bodyLength t) ++ ((g .waiting ++ bodyTest (bodyLength t) (record { at = pos .0 })) ++ bodyTests xs (pos .0))) = simp append-assoc in
-              rw (repeat-more (readBody edition1 b d) left p h, f, m, l, j, i, v, run-append (bodyEvents t (w .0)) (inBodies xs (w .0 + bodyLength t) ++ ((g .waiting ++ bodyTest (bodyLength t) (record { at = pos .0 })) ++ bodyTests xs (pos .0))) (state tab over))
+              let v : (bodyEvents t (positionOf w home) ++ inBodies xs (position (w .0 + bodyLength t) (home .0))) ++ (g .waiting ++ (bodyTest (bodyLength t) (positionOf pos home) ++ bodyTests xs (positionOf pos home)))
+              ≡ bodyEvents t (positionOf w home) ++ (inBodies xs (position (w .0 + bodyLength t) (home .0)) ++ ((g .waiting ++ bodyTest (bodyLength t) (positionOf pos home)) ++ bodyTests xs (positionOf pos home))) = simp append-assoc in
+              rw (repeat-more (readBody edition1 b d) left p h, f, m, l, j, i, v, run-append (bodyEvents t (positionOf w home)) (inBodies xs (position (w .0 + bodyLength t) (home .0)) ++ ((g .waiting ++ bodyTest (bodyLength t) (positionOf pos home)) ++ bodyTests xs (positionOf pos home))) (state tab over))
           next-same t f i j (bad k u) m = rw (repeat-more (readBody edition1 b d) left p h, f, m)
 
-          go : (t : ActionsOf Text ℕ) → readBody edition1 b d (placed p) ≡ got t (placed q) → x .0 ≡ w .0 + bodyLength t → state tab₂ over₂ ≡ run (bodyEvents t (w .0)) (state tab over)
-              → Bodying (readBody edition1 b d) b n at (pos .0) (state tab₀ over₀) (left - 1) q x kept′ tab₂ over₂
+          go : (t : ActionsOf Text ℕ) → readBody edition1 b d (placed p) ≡ got t (placed q) → x .0 ≡ w .0 + bodyLength t → state tab₂ over₂ ≡ run (bodyEvents t (positionOf w home)) (state tab over)
+              → Bodying (readBody edition1 b d) b n at pos home (state tab₀ over₀) (left - 1) q x kept′ tab₂ over₂
           go t f i j =
               let y = good-got t (placed q) (body-good edition1 b (g .roomy .bytes) spelling (Unit {0}) (spells b (g .roomy .bytes) edition1) d (placed p) (g .roomy .inside)) f in
               let m : x .0 - w .0 ≡ bodyLength t = omega arith in
               let k′ : kept′ ≡ firstLong kept (bodyLength t) = rw m at k in
               record {
-                waiting = g .waiting ++ bodyTest (bodyLength t) (record { at = pos .0 });
+                waiting = g .waiting ++ bodyTest (bodyLength t) (positionOf pos home);
                 same = next-same t f i j (repeat (readBody edition1 b d) (left - 1) (placed q)) refl ∙ g .same;
-                notes = λ tab over l. run-append (g .waiting) (bodyTest (bodyLength t) (record { at = pos .0 })) (state tab over) ∙ ap (run (bodyTest (bodyLength t) (record { at = pos .0 }))) (g .notes tab over l) ∙ run-body (bodyLength t) (record { at = pos .0 }) tab (notedIf 9 kept over) ∙ ap (state tab) (noted-twice kept (bodyLength t) over l (g .is-apt) ∙ ap (λ v. notedIf 9 v over) (sym k′));
+                notes = λ tab over l. run-append (g .waiting) (bodyTest (bodyLength t) (positionOf pos home)) (state tab over) ∙ ap (run (bodyTest (bodyLength t) (positionOf pos home))) (g .notes tab over l) ∙ run-body (bodyLength t) (positionOf pos home) tab (notedIf 9 kept over) ∙ ap (state tab) (noted-twice kept (bodyLength t) over l (g .is-apt) ∙ ap (λ v. notedIf 9 v over) (sym k′));
                 is-apt = rw k′ (first-apt kept (bodyLength t) (g .is-apt));
                 roomy = record { bytes = g .roomy .bytes; inside = y .1; room = omega (arith, y .0 .1 tt, y .0 .2, y .1, i, g .roomy .room, g .roomy .inside) };
                 full = a;
+                homes-full = u ∙ g .homes-full;
                 two = c;
               }

@@ -1,10 +1,11 @@
 // The walk of bodies and actions, front to back: it reads and checks (3 to 6), measures, records labels, and notes the first of 8
-// and 9.
+// and 9. `home` is the position at which the function body starts that it is in; only a function's body has another.
 ghost use Prim.Native.Nat.{_+_};
 ghost use Rattle.layout.specs.Read.{edition1, placed, readBody, readAction, repeat};
 ghost use Rattle.layout.specs.Lengths.{total};
 ghost use Rattle.laws.specs.Resolved.{actionSize, actionTrace, bodyLength, bodyEvents};
 ghost use Rattle.measure.specs.Walk.{state, outcome, Ran, bodiesEvents};
+ghost use Rattle.labels.specs.Table.{tables, positionOf};
 ghost use Rattle.front.specs.Front.{Fronted};
 ghost use Rattle.bodies.specs.Ready.{Ready};
 use fields::u16_at;
@@ -27,18 +28,22 @@ pub fn scan_body(
     at: usize,
     depth: usize,
     pos: BytePosition,
+    home: BytePosition,
     tab: &mut [usize],
+    homes: &mut [usize],
     over: &mut [usize],
 ) -> Scan
     requires { ⌜ Ready (now b) at pos (now tab) (now over) ⌝ }
-    ensures { λ r. ⌜ Ran (outcome bodyLength bodyEvents (pos .0) (state (now (tab .entry)) (now (over .entry))) (readBody edition1 (now (b .entry)) depth (placed at))) r (state (now (tab .exit)) (now (over .exit))) ⌝ }
+    ensures { λ r. ⌜ Ran (outcome bodyLength bodyEvents (positionOf pos home) (state (tables (now (tab .entry)) (now (homes .entry))) (now (over .entry))) (readBody edition1 (now (b .entry)) depth (placed at))) r (state (tables (now (tab .exit)) (now (homes .exit))) (now (over .exit))) ⌝ }
 {
     if depth == 0 {
         return Scan::Stops(Fault::TooDeep, at);
     }
     match scan_front(b, at, pos) {
         Scan::Stops(f, p) => Scan::Stops(f, p),
-        Scan::Ends(front, _) => scan_actions(b, at, front, depth - 1, pos, tab, over),
+        Scan::Ends(front, _) => {
+            scan_actions(b, at, front, depth - 1, pos, home, tab, homes, over)
+        },
     }
 }
 
@@ -49,11 +54,13 @@ fn scan_actions(
     front: usize,
     depth: usize,
     pos: BytePosition,
+    home: BytePosition,
     tab: &mut [usize],
+    homes: &mut [usize],
     over: &mut [usize],
 ) -> Scan
     requires { ⌜ Ready (now b) at pos (now tab) (now over) × Fronted (now b) at front ⌝ }
-    ensures { λ r. ⌜ Ran (outcome bodyLength bodyEvents (pos .0) (state (now (tab .entry)) (now (over .entry))) (readBody edition1 (now (b .entry)) (depth + 1) (placed at))) r (state (now (tab .exit)) (now (over .exit))) ⌝ }
+    ensures { λ r. ⌜ Ran (outcome bodyLength bodyEvents (positionOf pos home) (state (tables (now (tab .entry)) (now (homes .entry))) (now (over .entry))) (readBody edition1 (now (b .entry)) (depth + 1) (placed at))) r (state (tables (now (tab .exit)) (now (homes .exit))) (now (over .exit))) ⌝ }
 {
     let n = u16_at(b, at);
     let list = at + 2;
@@ -63,8 +70,8 @@ fn scan_actions(
     let mut p = front;
     let mut w = pos;
     while i < count {
-        next = record_labels(b, list, n, next, ActionIndex(i), w, tab);
-        match scan_action(b, p, depth, w, tab, over) {
+        next = record_labels(b, list, n, next, ActionIndex(i), w, home, tab, homes);
+        match scan_action(b, p, depth, w, home, tab, homes, over) {
             Scan::Stops(f, q) => {
                 return Scan::Stops(f, q);
             }
@@ -75,7 +82,7 @@ fn scan_actions(
         }
         i += 1;
     }
-    record_labels(b, list, n, next, ActionIndex(i), w, tab);
+    record_labels(b, list, n, next, ActionIndex(i), w, home, tab, homes);
     Scan::Ends(p, w)
 }
 
@@ -85,19 +92,21 @@ fn scan_bodies(
     at: usize,
     depth: usize,
     pos: BytePosition,
+    home: BytePosition,
     n: usize,
     tab: &mut [usize],
+    homes: &mut [usize],
     over: &mut [usize],
 ) -> Scan
     requires { ⌜ Ready (now b) at pos (now tab) (now over) ⌝ }
-    ensures { λ r. ⌜ Ran (outcome (total bodyLength) bodiesEvents (pos .0) (state (now (tab .entry)) (now (over .entry))) (repeat (readBody edition1 (now (b .entry)) depth) n (placed at))) r (state (now (tab .exit)) (now (over .exit))) ⌝ }
+    ensures { λ r. ⌜ Ran (outcome (total bodyLength) bodiesEvents (positionOf pos home) (state (tables (now (tab .entry)) (now (homes .entry))) (now (over .entry))) (repeat (readBody edition1 (now (b .entry)) depth) n (placed at))) r (state (tables (now (tab .exit)) (now (homes .exit))) (now (over .exit))) ⌝ }
 {
     let mut left = n;
     let mut p = at;
     let mut w = pos;
     let mut long = 0;
     while 0 < left {
-        match scan_body(b, p, depth, w, tab, over) {
+        match scan_body(b, p, depth, w, home, tab, homes, over) {
             Scan::Stops(f, q) => {
                 return Scan::Stops(f, q);
             }
@@ -119,11 +128,13 @@ fn scan_action(
     at: usize,
     depth: usize,
     pos: BytePosition,
+    home: BytePosition,
     tab: &mut [usize],
+    homes: &mut [usize],
     over: &mut [usize],
 ) -> Scan
     requires { ⌜ Ready (now b) at pos (now tab) (now over) ⌝ }
-    ensures { λ r. ⌜ Ran (outcome actionSize actionTrace (pos .0) (state (now (tab .entry)) (now (over .entry))) (readAction edition1 (now (b .entry)) (readBody edition1 (now (b .entry)) depth) (placed at))) r (state (now (tab .exit)) (now (over .exit))) ⌝ }
+    ensures { λ r. ⌜ Ran (outcome actionSize actionTrace (positionOf pos home) (state (tables (now (tab .entry)) (now (homes .entry))) (now (over .entry))) (readAction edition1 (now (b .entry)) (readBody edition1 (now (b .entry)) depth) (placed at))) r (state (tables (now (tab .exit)) (now (homes .exit))) (now (over .exit))) ⌝ }
 {
     if b.len() <= at {
         return Scan::Stops(Fault::CutShort, at);
@@ -139,6 +150,7 @@ fn scan_action(
         Laid::Stops(f, p) => Scan::Stops(f, p),
         Laid::Flat(p, w) => Scan::Ends(p, w),
         Laid::Branch(p, w, _) => Scan::Ends(p, w),
-        Laid::Bodies(p, w, n) => scan_bodies(b, p, depth, w, n, tab, over),
+        Laid::Bodies(p, w, n) => scan_bodies(b, p, depth, w, home, n, tab, homes, over),
+        Laid::Function(p, w) => scan_bodies(b, p, depth, w, w, 1, tab, homes, over),
     }
 }

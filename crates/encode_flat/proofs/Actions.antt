@@ -11,7 +11,7 @@ use Rattle.layout.specs.Numbers.{le16, bits64}
 use Rattle.layout.specs.Tree.{GetUrl2, GotoFrame2}
 use Rattle.layout.specs.Payload.{payload, getUrl2Bits, gotoFrame2Bytes, headed}
 use Rattle.layout.specs.Lengths.{gotoFrame2Length}
-use Rattle.layout.specs.Write.{distanceBits}
+use Rattle.layout.specs.Write.{position, distanceBits}
 use Rattle.layout.specs.Judge.{judged, distance, isNear, farUnless}
 use Rattle.labels.specs.Table.{recordOf}
 use Rattle.labels.proofs.Distances.{distance-ahead, distance-back}
@@ -37,7 +37,7 @@ unfolding recordOf distanceBits
 near-bits zero end bits h j e = unfold distance bits64 in rw e
 near-bits (suc n) end bits h j e = go (leb n (end + 32767)) (leb end (n + 32768)) refl refl (unfold judged isNear in j)
   where
-    go : (t u : Bool) → leb n (end + 32767) ≡ t → leb end (n + 32768) ≡ u → farUnless (t && u) (distance (some (record { at = n })) end) ≡ none
+    go : (t u : Bool) → leb n (end + 32767) ≡ t → leb end (n + 32768) ≡ u → farUnless (t && u) (distance (some (position n 0)) end) ≡ none
         → bits % 65536 ≡ (n + 65536 - end) % 65536
     go true true k l f =
         let i = leb-true n (end + 32767) k in

@@ -15,25 +15,25 @@ use Rattle.layout.specs.OpCode.{opcodeOf}
 use Rattle.layout.specs.Tree.{ActionIndex, nextAction, firstAction, Entry, entry, ActionOf, flat, branch, owner, Try, ActionListOf, empty, more, ActionsOf, body}
 use Rattle.layout.specs.Read.{Text, edition1, Place, placed, Read, got, bad, Reader, chain, repeat, readAction, readActions, readBody, readFieldsIf}
 use Rattle.layout.specs.Strings.{mapAction, mapActions, mapBody}
-use Rattle.layout.specs.Write.{size, sizes, bodySize, Position, moved, Event, eventIf, labelAt, branchAt, labelsAt, trace, traces, traceBody, position}
+use Rattle.layout.specs.Write.{size, sizes, bodySize, Position, position, moved, Event, eventIf, labelAt, branchAt, labelsAt, trace, traces, traceBody}
 use Rattle.layout.specs.Judge.{Mode, orElse, judgedIn, firstRefused, badBy}
 use Rattle.layout.specs.Lengths.{total}
 use Rattle.layout.specs.Pack.{spelling}
 use Rattle.laws.specs.ReadFits.{good-got, action-good, body-good}
 use Rattle.laws.specs.Packed.{spells}
-use Rattle.labels.specs.Table.{recordAt}
+use Rattle.labels.specs.Table.{tables, recordIn, positionOf}
 use Rattle.positions.specs.declared.BytePosition.{BytePosition}
 use Rattle.positions.specs.Scanned.{Roomy}
 use Rattle.positions.specs.declared.Fault.{Fault}
 use Rattle.laws.specs.Resolved.{actionSize, actionTrace, bodyLength, bodyEvents}
-use Rattle.measure.specs.Walk.{state, fault, outcome, inBodies, Measure, measure, branches, measured, Laying, flat, to-label, bodies, stops}
+use Rattle.measure.specs.Walk.{State, state, fault, outcome, inBodies, Measure, measure, branches, measured, Owning, Laying, flat, to-label}
 use Rattle.measure.specs.declared.Laid.{Laid}
 use Rattle.measure.specs.declared.Laid.the-variants as laid
 use Rattle.measure.proofs.Runs.{branches-append, branches-payload}
 use Rattle.opcode.specs.Listed.{listed}
 use Rattle.front.specs.Front.{Front, readFront}
 use Rattle.front.proofs.Fronts.{FrontRead, front-read}
-use Rattle.bodies.proofs.Walks.{body-deep, body-less, body-step, action-out, action-in, did-small, did-unknown, ran-is, ran-bad, outcome-is}
+use Rattle.bodies.proofs.Walks.{body-deep, body-less, body-step, action-out, action-in, did-small, did-unknown, did-stops, did-bodies, did-function, owned-place, ran-is, ran-bad, outcome-is}
 use Rattle.judge.specs.declared.Judged.{Judged}
 use Rattle.judge.specs.declared.Judged.the-variants as code
 use Rattle.judge.specs.Judging.{BranchJudged, Judgeable, Judging, passed, refused}
@@ -94,36 +94,35 @@ no-branch (entry l j ∷ es) i s = go (eqb (i .index) (j .index)) (no-branch es 
     go true h = h
     go false h = h
 
-traces-as : (xs : List (ActionOf Text ℕ)) (es : List Entry) (i : ActionIndex) (w : ℕ)
-    → branches (traces (mapActions spelling (listOf xs)) es i (record { at = w })) ≡ branches (inEach actionSize actionTrace xs w)
-unfolding traces mapActions listOf inEach moved
-traces-as [] es i w = no-branch es i (record { at = w }) ∙ (unfold branches in refl)
-traces-as (x ∷ xs) es i w =
-    let rest : List Event = traces (mapActions spelling (listOf xs)) es (nextAction i) (record { at = w + actionSize x }) in
-    branches-append (labelsAt es i (record { at = w })) (actionTrace x w ++ rest)
-    ∙ ap (λ (l : List Event). l ++ branches (actionTrace x w ++ rest)) (no-branch es i (record { at = w }))
-    ∙ branches-append (actionTrace x w) rest
-    ∙ ap (λ (l : List Event). branches (actionTrace x w) ++ l) (traces-as xs es (nextAction i) (w + actionSize x))
-    ∙ sym (branches-append (actionTrace x w) (inEach actionSize actionTrace xs (w + actionSize x)))
+traces-as : (xs : List (ActionOf Text ℕ)) (es : List Entry) (i : ActionIndex) (s : Position) → branches (traces (mapActions spelling (listOf xs)) es i s) ≡ branches (inEach actionSize actionTrace xs s)
+unfolding traces mapActions listOf inEach
+traces-as [] es i s = no-branch es i s ∙ (unfold branches in refl)
+traces-as (x ∷ xs) es i s =
+    let rest : List Event = traces (mapActions spelling (listOf xs)) es (nextAction i) (moved (actionSize x) s) in
+    branches-append (labelsAt es i s) (actionTrace x s ++ rest)
+    ∙ ap (λ (l : List Event). l ++ branches (actionTrace x s ++ rest)) (no-branch es i s)
+    ∙ branches-append (actionTrace x s) rest
+    ∙ ap (λ (l : List Event). branches (actionTrace x s) ++ l) (traces-as xs es (nextAction i) (moved (actionSize x) s))
+    ∙ sym (branches-append (actionTrace x s) (inEach actionSize actionTrace xs (moved (actionSize x) s)))
 
 -- measured so
 module _ (b : List ℕ) (d : ℕ) where
   abbrev pub One : Reader (ActionOf Text ℕ)
   One = readAction edition1 b (readBody edition1 b d)
 
-  abbrev pub Acting : (mode : Mode) (tab : List ℕ) → (Judged → Type 0) → ℕ → ℕ → BytePosition → Type 0
-  Acting mode tab = Looping One actionSize actionTrace b mode tab (action-onward b d)
+  abbrev pub Acting : (home : BytePosition) (mode : Mode) (tab homes : List ℕ) → (Judged → Type 0) → ℕ → ℕ → BytePosition → Type 0
+  Acting home mode tab homes = Looping One actionSize actionTrace b home mode tab homes (action-onward b d)
 
-  list-each : (es : List Entry) (pos : ℕ) (x : Read (List (ActionOf Text ℕ)))
+  list-each : (es : List Entry) (pos : Position) (x : Read (List (ActionOf Text ℕ)))
       → measured bodyLength bodyEvents pos (chain (chain x (λ xs q. got (listOf xs) q)) (λ xs r. got (body es xs) r)) ≡ measured (total actionSize) (inEach actionSize actionTrace) pos x
   unfolding measured bodySize traceBody mapBody
-  list-each es pos (got xs q) = ap₂ (λ (n : ℕ) (l : List Event). got (measure n l) q) (ap (λ (n : ℕ). pos + n) (sizes-as xs)) (traces-as xs es firstAction pos)
+  list-each es pos (got xs q) = ap₂ (λ (n : ℕ) (l : List Event). got (measure n l) q) (ap (λ (n : ℕ). pos .at + n) (sizes-as xs)) (traces-as xs es firstAction pos)
   list-each es pos (bad f q) = refl
 
   -- what the code knows of a body with d + 1 levels that was read
   pub record Opened (at : ℕ) : Type 0 where
     pub inside : at + 4 + 4 * u16At b at ≤ length b
-    pub each : (pos : ℕ)
+    pub each : (pos : Position)
         → measured bodyLength bodyEvents pos (readBody edition1 b (d + 1) (placed at))
         ≡ measured (total actionSize) (inEach actionSize actionTrace) pos (repeat One (u16At b (at + 2 + 4 * u16At b at)) (placed (at + 2 + 4 * u16At b at + 2)))
 
@@ -147,7 +146,7 @@ module _ (b : List ℕ) (d : ℕ) where
           no-reading y e
 
 -- a measure that was made is of something that was read
-module _ {A : Type 0} (s : A → ℕ) (t : A → ℕ → List Event) (pos : ℕ) where
+module _ {A : Type 0} (s : A → ℕ) (t : A → Position → List Event) (pos : Position) where
   measured-read : (x : Read A) {m : Measure} {q : Place} → measured s t pos x ≡ got m q → (a : A) × (x ≡ got a q)
   unfolding measured
   measured-read (got a p) e = (a, ap (got a) (cc))
@@ -155,12 +154,12 @@ module _ {A : Type 0} (s : A → ℕ) (t : A → ℕ → List Event) (pos : ℕ)
       let z : _≡_ {A = ℕ} 0 1 = cc in
       absurd (omega arith)
 
-  measured-of : {x : Read A} {a : A} {q : Place} → x ≡ got a q → measured s t pos x ≡ got (measure (pos + s a) (branches (t a pos))) q
+  measured-of : {x : Read A} {a : A} {q : Place} → x ≡ got a q → measured s t pos x ≡ got (measure (pos .at + s a) (branches (t a pos))) q
   unfolding measured
   measured-of e = rw e
 
 -- the loop over a body's actions
-module _ (b : List ℕ) (d at : ℕ) (pos : BytePosition) (tab : List ℕ) (j : Judgeable (readBody edition1 b d (placed at)) b at pos tab) where
+module _ (b : List ℕ) (d at : ℕ) (pos : BytePosition) (mode : Mode) (tab homes : List ℕ) (j : Judgeable (readBody edition1 b d (placed at)) b at pos mode tab homes) where
   pub is-deep : 0 < d
   is-deep = go d refl
     where
@@ -177,19 +176,20 @@ module _ (b : List ℕ) (d at : ℕ) (pos : BytePosition) (tab : List ℕ) (j : 
   pub front-inside : at + 4 + 4 * u16At b at ≤ length b
   front-inside = opened .inside
 
-  pub body-start : (mode : Mode) (n front count p : ℕ) → n ≡ u16At b at → front ≡ at + 2 + 4 * n → count ≡ u16At b front → p ≡ front + 2
-      → Acting b (d - 1) mode tab (λ r. Judging mode tab (measured bodyLength bodyEvents (pos .0) (readBody edition1 b d (placed at))) r) count p pos
-  body-start mode n front count p e f g h =
+  pub body-start : (home : BytePosition) (n front count p : ℕ) → n ≡ u16At b at → front ≡ at + 2 + 4 * n → count ≡ u16At b front → p ≡ front + 2
+      → Acting b (d - 1) home mode tab homes (λ r. Judging mode tab homes (measured bodyLength bodyEvents (positionOf pos home) (readBody edition1 b d (placed at))) r) count p pos
+  body-start home n front count p e f g h =
       let k : front ≡ at + 2 + 4 * u16At b at = omega (arith, e, f) in
       let c : u16At b (at + 2 + 4 * u16At b at) ≡ count = sym (g ∙ ap (u16At b) k) in
       let m : at + 2 + 4 * u16At b at + 2 ≡ p = omega (arith, h, k) in
-      let i : measured bodyLength bodyEvents (pos .0) (readBody edition1 b d (placed at)) ≡ measured (total actionSize) (inEach actionSize actionTrace) (pos .0) (repeat (One b (d - 1)) count (placed p)) = ap (measured bodyLength bodyEvents (pos .0)) (sym whole) ∙ opened .each (pos .0) ∙ ap₂ (λ (i j : ℕ). measured (total actionSize) (inEach actionSize actionTrace) (pos .0) (repeat (One b (d - 1)) i (placed j))) c m in
-      let y = measured-read (total actionSize) (inEach actionSize actionTrace) (pos .0) (repeat (One b (d - 1)) count (placed p)) (sym i ∙ measured-of bodyLength bodyEvents (pos .0) (j .reads)) in
+      let i : measured bodyLength bodyEvents (positionOf pos home) (readBody edition1 b d (placed at)) ≡ measured (total actionSize) (inEach actionSize actionTrace) (positionOf pos home) (repeat (One b (d - 1)) count (placed p)) = ap (measured bodyLength bodyEvents (positionOf pos home)) (sym whole) ∙ opened .each (positionOf pos home) ∙ ap₂ (λ (i j : ℕ). measured (total actionSize) (inEach actionSize actionTrace) (positionOf pos home) (repeat (One b (d - 1)) i (placed j))) c m in
+      let y = measured-read (total actionSize) (inEach actionSize actionTrace) (positionOf pos home) (repeat (One b (d - 1)) count (placed p)) (sym i ∙ measured-of bodyLength bodyEvents (positionOf pos home) (j .reads)) in
       record {
         rest = λ r v. rw i v;
         judgeable = record {
           roomy = record { bytes = j .roomy .bytes; inside = omega (arith, front-inside, m); room = omega (arith, j .roomy .room, j .roomy .inside, front-inside, m) };
           table = j .table;
+          lent = j .lent;
           value = y .0;
           next = j .next;
           reads = y .1;
@@ -198,21 +198,21 @@ module _ (b : List ℕ) (d at : ℕ) (pos : BytePosition) (tab : List ℕ) (j : 
 
 -- ---- the bodies after a payload
 
-bodies-as : (xs : List (ActionsOf Text ℕ)) (p : ℕ) → inBodies xs p ≡ inEach bodyLength bodyEvents xs p
+bodies-as : (xs : List (ActionsOf Text ℕ)) (s : Position) → inBodies xs s ≡ inEach bodyLength bodyEvents xs s
 unfolding inBodies inEach
-bodies-as [] p = refl
-bodies-as (x ∷ xs) p = ap (λ (l : List Event). bodyEvents x p ++ l) (bodies-as xs (p + bodyLength x))
+bodies-as [] s = refl
+bodies-as (x ∷ xs) s = ap (λ (l : List Event). bodyEvents x s ++ l) (bodies-as xs (moved (bodyLength x) s))
 
 module _ (b : List ℕ) (d : ℕ) where
-  abbrev pub Inner : (mode : Mode) (tab : List ℕ) → (Judged → Type 0) → ℕ → ℕ → BytePosition → Type 0
-  Inner mode tab = Looping (readBody edition1 b d) bodyLength bodyEvents b mode tab (body-onward b d)
+  abbrev pub Inner : (home : BytePosition) (mode : Mode) (tab homes : List ℕ) → (Judged → Type 0) → ℕ → ℕ → BytePosition → Type 0
+  Inner home mode tab homes = Looping (readBody edition1 b d) bodyLength bodyEvents b home mode tab homes (body-onward b d)
 
-  pub bodies-start : (n at : ℕ) (pos : BytePosition) (mode : Mode) (tab : List ℕ) → Judgeable (repeat (readBody edition1 b d) n (placed at)) b at pos tab
-      → Inner mode tab (λ r. Judging mode tab (measured (total bodyLength) inBodies (pos .0) (repeat (readBody edition1 b d) n (placed at))) r) n at pos
-  bodies-start n at pos mode tab j = record { rest = λ r v. rw (same (repeat (readBody edition1 b d) n (placed at))) v; judgeable = j }
+  pub bodies-start : (n at : ℕ) (pos home : BytePosition) (mode : Mode) (tab homes : List ℕ) → Judgeable (repeat (readBody edition1 b d) n (placed at)) b at pos mode tab homes
+      → Inner home mode tab homes (λ r. Judging mode tab homes (measured (total bodyLength) inBodies (positionOf pos home) (repeat (readBody edition1 b d) n (placed at))) r) n at pos
+  bodies-start n at pos home mode tab homes j = record { rest = λ r v. rw (same (repeat (readBody edition1 b d) n (placed at))) v; judgeable = j }
     where
-      same : (x : Read (List (ActionsOf Text ℕ))) → measured (total bodyLength) inBodies (pos .0) x ≡ measured (total bodyLength) (inEach bodyLength bodyEvents) (pos .0) x
-      same (got xs q) = unfold measured in ap (λ (l : List Event). got (measure (pos .0 + total bodyLength xs) (branches l)) q) (bodies-as xs (pos .0))
+      same : (x : Read (List (ActionsOf Text ℕ))) → measured (total bodyLength) inBodies (positionOf pos home) x ≡ measured (total bodyLength) (inEach bodyLength bodyEvents) (positionOf pos home) x
+      same (got xs q) = unfold measured in ap (λ (l : List Event). got (measure (pos .0 + total bodyLength xs) (branches l)) q) (bodies-as xs (positionOf pos home))
       same (bad f q) = unfold measured in refl
 
 -- ---- an action
@@ -227,16 +227,16 @@ only-one rule final n s = last (rule (final n) s)
     last (some r) = unfold orElse in refl
 
 -- one that is written in one byte has no branch
-one-byte : (a : ActionOf Text ℕ) (pos : ℕ) → actionSize a ≡ 1 → branches (actionTrace a pos) ≡ []
+one-byte : (a : ActionOf Text ℕ) (pos : Position) → actionSize a ≡ 1 → branches (actionTrace a pos) ≡ []
 unfolding trace mapAction size
 one-byte (flat f) pos e = branches-payload _ _
 one-byte (branch k l) pos e = absurd (omega (arith, e))
 one-byte (owner o x) pos e = absurd (omega (arith, e))
 one-byte (Try x c f) pos e = absurd (omega (arith, e))
 
-module _ (b : List ℕ) (d at : ℕ) (pos : BytePosition) (tab : List ℕ) (j : Judgeable (readAction edition1 b (readBody edition1 b d) (placed at)) b at pos tab) where
-  abbrev Goal : Mode → Judged → Type 0
-  Goal mode r = Judging mode tab (measured actionSize actionTrace (pos .0) (readAction edition1 b (readBody edition1 b d) (placed at))) r
+module _ (b : List ℕ) (d at : ℕ) (pos : BytePosition) (mode : Mode) (tab homes : List ℕ) (j : Judgeable (readAction edition1 b (readBody edition1 b d) (placed at)) b at pos mode tab homes) where
+  abbrev Goal : BytePosition → Judged → Type 0
+  Goal home r = Judging mode tab homes (measured actionSize actionTrace (positionOf pos home) (readAction edition1 b (readBody edition1 b d) (placed at))) r
 
   pub opcode-inside : at < length b
   opcode-inside = go (ltb at (length b)) refl
@@ -245,26 +245,30 @@ module _ (b : List ℕ) (d at : ℕ) (pos : BytePosition) (tab : List ℕ) (j : 
       go true e = ltb-true at (length b) e
       go false e = no-reading (action-out b d at (ltb-false at (length b) e)) (j .reads)
 
-  -- nothing else was read
-  no-fault : {X : Type 0} {f : Fault} {p : ℕ} → outcome actionSize actionTrace (pos .0) (state [] []) (readAction edition1 b (readBody edition1 b d) (placed at)) ≡ fault f p → X
-  unfolding outcome
-  no-fault e =
-      let y = rw (j .reads) at e in
-      let z : _≡_ {A = ℕ} 0 1 = cc in
-      absurd (omega arith)
+  module _ (home : BytePosition) where
+    abbrev here : Position
+    here = positionOf pos home
 
-  is-passed : {mode : Mode} {q : ℕ} {w : BytePosition} → measured actionSize actionTrace (pos .0) (readAction edition1 b (readBody edition1 b d) (placed at)) ≡ got (measure (w .0) []) (placed q) → Goal mode (code.Ends q w)
-  unfolding firstRefused
-  is-passed {q = q} {w = w} e = rw e (passed {m = measure (w .0) []} {q = placed q} {w = w} refl refl)
+    -- nothing else was read
+    no-fault : {X : Type 0} (s : State) {f : Fault} {p : ℕ} → outcome actionSize actionTrace here s (readAction edition1 b (readBody edition1 b d) (placed at)) ≡ fault f p → X
+    unfolding outcome
+    no-fault s e =
+        let y = rw (j .reads) at e in
+        let z : _≡_ {A = ℕ} 0 1 = cc in
+        absurd (omega arith)
 
-  pub small-passed : (mode : Mode) → getD b at 0 < 128 → Goal mode (code.Ends (at + 1) (record { 0 = pos .0 + 1 }))
-  small-passed mode h = go (listed (getD b at 0)) refl
-    where
-      go : (t : Bool) → listed (getD b at 0) ≡ t → Goal mode (code.Ends (at + 1) (record { 0 = pos .0 + 1 }))
-      go true e =
-          let o = outcome-is actionSize actionTrace (pos .0) (state [] []) (readAction edition1 b (readBody edition1 b d) (placed at)) (ran-is (did-small b d at pos [] [] opcode-inside h e) refl) in
-          is-passed {q = at + 1} {w = record { 0 = pos .0 + 1 }} (measured-of actionSize actionTrace (pos .0) (o .1) ∙ ap₂ (λ (n : ℕ) (l : List Event). got (measure n l) (placed (at + 1))) (sym (o .2)) (one-byte (o .0) (pos .0) (omega (arith, o .2))))
-      go false e = no-fault (ran-bad (did-unknown b d at pos [] [] opcode-inside e) refl)
+    is-passed : {q : ℕ} {w : BytePosition} → measured actionSize actionTrace here (readAction edition1 b (readBody edition1 b d) (placed at)) ≡ got (measure (w .0) []) (placed q) → Goal home (code.Ends q w)
+    unfolding firstRefused
+    is-passed {q = q} {w = w} e = rw e (passed {m = measure (w .0) []} {q = placed q} {w = w} refl refl)
+
+    pub small-passed : getD b at 0 < 128 → Goal home (code.Ends (at + 1) (record { 0 = pos .0 + 1 }))
+    small-passed h = go (listed (getD b at 0)) refl
+      where
+        go : (t : Bool) → listed (getD b at 0) ≡ t → Goal home (code.Ends (at + 1) (record { 0 = pos .0 + 1 }))
+        go true e =
+            let o = outcome-is actionSize actionTrace here (state (tables [] []) []) (readAction edition1 b (readBody edition1 b d) (placed at)) (ran-is (did-small b d at pos home (tables [] []) [] opcode-inside h e) refl) in
+            is-passed {q = at + 1} {w = record { 0 = pos .0 + 1 }} (measured-of actionSize actionTrace here (o .1) ∙ ap₂ (λ (n : ℕ) (l : List Event). got (measure n l) (placed (at + 1))) (sym (o .2)) (one-byte (o .0) here (omega (arith, o .2))))
+        go false e = no-fault _ (ran-bad (did-unknown b d at pos home (tables [] []) [] opcode-inside e) refl)
 
   module _ (l : Laid) (over over′ : List ℕ)
       (y : Laying (λ inner. readFieldsIf edition1 b inner (opcodeOf (getD b at 0)) (placed at) (placed (at + 1))) at (length b) (pos .0) over over′ l) where
@@ -275,16 +279,13 @@ module _ (b : List ℕ) (d at : ℕ) (pos : BytePosition) (tab : List ℕ) (j : 
     fields = action-in b d at opcode-inside
 
     pub never-stops : {X : Type 0} (f : Fault) (p : ℕ) → l ≡ laid.Stops f p → X
-    never-stops {X = X} f p e = go (rw e at y)
-      where
-        go : Here (laid.Stops f p) → X
-        go (stops g) = no-fault {f = f} {p = p} (rw fields (g (readBody edition1 b d) (state [] [])))
+    never-stops f p e = no-fault pos _ (ran-bad (did-stops b d at pos pos (tables [] []) over opcode-inside l over′ y f p e) refl)
 
-    pub flat-passed : (mode : Mode) (q : ℕ) (w : BytePosition) → l ≡ laid.Flat q w → Goal mode (code.Ends q w)
-    flat-passed mode q w e = go (rw e at y)
+    pub flat-passed : (home : BytePosition) (q : ℕ) (w : BytePosition) → l ≡ laid.Flat q w → Goal home (code.Ends q w)
+    flat-passed home q w e = go (rw e at y)
       where
-        go : Here (laid.Flat q w) → Goal mode (code.Ends q w)
-        go (flat g m) = is-passed (rw fields (m (readBody edition1 b d)))
+        go : Here (laid.Flat q w) → Goal home (code.Ends q w)
+        go (flat g m) = is-passed home (rw fields (m (readBody edition1 b d) (home .0)))
 
     -- a branch's label, and where its operand stands
     pub branch-asks : (q : ℕ) (w : BytePosition) (n : ℕ) → l ≡ laid.Branch q w n → (n < 1024) × (pos .0 + 3 + 2 ≤ 1099511627776)
@@ -293,40 +294,61 @@ module _ (b : List ℕ) (d at : ℕ) (pos : BytePosition) (tab : List ℕ) (j : 
         go : Here (laid.Branch q w n) → (n < 1024) × (pos .0 + 3 + 2 ≤ 1099511627776)
         go (to-label i u v g) = (u, omega (arith, i, j .roomy .room, opcode-inside))
 
-    abbrev seen : ℕ → Measure
-    seen n = measure (pos .0 + 5) (branchAt n (position (pos .0 + 3)) ∷ [])
-
-    pub branch-found : (mode : Mode) (q : ℕ) (w : BytePosition) (n : ℕ) (r : Judged) → l ≡ laid.Branch q w n → BranchJudged mode tab n q (pos .0 + 3) r → Goal mode r
-    branch-found mode q w n r e k = go (rw e at y) k
+    pub branch-found : (home : BytePosition) (q : ℕ) (w : BytePosition) (n : ℕ) (r : Judged) → l ≡ laid.Branch q w n → BranchJudged mode tab homes n q (position (pos .0 + 3) (home .0)) r → Goal home r
+    branch-found home q w n r e k = go (rw e at y) k
       where
-        here : (k : _) → readAction edition1 b (readBody edition1 b d) (placed at) ≡ got (branch k n) (placed q)
-            → measured actionSize actionTrace (pos .0) (readAction edition1 b (readBody edition1 b d) (placed at)) ≡ got (seen n) (placed q)
-        here k e = measured-of actionSize actionTrace (pos .0) e ∙ (unfold size trace mapAction branches moved in refl)
+        operand : Position
+        operand = position (pos .0 + 3) (home .0)
 
-        only : badBy mode (recordAt tab) (seen n .branching) ≡ judgedIn mode (recordAt tab n) (position (pos .0 + 3))
-        only = only-one (judgedIn mode) (recordAt tab) n (position (pos .0 + 3))
+        seen : Measure
+        seen = measure (pos .0 + 5) (branchAt n operand ∷ [])
 
-        go : {r : Judged} → Here (laid.Branch q w n) → BranchJudged mode tab n q (pos .0 + 3) r → Goal mode r
+        is-seen : (k : _) → readAction edition1 b (readBody edition1 b d) (placed at) ≡ got (branch k n) (placed q)
+            → measured actionSize actionTrace (positionOf pos home) (readAction edition1 b (readBody edition1 b d) (placed at)) ≡ got seen (placed q)
+        is-seen k e = measured-of actionSize actionTrace (positionOf pos home) e ∙ (unfold size trace mapAction branches moved in refl)
+
+        only : badBy mode (recordIn tab homes) (seen .branching) ≡ judgedIn mode (recordIn tab homes n) operand
+        only = only-one (judgedIn mode) (recordIn tab homes) n operand
+
+        go : {r : Judged} → Here (laid.Branch q w n) → BranchJudged mode tab homes n q operand r → Goal home r
         go (to-label {k = k} i u v g) (BranchJudged.passed {w = x} h m) =
-            rw (here k (fields ∙ g (readBody edition1 b d))) (passed {m = seen n} {q = placed q} {w = x} (only ∙ h) (omega (arith, m)))
-        go (to-label {k = k} i u v g) (BranchJudged.refused {bad = x} h) = rw (here k (fields ∙ g (readBody edition1 b d))) (refused {m = seen n} {q = placed q} {bad = x} (only ∙ h))
+            rw (is-seen k (fields ∙ g (readBody edition1 b d))) (passed {m = seen} {q = placed q} {w = x} (only ∙ h) (omega (arith, m)))
+        go (to-label {k = k} i u v g) (BranchJudged.refused {bad = x} h) = rw (is-seen k (fields ∙ g (readBody edition1 b d))) (refused {m = seen} {q = placed q} {bad = x} (only ∙ h))
 
-    pub bodies-asks : (q : ℕ) (w : BytePosition) (n : ℕ) → l ≡ laid.Bodies q w n → Judgeable (repeat (readBody edition1 b d) n (placed q)) b q w tab
-    bodies-asks q w n e = go (rw e at y)
-      where
-        go : Here (laid.Bodies q w n) → Judgeable (repeat (readBody edition1 b d) n (placed q)) b q w tab
-        go (bodies least o g m) =
-            let r = measured-read (total bodyLength) inBodies (w .0) (repeat (readBody edition1 b d) n (placed q)) (sym (m (readBody edition1 b d)) ∙ ap (measured actionSize actionTrace (pos .0)) (sym fields) ∙ measured-of actionSize actionTrace (pos .0) (j .reads)) in
-            record {
-              roomy = record { bytes = j .roomy .bytes; inside = o .within; room = omega (arith, j .roomy .room, j .roomy .inside, o .beyond, o .within, o .written) };
-              table = j .table;
-              value = r .0;
-              next = j .next;
-              reads = r .1;
-            }
+    -- bodies follow, whose home is made from the action's
+    module _ (q : ℕ) (w : BytePosition) (n : ℕ) (inside : ℕ → ℕ)
+        (o : Owning (λ inner. readFieldsIf edition1 b inner (opcodeOf (getD b at 0)) (placed at) (placed (at + 1))) at (length b) (pos .0) over over′ q w n inside) where
+      abbrev Inside : ℕ → Read Measure
+      Inside home = measured (total bodyLength) inBodies (position (w .0) (inside home)) (repeat (readBody edition1 b d) n (placed q))
 
-    pub bodies-found : (mode : Mode) (q : ℕ) (w : BytePosition) (n : ℕ) (r : Judged) → l ≡ laid.Bodies q w n → Judging mode tab (measured (total bodyLength) inBodies (w .0) (repeat (readBody edition1 b d) n (placed q))) r → Goal mode r
-    bodies-found mode q w n r e k = go (rw e at y)
-      where
-        go : Here (laid.Bodies q w n) → Goal mode r
-        go (bodies least o g m) = rw (fields, m (readBody edition1 b d)) k
+      owned-measures : (home : BytePosition) → measured actionSize actionTrace (positionOf pos home) (readAction edition1 b (readBody edition1 b d) (placed at)) ≡ Inside (home .0)
+      owned-measures home = rw fields (o .measures (readBody edition1 b d) (home .0))
+
+      owned-asks : Judgeable (repeat (readBody edition1 b d) n (placed q)) b q w mode tab homes
+      owned-asks =
+          let r = measured-read (total bodyLength) inBodies _ (repeat (readBody edition1 b d) n (placed q)) (sym (owned-measures pos) ∙ measured-of actionSize actionTrace (positionOf pos pos) (j .reads)) in
+          record {
+            roomy = owned-place o (j .roomy);
+            table = j .table;
+            lent = j .lent;
+            value = r .0;
+            next = j .next;
+            reads = r .1;
+          }
+
+      owned-found : (home : BytePosition) (r : Judged) → Judging mode tab homes (Inside (home .0)) r → Goal home r
+      owned-found home r k = rw (owned-measures home) k
+
+    pub bodies-asks : (q : ℕ) (w : BytePosition) (n : ℕ) → l ≡ laid.Bodies q w n → Judgeable (repeat (readBody edition1 b d) n (placed q)) b q w mode tab homes
+    bodies-asks q w n e = owned-asks q w n _ (did-bodies y e)
+
+    pub bodies-found : (home : BytePosition) (q : ℕ) (w : BytePosition) (n : ℕ) (r : Judged) → l ≡ laid.Bodies q w n
+        → Judging mode tab homes (measured (total bodyLength) inBodies (positionOf w home) (repeat (readBody edition1 b d) n (placed q))) r → Goal home r
+    bodies-found home q w n r e k = owned-found q w n _ (did-bodies y e) home r k
+
+    pub function-asks : (q : ℕ) (w : BytePosition) → l ≡ laid.Function q w → Judgeable (repeat (readBody edition1 b d) 1 (placed q)) b q w mode tab homes
+    function-asks q w e = owned-asks q w 1 _ (did-function y e)
+
+    pub function-found : (home : BytePosition) (q : ℕ) (w : BytePosition) (r : Judged) → l ≡ laid.Function q w
+        → Judging mode tab homes (measured (total bodyLength) inBodies (positionOf w w) (repeat (readBody edition1 b d) 1 (placed q))) r → Goal home r
+    function-found home q w r e k = owned-found q w 1 _ (did-function y e) home r k

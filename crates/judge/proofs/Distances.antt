@@ -6,19 +6,20 @@ use mathlib.Core.Bool.{Bool, true, false, not, _&&_}
 use mathlib.Core.Option.{Option, none, some}
 use mathlib.Core.List.{List}
 use lib.ListN.{getD}
-use lib.Dec.{leb}
+use lib.Dec.{leb, eqb}
 use lib.IntN.{pos, negsuc, subℕ}
 use borrow.Author.Tests.{leb-true, leb-false}
 use Rattle.layout.specs.Numbers.{bits64}
-use Rattle.layout.specs.Answers.{NeverRecorded}
-use Rattle.layout.specs.Write.{Position, position}
+use Rattle.layout.specs.Answers.{NeverRecorded, StrayBranch}
+use Rattle.layout.specs.Write.{Position}
 use Rattle.layout.specs.Order.{zeroUp, below, signed64, bits-back}
 use Rattle.layout.specs.Judge.{Mode, distance, farUnless, orElse, refusalIf, barred, judgedIn}
 use Rattle.laws.specs.Demands.{sub-up, sub-down}
-use Rattle.labels.specs.Table.{recordOf, recordAt, isRecorded, isFar}
-use Rattle.labels.proofs.Labels.{judged-by}
+use Rattle.labels.specs.Table.{recordOf, recordAt, recordIn, isRecorded, isAtHome, homed, isFar, positionOf}
+use Rattle.labels.proofs.Labels.{homed-judged, judged-by}
 use Rattle.positions.specs.declared.BytePosition.{BytePosition}
 use Rattle.judge.specs.declared.BadBranch.the-variants as branch
+use Rattle.judge.specs.declared.Judged.{Judged}
 use Rattle.judge.specs.declared.Judged.the-variants as code
 use Rattle.judge.specs.Judging.{refusalOf, Table, BranchJudged}
 
@@ -39,43 +40,69 @@ signed-distance (suc n) after h k = signed-sub n after (omega (arith, h)) k
 
 -- ---- what the mode alone refuses
 
-barred-by : (mode : Mode) (o : Option Position) (s : Position) → barred mode o s ≡ refusalIf (mode .strict && not (isRecorded o)) (NeverRecorded (s .at))
-unfolding barred isRecorded
-barred-by mode none s = go (mode .strict)
+-- by its two tests, of which at most one holds
+barred-by : (mode : Mode) (o : Option Position) (s : Position)
+    → barred mode o s
+    ≡ orElse (refusalIf (mode .strict && not (isRecorded o)) (NeverRecorded (s .at))) (refusalIf (mode .contained && not (isAtHome (s .home) o)) (StrayBranch (s .at)))
+unfolding barred isRecorded isAtHome orElse refusalIf
+barred-by mode none s = go (mode .strict) (mode .contained)
   where
-    go : (t : Bool) → refusalIf t (NeverRecorded (s .at)) ≡ refusalIf (t && true) (NeverRecorded (s .at))
-    go true = refl
-    go false = refl
+    go : (t u : Bool) → refusalIf t (NeverRecorded (s .at)) ≡ orElse (refusalIf (t && true) (NeverRecorded (s .at))) (refusalIf (u && false) (StrayBranch (s .at)))
+    go true u = refl
+    go false true = refl
+    go false false = refl
 barred-by mode (some r) s = go (mode .strict)
   where
-    go : (t : Bool) → none ≡ refusalIf (t && false) (NeverRecorded (s .at))
-    go true = unfold refusalIf in refl
-    go false = unfold refusalIf in refl
+    go : (t : Bool) → refusalIf (mode .contained && not (eqb (r .home) (s .home))) (StrayBranch (s .at))
+        ≡ orElse (refusalIf (t && false) (NeverRecorded (s .at))) (refusalIf (mode .contained && not (eqb (r .home) (s .home))) (StrayBranch (s .at)))
+    go true = refl
+    go false = refl
 
-module _ (mode : Mode) (tab : List ℕ) (label next : ℕ) (operand : BytePosition) (bar : Bool) (i : bar ≡ (mode .strict && not (isRecorded (recordAt tab label)))) where
+-- whether there is a record does not ask for its home
+homed-recorded : (home : ℕ) (o : Option Position) → isRecorded (homed home o) ≡ isRecorded o
+unfolding homed isRecorded
+homed-recorded home none = refl
+homed-recorded home (some s) = refl
+
+module _ (mode : Mode) (tab homes : List ℕ) (label next : ℕ) (operand home : BytePosition) (unrecorded : Bool)
+    (i : unrecorded ≡ (mode .strict && not (isRecorded (recordAt tab label)))) where
   abbrev o : Option Position
-  o = recordAt tab label
+  o = recordIn tab homes label
 
-  is-barred : barred mode o (position (operand .0)) ≡ refusalIf bar (NeverRecorded (operand .0))
-  is-barred = barred-by mode o (position (operand .0)) ∙ ap (λ (t : Bool). refusalIf t (NeverRecorded (operand .0))) (sym i)
+  abbrev Goal : Judged → Type 0
+  Goal r = BranchJudged mode tab homes label next (positionOf operand home) r
 
-  pub branch-barred : bar ≡ true → BranchJudged mode tab label next (operand .0) (code.Refused (branch.NeverRecorded operand))
+  is-unrecorded : (mode .strict && not (isRecorded o)) ≡ unrecorded
+  is-unrecorded = ap (λ t. mode .strict && not t) (homed-recorded (getD homes label 0) (recordAt tab label)) ∙ sym i
+
+  pub branch-unrecorded : unrecorded ≡ true → Goal (code.Refused (branch.NeverRecorded operand))
   unfolding judgedIn orElse refusalIf refusalOf
-  branch-barred e = BranchJudged.refused {bad = branch.NeverRecorded operand} (rw (is-barred, e))
+  branch-unrecorded e = BranchJudged.refused {bad = branch.NeverRecorded operand} (rw (barred-by mode o (positionOf operand home), is-unrecorded, e))
 
-  -- ---- a branch that it takes, by its distance's bits
-  module _ (e : bar ≡ false) (bits : ℕ) (far : Bool) (t : Table tab) (h : operand .0 + 2 ≤ 1099511627776)
-      (k : bits ≡ bits64 (distance o (operand .0 + 2))) (f : far ≡ isFar bits) where
-    is-judged : judgedIn mode o (position (operand .0)) ≡ farUnless (not far) (distance o (operand .0 + 2))
-    unfolding judgedIn orElse refusalIf
-    is-judged = rw (is-barred, e) (judged-by (getD tab label 0) (operand .0 + 2) (omega (arith, t .small label)) (omega (arith, h)) f k)
+  module _ (e : unrecorded ≡ false) (stray : Bool) (j : stray ≡ (mode .contained && not (isAtHome (home .0) o))) where
+    is-barred : barred mode o (positionOf operand home) ≡ refusalIf stray (StrayBranch (operand .0))
+    unfolding orElse refusalIf
+    is-barred = barred-by mode o (positionOf operand home) ∙ rw (is-unrecorded, e, j)
 
-    pub branch-far : far ≡ true → BranchJudged mode tab label next (operand .0) (code.Refused (branch.Far bits))
-    unfolding farUnless refusalOf
-    branch-far g =
-        let s : signed64 bits ≡ distance o (operand .0 + 2) = ap signed64 k ∙ signed-distance (getD tab label 0) (operand .0 + 2) (omega (arith, t .small label)) (omega (arith, h)) in
-        BranchJudged.refused {bad = branch.Far bits} (is-judged ∙ rw (g, s))
+    pub branch-stray : stray ≡ true → Goal (code.Refused (branch.StrayBranch operand))
+    unfolding judgedIn orElse refusalIf refusalOf
+    branch-stray f = BranchJudged.refused {bad = branch.StrayBranch operand} (rw (is-barred, f))
 
-    pub branch-near : far ≡ false → BranchJudged mode tab label next (operand .0) (code.Ends next (record { 0 = operand .0 + 2 }))
-    unfolding farUnless
-    branch-near g = BranchJudged.passed (is-judged ∙ rw g) refl
+    -- ---- a branch that it takes, by its distance's bits
+    module _ (f : stray ≡ false) (bits : ℕ) (far : Bool) (t : Table tab) (h : operand .0 + 2 ≤ 1099511627776)
+        (k : bits ≡ bits64 (distance (recordAt tab label) (operand .0 + 2))) (l : far ≡ isFar bits) where
+      is-judged : judgedIn mode o (positionOf operand home) ≡ farUnless (not far) (distance (recordAt tab label) (operand .0 + 2))
+      unfolding judgedIn orElse refusalIf
+      is-judged =
+          rw (is-barred, f) (homed-judged (getD homes label 0) (recordAt tab label) (operand .0 + 2)
+          ∙ judged-by (getD tab label 0) (operand .0 + 2) (omega (arith, t .small label)) (omega (arith, h)) l k)
+
+      pub branch-far : far ≡ true → Goal (code.Refused (branch.Far bits))
+      unfolding farUnless refusalOf
+      branch-far g =
+          let s : signed64 bits ≡ distance (recordAt tab label) (operand .0 + 2) = ap signed64 k ∙ signed-distance (getD tab label 0) (operand .0 + 2) (omega (arith, t .small label)) (omega (arith, h)) in
+          BranchJudged.refused {bad = branch.Far bits} (is-judged ∙ rw (g, s))
+
+      pub branch-near : far ≡ false → Goal (code.Ends next (record { 0 = operand .0 + 2 }))
+      unfolding farUnless
+      branch-near g = BranchJudged.passed (is-judged ∙ rw g) refl

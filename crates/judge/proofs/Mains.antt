@@ -1,40 +1,41 @@
--- From the label table to the definition of 10 and 14: every position lies within the block, and in a short block no branch is far.
--- Assumes nothing.
+-- From the label tables to the definition of 10, 14 and 15: every position lies within the block, and in a short block no branch is
+-- far. Assumes nothing.
 use mathlib.Core.Path.{_≡_, refl, sym, ap, _∙_, subst}
-use Prim.Native.Nat.{ℕ, _+_, _≤_}
+use Prim.Native.Nat.{ℕ, _+_, _≤_, _<_}
 use native.Mathlib.Omega.{arith}
-use mathlib.Core.Bool.{Bool, true, false, false≢true, not, _&&_}
+use mathlib.Core.Bool.{Bool, true, false, not, _&&_, and-eq-true-iff}
 use mathlib.Core.Option.{Option, none, some}
 use mathlib.Core.List.{List, [], _∷_}
 use lib.ListN.{getD, List·getD-eq-default}
 use lib.Dec.{leb, ltb}
-use borrow.Author.Tests.{ltb-true, ltb-false, leb-true, le-leb}
+use borrow.Author.Tests.{ltb-true, ltb-false, leb-true, le-leb, not-true}
 use Rattle.layout.specs.Tree.{Actions}
 use Rattle.layout.specs.Read.{edition1, placed, got, readBody}
-use Rattle.layout.specs.Write.{bodySize, Position, position, Event, labelAt, branchAt, payloadTooLong, bodyTooLong, traceBody, events, lookup}
-use Rattle.layout.specs.Judge.{isNear, farUnless, judged, orElse, Mode, plainMode, judgedIn, firstRefused, tooFar, badBy, badBranch}
+use Rattle.layout.specs.Write.{bodySize, Position, blockStart, Event, labelAt, branchAt, payloadTooLong, bodyTooLong, traceBody, events, lookup}
+use Rattle.layout.specs.Judge.{distance, isNear, farUnless, judged, orElse, Mode, plainMode, refusalIf, barred, judgedIn, firstRefused, tooFar, badBy, badBranch}
 use Rattle.layout.specs.Answers.{Refusal}
 use Rattle.layout.specs.Pack.{spelling}
+use Rattle.laws.specs.Branches.{each-then, refused-same}
 use Rattle.laws.specs.Modes.{plain-if, plain-far}
 use Rattle.laws.specs.ReadFits.{good-got, body-good}
 use Rattle.laws.specs.Packed.{spells, same-tree}
 use Rattle.laws.specs.Within.{AllWithin, body-within, Recorded, lookup-within}
-use Rattle.labels.specs.Table.{slot, recordAt, TableHolds}
+use Rattle.labels.specs.Table.{slot, homed, recordIn, TableHolds}
 use Rattle.positions.specs.declared.BytePosition.{BytePosition}
-use Rattle.labels.proofs.Labels.{table-record}
+use Rattle.labels.proofs.Labels.{table-record, both-record}
 use Rattle.laws.specs.Resolved.{bodyLength, bodyEvents}
 use Rattle.measure.specs.Walk.{measure, branches, measured}
 use Rattle.pcode.proofs.Readings.{given}
 use Rattle.pcode.proofs.Trees.{UnderBody, main-body, body-under}
 use Rattle.pcode.proofs.Labels as labels
-use Rattle.pcode.proofs.Labels.{BranchesUnder, refused-under}
+use Rattle.pcode.proofs.Labels.{BranchesUnder}
 use Rattle.judge.specs.declared.BadBranch.{BadBranch}
 use Rattle.judge.specs.declared.Judged.{Judged}
 use Rattle.judge.specs.declared.Judged.the-variants as code
 use Rattle.judge.specs.declared.Verdict.{Verdict}
 use Rattle.judge.specs.declared.Verdict.the-variants as verdict
 use Rattle.labels.specs.Mains.{MainMeasured}
-use Rattle.judge.specs.Judging.{Judgeable, Judging, Says, MainJudged}
+use Rattle.judge.specs.Judging.{Judgeable, Judging, MainJudgeable, Says, MainJudged}
 use Rattle.judge.proofs.Loops.{found, found-bad}
 
 -- ---- a short block
@@ -56,7 +57,7 @@ module _ (end : ℕ) where
   none-far-short all (payloadTooLong m s ∷ es) h k l = none-far-short all es h (k .1) l
   none-far-short all (bodyTooLong m s ∷ es) h k l = none-far-short all es h (k .1) l
 
--- ---- by the table as by the events
+-- ---- by the tables as by the events
 
 only-branches : (rule : Option Position → Position → Option Refusal) (final : ℕ → Option Position) (es : List Event) → firstRefused rule final (branches es) ≡ firstRefused rule final es
 unfolding firstRefused branches
@@ -80,27 +81,31 @@ slots-small end tab es m h k l = go (ltb l 1024) refl
         let z : getD tab l 0 ≡ 0 = List·getD-eq-default tab 0 (omega (arith, ltb-false l 1024 e, h .slots)) in
         omega (arith, z)
 
+-- a mode that is not contained does not ask for a record's home
+unhomed : (mode : Mode) → mode .contained ≡ false → (home : ℕ) (o : Option Position) (s : Position) → judgedIn mode (homed home (homed 0 o)) s ≡ judgedIn mode o s
+unfolding judgedIn barred judged distance homed refusalIf
+unhomed mode e home none s = refl
+unhomed mode e home (some r) s = rw e
+
 -- ---- a main body
 
-and-both : (x y : Bool) → (x && y) ≡ true → (x ≡ true) × (y ≡ true)
-and-both true y e = (refl, e)
-and-both false y e = absurd (false≢true e)
+module _ (b : List ℕ) (end : BytePosition) (mode : Mode) (tab homes : List ℕ) (g : MainJudgeable b end mode tab homes) where
+  abbrev m : MainMeasured b end tab
+  m = g .measured
 
-not-true : (x : Bool) → not x ≡ true → x ≡ false
-not-true true e = absurd (false≢true e)
-not-true false e = refl
+  abbrev all : List Event
+  all = events (m .tree)
 
-module _ (b : List ℕ) (end : BytePosition) (tab : List ℕ) (m : MainMeasured b end tab) where
   is-body : readBody edition1 b 16 (placed 0) ≡ got (m .reads .read) (m .reads .next)
   is-body = main-body b (m .reads .read) (m .reads .next) (m .reads .is-read)
 
-  within : AllWithin (end .0) (events (m .tree))
+  within : AllWithin (end .0) all
   unfolding events
-  within = body-within (end .0) (m .tree) (position 0) (omega (arith, m .is-end))
+  within = body-within (end .0) (m .tree) blockStart (omega (arith, m .is-end))
 
-  under : BranchesUnder 1024 (events (m .tree))
+  under : BranchesUnder 1024 all
   unfolding events
-  under = labels.body-under 1024 (m .tree) (position 0) (subst (UnderBody 1024) (m .reads .is-tree) (given (body-under b 16 (placed 0)) is-body))
+  under = labels.body-under 1024 (m .tree) blockStart (subst (UnderBody 1024) (m .reads .is-tree) (given (body-under b 16 (placed 0)) is-body))
 
   -- it is written in at most three bytes for each byte read
   end-small : end .0 ≤ 1099511627776
@@ -108,40 +113,48 @@ module _ (b : List ℕ) (end : BytePosition) (tab : List ℕ) (m : MainMeasured 
       let g = good-got (m .reads .read) (m .reads .next) (body-good edition1 b (m .bytes) spelling (Unit {0}) (spells b (m .bytes) edition1) 16 (placed 0) (omega arith)) is-body in
       omega (arith, m .is-end, ap bodySize (m .reads .is-tree), g .0 .1 tt, g .1, m .limited)
 
-  pub main-asks : Judgeable (readBody edition1 b 16 (placed 0)) b 0 (record { 0 = 0 }) tab
+  pub main-asks : Judgeable (readBody edition1 b 16 (placed 0)) b 0 (record { 0 = 0 }) mode tab homes
   main-asks = record {
     roomy = record { bytes = m .bytes; inside = omega arith; room = omega (arith, m .limited) };
-    table = record { slots = m .holds .slots; small = slots-small (end .0) tab (events (m .tree)) end-small (m .holds) within };
+    table = record { slots = m .holds .slots; small = slots-small (end .0) tab all end-small (m .holds) within };
+    lent = g .lent;
     value = m .reads .read;
     next = m .reads .next;
     reads = is-body;
   }
 
-  module _ (mode : Mode) where
-    judged-main : (r : Verdict) → Says (badBranch mode (events (m .tree)) (events (m .tree))) r → MainJudged mode b r
-    judged-main r s = record { says = λ t h. subst (λ (u : Actions). Says (badBranch mode (events u) (events u)) r) (same-tree b (m .tree) t (m .reads) h) s }
+  judged-main : (r : Verdict) → Says (badBranch mode all all) r → MainJudged mode b r
+  judged-main r s = record { says = λ t h. subst (λ (u : Actions). Says (badBranch mode (events u) (events u)) r) (same-tree b (m .tree) t (m .reads) h) s }
 
-    -- In plain mode only a distance is refused.
-    pub main-clear : (clear : Bool) → clear ≡ (not (mode .strict) && leb (end .0) 32768) → clear ≡ true → MainJudged mode b verdict.Passed
-    main-clear clear e f =
-        let k = and-both (not (mode .strict)) (leb (end .0) 32768) (sym e ∙ f) in
-        let p : mode ≡ plainMode = plain-if mode (not-true (mode .strict) (k .0)) in
-        let n = none-far-short (end .0) (events (m .tree)) (events (m .tree)) within within (leb-true (end .0) 32768 (k .1)) in
-        judged-main verdict.Passed (rw (ap (λ (x : Mode). badBranch x (events (m .tree)) (events (m .tree))) p ∙ plain-far (λ l. lookup l (events (m .tree))) (events (m .tree)) ∙ n) Says.passed)
+  -- In plain mode only a distance is refused.
+  pub main-clear : (clear : Bool) → clear ≡ (not (mode .strict) && (not (mode .contained) && leb (end .0) 32768)) → clear ≡ true → MainJudged mode b verdict.Passed
+  main-clear clear e f =
+      let k = and-eq-true-iff (not (mode .strict)) (not (mode .contained) && leb (end .0) 32768) .0 (sym e ∙ f) in
+      let i = and-eq-true-iff (not (mode .contained)) (leb (end .0) 32768) .0 (k .1) in
+      let p : mode ≡ plainMode = plain-if mode (not-true _ (k .0)) (not-true _ (i .0)) in
+      let n = none-far-short (end .0) all all within within (leb-true (end .0) 32768 (i .1)) in
+      judged-main verdict.Passed (rw (ap (λ (x : Mode). badBranch x all all) p ∙ plain-far (λ l. lookup l all) all ∙ n) Says.passed)
 
-    by-table : badBy mode (recordAt tab) (branches (bodyEvents (m .reads .read) 0)) ≡ badBranch mode (events (m .tree)) (events (m .tree))
-    by-table =
-        only-branches (judgedIn mode) (recordAt tab) (bodyEvents (m .reads .read) 0)
-        ∙ ap (λ (t : Actions). badBy mode (recordAt tab) (traceBody t (position 0))) (m .reads .is-tree)
-        ∙ (unfold events in refused-under 1024 (judgedIn mode) (recordAt tab) (λ l. lookup l (events (m .tree))) (table-record 1024 tab (events (m .tree)) (m .holds)) (events (m .tree)) under)
+  branch-same : (l : ℕ) (s : Position) → l < 1024 → judgedIn mode (recordIn tab homes l) s ≡ judgedIn mode (lookup l all) s
+  branch-same l s h = go (mode .contained) refl
+    where
+      go : (t : Bool) → mode .contained ≡ t → judgedIn mode (recordIn tab homes l) s ≡ judgedIn mode (lookup l all) s
+      go true e = ap (λ o. judgedIn mode o s) (both-record 1024 tab homes all (m .holds) (g .holds) l h (omega (arith, g .lent e)))
+      go false e = ap (λ o. judgedIn mode (homed (getD homes l 0) o) s) (table-record 1024 tab all (m .holds) l h) ∙ unhomed mode e (getD homes l 0) (lookup l all) s
 
-    module _ (r : Judged) (j : Judging mode tab (measured bodyLength bodyEvents 0 (readBody edition1 b 16 (placed 0))) r) where
-      here : Judging mode tab (got (measure (0 + bodyLength (m .reads .read)) (branches (bodyEvents (m .reads .read) 0))) (m .reads .next)) r
-      unfolding measured
-      here = rw is-body at j
+  by-tables : badBy mode (recordIn tab homes) (branches (bodyEvents (m .reads .read) blockStart)) ≡ badBranch mode all all
+  by-tables =
+      only-branches (judgedIn mode) (recordIn tab homes) (bodyEvents (m .reads .read) blockStart)
+      ∙ ap (λ (t : Actions). badBy mode (recordIn tab homes) (traceBody t blockStart)) (m .reads .is-tree)
+      ∙ (unfold events in refused-same (judgedIn mode) (judgedIn mode) (recordIn tab homes) (λ l. lookup l all) all (each-then (λ l s. l < 1024) _ branch-same all under))
 
-      pub main-passed : (q : ℕ) (w : BytePosition) → r ≡ code.Ends q w → MainJudged mode b verdict.Passed
-      main-passed q w e = judged-main verdict.Passed (rw (sym by-table ∙ found here e .is-passed) Says.passed)
+  module _ (r : Judged) (j : Judging mode tab homes (measured bodyLength bodyEvents blockStart (readBody edition1 b 16 (placed 0))) r) where
+    here : Judging mode tab homes (got (measure (0 + bodyLength (m .reads .read)) (branches (bodyEvents (m .reads .read) blockStart))) (m .reads .next)) r
+    unfolding measured
+    here = rw is-body at j
 
-      pub main-bad : (bad : BadBranch) → r ≡ code.Refused bad → MainJudged mode b (verdict.Refused bad)
-      main-bad bad e = judged-main (verdict.Refused bad) (rw (sym by-table ∙ found-bad here e) (Says.refused {bad = bad}))
+    pub main-passed : (q : ℕ) (w : BytePosition) → r ≡ code.Ends q w → MainJudged mode b verdict.Passed
+    main-passed q w e = judged-main verdict.Passed (rw (sym by-tables ∙ found here e .is-passed) Says.passed)
+
+    pub main-bad : (bad : BadBranch) → r ≡ code.Refused bad → MainJudged mode b (verdict.Refused bad)
+    main-bad bad e = judged-main (verdict.Refused bad) (rw (sym by-tables ∙ found-bad here e) (Says.refused {bad = bad}))

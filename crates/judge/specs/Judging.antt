@@ -1,18 +1,20 @@
--- What judging asks and what it finds: the first branch in writing order that is refused, by the mode and the label table.
+-- What judging asks and what it finds: the first branch in writing order that is refused, by the mode and the label tables.
 -- Assumes nothing.
 use mathlib.Core.Path.{_≡_}
 use Prim.Native.Nat.{ℕ, _+_, _≤_}
+use mathlib.Core.Bool.{true}
 use mathlib.Core.Option.{Option, none, some}
 use mathlib.Core.List.{List}
 use lib.ListN.{length, getD}
-use Rattle.layout.specs.Answers.{Refusal, JumpOffsetOverflow, NeverRecorded}
+use Rattle.layout.specs.Answers.{Refusal, JumpOffsetOverflow, NeverRecorded, StrayBranch}
 use Rattle.layout.specs.Order.{signed64}
 use Rattle.layout.specs.Tree.{Actions}
 use Rattle.layout.specs.Read.{Place, Read, got}
-use Rattle.layout.specs.Write.{position, events}
+use Rattle.layout.specs.Write.{Position, events}
 use Rattle.layout.specs.Judge.{Mode, judgedIn, badBy, badBranch}
 use Rattle.laws.specs.Packed.{ReadsMain}
-use Rattle.labels.specs.Table.{recordAt}
+use Rattle.labels.specs.Table.{recordIn, HomesHold}
+use Rattle.labels.specs.Mains.{MainMeasured}
 use Rattle.positions.specs.declared.BytePosition.{BytePosition}
 use Rattle.positions.specs.Scanned.{Roomy}
 use Rattle.measure.specs.Walk.{Measure}
@@ -27,39 +29,51 @@ use Rattle.judge.specs.declared.Verdict.the-variants as verdict
 -- ---- the mode and a refusal, as the code holds them
 
 abbrev pub modeOf : code-mode.Mode → Mode
-modeOf m = record { strict = m .strict }
+modeOf m = record { strict = m .strict; contained = m .contained }
 
--- 10 with its value, or 14 with its
+-- 10, 14 or 15, each with its value
 unfoldable pub refusalOf : BadBranch → Refusal
 refusalOf (branch.Far bits) = JumpOffsetOverflow (signed64 bits)
 refusalOf (branch.NeverRecorded w) = NeverRecorded (w .0)
+refusalOf (branch.StrayBranch w) = StrayBranch (w .0)
 
--- ---- by the table
+-- ---- by the tables
 
 -- a slot for each label, and every position far from overflow
 pub record Table (tab : List ℕ) : Type 0 where
   pub slots : length tab ≡ 1024
   pub small : (l : ℕ) → getD tab l 0 ≤ 1099511627777
 
+-- where the mode is contained, a home for each label
+abbrev pub HomesLent : Mode → List ℕ → Type 0
+HomesLent mode homes = mode .contained ≡ true → length homes ≡ 1024
+
 -- one branch to a label, whose operand stands at a position and ends at a place
-pub data BranchJudged (mode : Mode) (tab : List ℕ) (label next operand : ℕ) : Judged → Type 0 where
-  passed : {w : BytePosition} → judgedIn mode (recordAt tab label) (position operand) ≡ none → w .0 ≡ operand + 2 → BranchJudged mode tab label next operand (code.Ends next w)
-  refused : {bad : BadBranch} → judgedIn mode (recordAt tab label) (position operand) ≡ some (refusalOf bad) → BranchJudged mode tab label next operand (code.Refused bad)
+pub data BranchJudged (mode : Mode) (tab homes : List ℕ) (label next : ℕ) (operand : Position) : Judged → Type 0 where
+  passed : {w : BytePosition} → judgedIn mode (recordIn tab homes label) operand ≡ none → w .0 ≡ operand .at + 2 → BranchJudged mode tab homes label next operand (code.Ends next w)
+  refused : {bad : BadBranch} → judgedIn mode (recordIn tab homes label) operand ≡ some (refusalOf bad) → BranchJudged mode tab homes label next operand (code.Refused bad)
 
 -- what is asked of a place and a position: that something reads there
-pub record Judgeable {A : Type 0} (read : Read A) (b : List ℕ) (at : ℕ) (pos : BytePosition) (tab : List ℕ) : Type 0 where
+pub record Judgeable {A : Type 0} (read : Read A) (b : List ℕ) (at : ℕ) (pos : BytePosition) (mode : Mode) (tab homes : List ℕ) : Type 0 where
   pub roomy : Roomy b at pos
   pub table : Table tab
+  pub lent : HomesLent mode homes
   pub value : A
   pub next : Place
   pub reads : read ≡ got value next
 
 -- what is found there: where it ends, or the first branch that is refused
-pub data Judging (mode : Mode) (tab : List ℕ) : Read Measure → Judged → Type 0 where
-  passed : {m : Measure} {q : Place} {w : BytePosition} → badBy mode (recordAt tab) (m .branching) ≡ none → w .0 ≡ m .end → Judging mode tab (got m q) (code.Ends (q .at) w)
-  refused : {m : Measure} {q : Place} {bad : BadBranch} → badBy mode (recordAt tab) (m .branching) ≡ some (refusalOf bad) → Judging mode tab (got m q) (code.Refused bad)
+pub data Judging (mode : Mode) (tab homes : List ℕ) : Read Measure → Judged → Type 0 where
+  passed : {m : Measure} {q : Place} {w : BytePosition} → badBy mode (recordIn tab homes) (m .branching) ≡ none → w .0 ≡ m .end → Judging mode tab homes (got m q) (code.Ends (q .at) w)
+  refused : {m : Measure} {q : Place} {bad : BadBranch} → badBy mode (recordIn tab homes) (m .branching) ≡ some (refusalOf bad) → Judging mode tab homes (got m q) (code.Refused bad)
 
 -- ---- a whole main body
+
+-- what is asked of it: its label tables
+pub record MainJudgeable (b : List ℕ) (end : BytePosition) (mode : Mode) (tab homes : List ℕ) : Type 0 where
+  pub measured : MainMeasured b end tab
+  pub holds : HomesHold homes (events (measured .tree))
+  pub lent : HomesLent mode homes
 
 -- what the verdict says: no branch is refused, or the refusal
 pub data Says : Option Refusal → Verdict → Type 0 where

@@ -1,6 +1,7 @@
-// Judging the branches of a main body that reads whole, against the final label table: 10 and, in strict mode, 14.
+// Judging the branches of a main body that reads whole, against the final label tables: 10 and, by the mode, 14 and 15. `home` is
+// the position at which the function body starts that a branch is in; only a function's body has another.
 ghost use mathlib.Core.Path.{_≡_};
-ghost use mathlib.Core.Bool.{_&&_, not};
+ghost use mathlib.Core.Bool.{true, _&&_, not};
 ghost use Prim.Native.Nat.{_+_, _≤_, _<_};
 ghost use lib.Dec.{leb};
 ghost use lib.ListN.{length};
@@ -8,11 +9,11 @@ ghost use Rattle.layout.specs.Read.{edition1, placed, readAction, readBody, rep
 ghost use Rattle.layout.specs.Lengths.{total};
 ghost use Rattle.laws.specs.Resolved.{actionSize, actionTrace, bodyLength, bodyEvents};
 ghost use Rattle.measure.specs.Walk.{measured, inBodies};
-ghost use Rattle.judge.specs.Judging.{modeOf, Table, Judgeable, Judging, BranchJudged, MainJudged};
-ghost use Rattle.labels.specs.Table.{isRecorded, recordAt};
-ghost use Rattle.labels.specs.Mains.{MainMeasured};
+ghost use Rattle.judge.specs.Judging.{modeOf, Table, HomesLent, Judgeable, Judging, BranchJudged, MainJudgeable, MainJudged};
+ghost use Rattle.labels.specs.Table.{isRecorded, isAtHome, recordAt, recordIn, positionOf};
 use fields::u16_at;
 use labels::distance;
+use labels::is_at_home;
 use labels::is_far;
 use labels::is_recorded;
 use measure::Laid;
@@ -20,16 +21,19 @@ use opcode::OpCode;
 use payload::scan_payload;
 use positions::BytePosition;
 
-// What is asked of a sheet's branches besides their distances: in strict mode, that each one's label is recorded.
+// What is asked of a sheet's branches besides their distances: in strict mode, that each one's label is recorded; in a contained
+// mode, that its record, if it has one, is in the function body of the branch.
 pub struct Mode {
     pub strict: bool,
+    pub contained: bool,
 }
 
-// What is wrong with a branch: the 64 bits of a distance that does not fit, or, where its label is never recorded, the position of
-// its operand.
+// What is wrong with a branch: the 64 bits of a distance that does not fit; or, where its label is never recorded or is recorded in
+// another function body, the position of its operand.
 pub enum BadBranch {
     Far(u64),
     NeverRecorded(BytePosition),
+    StrayBranch(BytePosition),
 }
 
 // Where reading and writing would end, or the first branch in writing order that is refused.
@@ -44,8 +48,8 @@ pub enum Verdict {
     Refused(BadBranch),
 }
 
-// Whether the mode alone refuses a branch to this label.
-fn is_barred(mode: Mode, label: usize, tab: &[usize]) -> bool
+// Whether strict mode refuses a branch to this label.
+fn is_unrecorded(mode: Mode, label: usize, tab: &[usize]) -> bool
     requires { ⌜ label < length (now tab) ⌝ }
     ensures { λ r. ⌜ r ≡ (mode .strict && not (isRecorded (recordAt (now (tab .entry)) label))) ⌝ }
 {
@@ -55,19 +59,35 @@ fn is_barred(mode: Mode, label: usize, tab: &[usize]) -> bool
     false
 }
 
+// Whether a contained mode refuses a branch to this label from the function body that starts at `home`.
+fn is_stray(mode: Mode, label: usize, home: BytePosition, tab: &[usize], homes: &[usize]) -> bool
+    requires { ⌜ (label < length (now tab)) × (mode .contained ≡ true → label < length (now homes)) ⌝ }
+    ensures { λ r. ⌜ r ≡ (mode .contained && not (isAtHome (home .0) (recordIn (now (tab .entry)) (now (homes .entry)) label))) ⌝ }
+{
+    if mode.contained {
+        return !is_at_home(tab, homes, label, home);
+    }
+    false
+}
+
 // A branch to a label, whose operand stands at position `operand` and ends at place `next`.
 fn judge_branch(
     label: usize,
     next: usize,
     operand: BytePosition,
+    home: BytePosition,
     mode: Mode,
     tab: &[usize],
+    homes: &[usize],
 ) -> Judged
-    requires { ⌜ Table (now tab) × (label < 1024) × (operand .0 + 2 ≤ 1099511627776) ⌝ }
-    ensures { λ r. ⌜ BranchJudged (modeOf mode) (now (tab .entry)) label next (operand .0) r ⌝ }
+    requires { ⌜ Table (now tab) × HomesLent (modeOf mode) (now homes) × (label < 1024) × (operand .0 + 2 ≤ 1099511627776) ⌝ }
+    ensures { λ r. ⌜ BranchJudged (modeOf mode) (now (tab .entry)) (now (homes .entry)) label next (positionOf operand home) r ⌝ }
 {
-    if is_barred(mode, label, tab) {
+    if is_unrecorded(mode, label, tab) {
         return Judged::Refused(BadBranch::NeverRecorded(operand));
+    }
+    if is_stray(mode, label, home, tab, homes) {
+        return Judged::Refused(BadBranch::StrayBranch(operand));
     }
     let after = operand.0 + OpCode::U16_LEN;
     let bits = distance(tab, label, BytePosition(after));
@@ -83,18 +103,20 @@ fn judge_body(
     at: usize,
     depth: usize,
     pos: BytePosition,
+    home: BytePosition,
     mode: Mode,
     tab: &[usize],
+    homes: &[usize],
 ) -> Judged
-    requires { ⌜ Judgeable (readBody edition1 (now b) depth (placed at)) (now b) at pos (now tab) ⌝ }
-    ensures { λ r. ⌜ Judging (modeOf mode) (now (tab .entry)) (measured bodyLength bodyEvents (pos .0) (readBody edition1 (now (b .entry)) depth (placed at))) r ⌝ }
+    requires { ⌜ Judgeable (readBody edition1 (now b) depth (placed at)) (now b) at pos (modeOf mode) (now tab) (now homes) ⌝ }
+    ensures { λ r. ⌜ Judging (modeOf mode) (now (tab .entry)) (now (homes .entry)) (measured bodyLength bodyEvents (positionOf pos home) (readBody edition1 (now (b .entry)) depth (placed at))) r ⌝ }
 {
     let front = at + 2 + 4 * u16_at(b, at);
     let mut left = u16_at(b, front);
     let mut p = front + 2;
     let mut w = pos;
     while 0 < left {
-        match judge_action(b, p, depth - 1, w, mode, tab) {
+        match judge_action(b, p, depth - 1, w, home, mode, tab, homes) {
             Judged::Refused(bad) => {
                 return Judged::Refused(bad);
             }
@@ -114,18 +136,20 @@ fn judge_bodies(
     at: usize,
     depth: usize,
     pos: BytePosition,
+    home: BytePosition,
     n: usize,
     mode: Mode,
     tab: &[usize],
+    homes: &[usize],
 ) -> Judged
-    requires { ⌜ Judgeable (repeat (readBody edition1 (now b) depth) n (placed at)) (now b) at pos (now tab) ⌝ }
-    ensures { λ r. ⌜ Judging (modeOf mode) (now (tab .entry)) (measured (total bodyLength) inBodies (pos .0) (repeat (readBody edition1 (now (b .entry)) depth) n (placed at))) r ⌝ }
+    requires { ⌜ Judgeable (repeat (readBody edition1 (now b) depth) n (placed at)) (now b) at pos (modeOf mode) (now tab) (now homes) ⌝ }
+    ensures { λ r. ⌜ Judging (modeOf mode) (now (tab .entry)) (now (homes .entry)) (measured (total bodyLength) inBodies (positionOf pos home) (repeat (readBody edition1 (now (b .entry)) depth) n (placed at))) r ⌝ }
 {
     let mut left = n;
     let mut p = at;
     let mut w = pos;
     while 0 < left {
-        match judge_body(b, p, depth, w, mode, tab) {
+        match judge_body(b, p, depth, w, home, mode, tab, homes) {
             Judged::Refused(bad) => {
                 return Judged::Refused(bad);
             }
@@ -146,11 +170,13 @@ fn judge_action(
     at: usize,
     depth: usize,
     pos: BytePosition,
+    home: BytePosition,
     mode: Mode,
     tab: &[usize],
+    homes: &[usize],
 ) -> Judged
-    requires { ⌜ Judgeable (readAction edition1 (now b) (readBody edition1 (now b) depth) (placed at)) (now b) at pos (now tab) ⌝ }
-    ensures { λ r. ⌜ Judging (modeOf mode) (now (tab .entry)) (measured actionSize actionTrace (pos .0) (readAction edition1 (now (b .entry)) (readBody edition1 (now (b .entry)) depth) (placed at))) r ⌝ }
+    requires { ⌜ Judgeable (readAction edition1 (now b) (readBody edition1 (now b) depth) (placed at)) (now b) at pos (modeOf mode) (now tab) (now homes) ⌝ }
+    ensures { λ r. ⌜ Judging (modeOf mode) (now (tab .entry)) (now (homes .entry)) (measured actionSize actionTrace (positionOf pos home) (readAction edition1 (now (b .entry)) (readBody edition1 (now (b .entry)) depth) (placed at))) r ⌝ }
 {
     let op = b[at];
     if op < 0x80 {
@@ -164,32 +190,42 @@ fn judge_action(
         Laid::Flat(p, w) => Judged::Ends(p, w),
         Laid::Branch(p, _, label) => {
             let operand = pos.0 + OpCode::HEADER_LEN;
-            judge_branch(label, p, BytePosition(operand), mode, tab)
+            judge_branch(label, p, BytePosition(operand), home, mode, tab, homes)
         }
-        Laid::Bodies(p, w, n) => judge_bodies(b, p, depth, w, n, mode, tab),
+        Laid::Bodies(p, w, n) => judge_bodies(b, p, depth, w, home, n, mode, tab, homes),
+        Laid::Function(p, w) => judge_bodies(b, p, depth, w, w, 1, mode, tab, homes),
     }
 }
 
 // Whether no branch can be refused, by the mode and the position where the main body's writing ends. In plain mode that is so up
 // to 32,768: a branch leads from there to the start at the farthest.
 fn is_clear(mode: Mode, end: BytePosition) -> bool
-    ensures { λ r. ⌜ r ≡ (not (mode .strict) && leb (end .0) 32768) ⌝ }
+    ensures { λ r. ⌜ r ≡ (not (mode .strict) && (not (mode .contained) && leb (end .0) 32768)) ⌝ }
 {
     if mode.strict {
+        return false;
+    }
+    if mode.contained {
         return false;
     }
     end.0 <= 32768
 }
 
 // A main body that is written as far as position `end`.
-pub fn judge_main(b: &[u8], end: BytePosition, mode: Mode, tab: &[usize]) -> Verdict
-    requires { ⌜ MainMeasured (now b) end (now tab) ⌝ }
+pub fn judge_main(
+    b: &[u8],
+    end: BytePosition,
+    mode: Mode,
+    tab: &[usize],
+    homes: &[usize],
+) -> Verdict
+    requires { ⌜ MainJudgeable (now b) end (modeOf mode) (now tab) (now homes) ⌝ }
     ensures { λ r. ⌜ MainJudged (modeOf mode) (now (b .entry)) r ⌝ }
 {
     if is_clear(mode, end) {
         return Verdict::Passed;
     }
-    match judge_body(b, 0, 16, BytePosition(0), mode, tab) {
+    match judge_body(b, 0, 16, BytePosition(0), BytePosition(0), mode, tab, homes) {
         Judged::Refused(bad) => Verdict::Refused(bad),
         Judged::Ends(_, _) => Verdict::Passed,
     }

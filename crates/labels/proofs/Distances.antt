@@ -4,11 +4,11 @@ use mathlib.Core.Bool.{Bool, true, false, not, _&&_}
 use Prim.Native.Nat.{ℕ, zero, suc, _+_, _-_, _%_, _≤_, _<_}
 use native.Mathlib.Omega.{arith}
 use borrow.Author.Tests.{lt-ltb, le-ltb, ltb-true, ltb-false, le-leb, lt-leb}
-use lib.Dec.{ltb, leb}
+use lib.Dec.{ltb, leb, eqb}
 use lib.IntN.{subℕ}
 use Rattle.layout.specs.Numbers.{bits64}
 use Rattle.layout.specs.Judge.{distance, isNear}
-use Rattle.labels.specs.Table.{recordOf, isRecorded, isFar}
+use Rattle.labels.specs.Table.{recordOf, isRecorded, homed, isAtHome, isFar}
 
 -- ---- the bits
 
@@ -33,6 +33,17 @@ pub slot-full : (slot : ℕ) → (slot ≡ 0 → ⊥) → true ≡ isRecorded (r
 unfolding isRecorded recordOf
 slot-full zero h = absurd (h refl)
 slot-full (suc n) h = refl
+
+-- ---- a slot's home
+
+pub home-none : (slot home here : ℕ) → slot ≡ 0 → true ≡ isAtHome here (homed home (recordOf slot))
+unfolding isAtHome homed recordOf
+home-none slot home here h = rw h
+
+pub home-some : (slot home here : ℕ) → (slot ≡ 0 → ⊥) → eqb home here ≡ isAtHome here (homed home (recordOf slot))
+unfolding isAtHome homed recordOf
+home-some zero home here h = absurd (h refl)
+home-some (suc n) home here h = refl
 
 -- ---- a slot's distance
 

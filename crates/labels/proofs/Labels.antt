@@ -1,5 +1,5 @@
 -- What the label table holds, and what reading says of a body's entries. Assumes nothing.
-use mathlib.Core.Path.{_≡_, refl, ap, _∙_}
+use mathlib.Core.Path.{_≡_, refl, sym, ap, ap₂, _∙_}
 use Prim.Native.Nat.{ℕ, zero, suc, _+_, _*_, _≤_, _<_}
 use native.Mathlib.Numerals.{add-one}
 use native.Mathlib.Omega.{arith}
@@ -13,70 +13,105 @@ use borrow.Author.Tests.{ltb-true, leb-true, eqb-true, eqb-false}
 use Rattle.layout.specs.Numbers.{u16At, bits64}
 use Rattle.layout.specs.Tree.{Entry, entry}
 use Rattle.layout.specs.Read.{Terms, Place, ahead, got, ifWhole, ifWithin, tested, readU16, readLabel, readEntries}
-use Rattle.layout.specs.Write.{Position, Event, labelAt, branchAt, payloadTooLong, bodyTooLong, later, recordIf, lookup}
+use Rattle.layout.specs.Write.{Position, Event, labelAt, branchAt, payloadTooLong, bodyTooLong, later, recordIf, lookup, distanceBits}
 use Rattle.layout.specs.Judge.{distance, isNear, farUnless, judged}
 use Rattle.laws.specs.ReadFits.{Good, fine, refused, good-then, good-got}
-use Rattle.labels.specs.Table.{slot, recordOf, recordAll, TableHolds, isFar, entriesAt, Rising, end, next}
+use Rattle.labels.specs.Table.{slotOf, slot, recordOf, recordAt, homeOf, homed, recordIn, recordAll, Tables, tables, recorded, TableHolds, HomesHold, isFar, entriesAt, Rising, end, next}
 use Rattle.labels.proofs.Distances.{far-unless-near}
 
 -- ---- the table
 
--- recording changes no length
-pub length-recordAll : (es : List Event) (tab : List ℕ) → length (recordAll es tab) ≡ length tab
-unfolding recordAll
-length-recordAll [] tab = refl
-length-recordAll (labelAt l s ∷ es) tab = length-recordAll es (set tab l (s .at + 1)) ∙ length-set tab l (s .at + 1)
-length-recordAll (branchAt l s ∷ es) tab = length-recordAll es tab
-length-recordAll (payloadTooLong n s ∷ es) tab = length-recordAll es tab
-length-recordAll (bodyTooLong n s ∷ es) tab = length-recordAll es tab
+module _ (keep : Position → ℕ) where
+  -- recording changes no length
+  pub length-recordAll : (es : List Event) (tab : List ℕ) → length (recordAll keep es tab) ≡ length tab
+  unfolding recordAll
+  length-recordAll [] tab = refl
+  length-recordAll (labelAt l s ∷ es) tab = length-recordAll es (set tab l (keep s)) ∙ length-set tab l (keep s)
+  length-recordAll (branchAt l s ∷ es) tab = length-recordAll es tab
+  length-recordAll (payloadTooLong n s ∷ es) tab = length-recordAll es tab
+  length-recordAll (bodyTooLong n s ∷ es) tab = length-recordAll es tab
 
--- events are recorded one after the other
-pub recordAll-append : (xs ys : List Event) (tab : List ℕ) → recordAll (xs ++ ys) tab ≡ recordAll ys (recordAll xs tab)
-unfolding recordAll
-recordAll-append [] ys tab = refl
-recordAll-append (labelAt l s ∷ xs) ys tab = recordAll-append xs ys (set tab l (s .at + 1))
-recordAll-append (branchAt l s ∷ xs) ys tab = recordAll-append xs ys tab
-recordAll-append (payloadTooLong n s ∷ xs) ys tab = recordAll-append xs ys tab
-recordAll-append (bodyTooLong n s ∷ xs) ys tab = recordAll-append xs ys tab
+  -- events are recorded one after the other
+  recordAll-append : (xs ys : List Event) (tab : List ℕ) → recordAll keep (xs ++ ys) tab ≡ recordAll keep ys (recordAll keep xs tab)
+  unfolding recordAll
+  recordAll-append [] ys tab = refl
+  recordAll-append (labelAt l s ∷ xs) ys tab = recordAll-append xs ys (set tab l (keep s))
+  recordAll-append (branchAt l s ∷ xs) ys tab = recordAll-append xs ys tab
+  recordAll-append (payloadTooLong n s ∷ xs) ys tab = recordAll-append xs ys tab
+  recordAll-append (bodyTooLong n s ∷ xs) ys tab = recordAll-append xs ys tab
 
--- what a slot holds after a label's last record, if there was one
-slotAfter : ℕ → Option Position → ℕ
-slotAfter old none = old
-slotAfter old (some s) = s .at + 1
+  -- what a slot holds after a label's last record, if there was one
+  unfoldable slotAfter : ℕ → Option Position → ℕ
+  slotAfter old none = old
+  slotAfter old (some s) = keep s
 
--- a label's slot, in a table that may hold records already
-slot-holds : (l : ℕ) (es : List Event) (tab : List ℕ) → l < length tab → getD (recordAll es tab) l 0 ≡ slotAfter (getD tab l 0) (lookup l es)
-unfolding recordAll lookup later recordIf slotAfter
-slot-holds l [] tab h = refl
-slot-holds l (labelAt k s ∷ es) tab h =
-    slot-holds l es (set tab k (s .at + 1)) (rw (length-set tab k (s .at + 1)) h) ∙ go (lookup l es) (eqb l k) refl
-  where
-    go : (o : Option Position) (t : Bool) → eqb l k ≡ t → slotAfter (getD (set tab k (s .at + 1)) l 0) o ≡ slotAfter (getD tab l 0) (later (recordIf t s) o)
-    go (some u) t e = refl
-    go none true e = rw (← eqb-true l k e) (getD-set-same tab l (s .at + 1) 0 h)
-    go none false e = getD-set-other tab k l (s .at + 1) 0 (eqb-false l k e)
-slot-holds l (branchAt k s ∷ es) tab h = slot-holds l es tab h
-slot-holds l (payloadTooLong n s ∷ es) tab h = slot-holds l es tab h
-slot-holds l (bodyTooLong n s ∷ es) tab h = slot-holds l es tab h
+  -- a label's slot, in a table that may hold records already
+  slot-holds : (l : ℕ) (es : List Event) (tab : List ℕ) → l < length tab → getD (recordAll keep es tab) l 0 ≡ slotAfter (getD tab l 0) (lookup l es)
+  unfolding recordAll lookup later recordIf slotAfter
+  slot-holds l [] tab h = refl
+  slot-holds l (labelAt k s ∷ es) tab h =
+      slot-holds l es (set tab k (keep s)) (rw (length-set tab k (keep s)) h) ∙ go (lookup l es) (eqb l k) refl
+    where
+      go : (o : Option Position) (t : Bool) → eqb l k ≡ t → slotAfter (getD (set tab k (keep s)) l 0) o ≡ slotAfter (getD tab l 0) (later (recordIf t s) o)
+      go (some u) t e = refl
+      go none true e = rw (← eqb-true l k e) (getD-set-same tab l (keep s) 0 h)
+      go none false e = getD-set-other tab k l (keep s) 0 (eqb-false l k e)
+  slot-holds l (branchAt k s ∷ es) tab h = slot-holds l es tab h
+  slot-holds l (payloadTooLong n s ∷ es) tab h = slot-holds l es tab h
+  slot-holds l (bodyTooLong n s ∷ es) tab h = slot-holds l es tab h
+
+-- so are they in both tables
+pub recorded-append : (xs ys : List Event) (t : Tables) → recorded (xs ++ ys) t ≡ recorded ys (recorded xs t)
+unfolding recorded
+recorded-append xs ys t = ap₂ tables (recordAll-append slotOf xs ys (t .positions)) (recordAll-append homeOf xs ys (t .homes))
 
 -- the slot of a label without a record at first holds its last record in the end
-pub table-holds : (l : ℕ) (es : List Event) (tab : List ℕ) → l < length tab → getD tab l 0 ≡ 0 → getD (recordAll es tab) l 0 ≡ slot (lookup l es)
+pub table-holds : (l : ℕ) (es : List Event) (tab : List ℕ) → l < length tab → getD tab l 0 ≡ 0 → getD (recordAll slotOf es tab) l 0 ≡ slot (lookup l es)
 unfolding slot slotAfter
-table-holds l es tab h z = slot-holds l es tab h ∙ go (lookup l es)
+table-holds l es tab h z = slot-holds slotOf l es tab h ∙ go (lookup l es)
   where
-    go : (o : Option Position) → slotAfter (getD tab l 0) o ≡ slot o
+    go : (o : Option Position) → slotAfter slotOf (getD tab l 0) o ≡ slot o
     go none = z
     go (some s) = refl
 
--- a slot gives its record back
-pub record-of-slot : (o : Option Position) → recordOf (slot o) ≡ o
-unfolding recordOf slot
+-- and a table of homes, whatever it held, its home
+pub homes-hold : (es : List Event) (homes : List ℕ) → HomesHold (recordAll homeOf es homes) es
+unfolding slotAfter
+homes-hold es homes =
+    record { holds = λ l s h e. slot-holds homeOf l es homes (rw (sym (length-recordAll homeOf es homes)) h) ∙ ap (slotAfter homeOf (getD homes l 0)) e }
+
+-- a slot gives its record back, but for its home
+pub record-of-slot : (o : Option Position) → recordOf (slot o) ≡ homed 0 o
+unfolding recordOf slot homed
 record-of-slot none = refl
 record-of-slot (some s) = rw add-one
 
--- and a table's record of a label is the events'
-pub table-record : (bound : ℕ) (tab : List ℕ) (es : List Event) → TableHolds bound tab es → (l : ℕ) → l < bound → recordOf (getD tab l 0) ≡ lookup l es
+-- and a table's record of a label is the events', but for its home
+pub table-record : (bound : ℕ) (tab : List ℕ) (es : List Event) → TableHolds bound tab es → (l : ℕ) → l < bound → recordAt tab l ≡ homed 0 (lookup l es)
 table-record bound tab es h l k = ap recordOf (h .holds l k) ∙ record-of-slot (lookup l es)
+
+-- with the table of homes it is the events' record
+pub both-record : (bound : ℕ) (tab homes : List ℕ) (es : List Event) → TableHolds bound tab es → HomesHold homes es → (l : ℕ) → l < bound → l < length homes
+    → recordIn tab homes l ≡ lookup l es
+unfolding homed
+both-record bound tab homes es h g l k m = ap (homed (getD homes l 0)) (table-record bound tab es h l k) ∙ go (lookup l es) refl
+  where
+    go : (o : Option Position) → lookup l es ≡ o → homed (getD homes l 0) (homed 0 o) ≡ o
+    go none e = refl
+    go (some s) e = rw (g .holds l s m e)
+
+-- ---- what does not ask for a record's home
+
+module _ (home : ℕ) where
+  pub homed-judged : (o : Option Position) (after : ℕ) → judged (homed home o) after ≡ judged o after
+  unfolding homed judged distance
+  homed-judged none after = refl
+  homed-judged (some s) after = refl
+
+  pub homed-bits : (o : Option Position) (after : ℕ) → distanceBits (homed home o) after ≡ distanceBits o after
+  unfolding homed distanceBits
+  homed-bits none after = refl
+  homed-bits (some s) after = refl
 
 -- a branch is judged by its slot, its distance's bits and what is said of them
 pub judged-by : {bits : ℕ} {far : Bool} (slot after : ℕ) → slot < 9223372036854775808 → after < 9223372036854775808 → far ≡ isFar bits

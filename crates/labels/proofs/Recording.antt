@@ -14,7 +14,7 @@ use Rattle.layout.specs.Lists.{pick}
 use Rattle.layout.specs.Numbers.{u32At}
 use Rattle.layout.specs.Tree.{ActionIndex, Entry, entry}
 use Rattle.layout.specs.Write.{Position, Event, labelAt, eventIf, labelsAt}
-use Rattle.labels.specs.Table.{recordAll, entriesAt, key, noneLeft, unlessUnder, due, Rising, end, next, Recordable, Recorded}
+use Rattle.labels.specs.Table.{recordAll, Tables, tables, recorded, entriesAt, key, noneLeft, unlessUnder, due, Rising, end, next, Recordable, Recorded}
 
 -- ---- one entry more
 
@@ -201,22 +201,30 @@ module _ (from k : ℕ) where
   unfolding unlessUnder pick
   unless-over h = rw (le-ltb k from h)
 
+-- ---- a slot past the end of a table
+
+pub set-past : (tab : List ℕ) (l n : ℕ) → length tab ≤ l → tab ≡ set tab l n
+set-past [] l n h = refl
+set-past (x ∷ tab) zero n h = absurd (omega arith)
+set-past (x ∷ tab) (suc l) n h = ap (λ xs. x ∷ xs) (set-past tab l n (omega arith))
+
 -- ---- the loop that records
 
--- where it stands: n is due from `from` on, and what is left makes of the table what all labels make of the old one
-pub record Standing (es : List Entry) (first : ℕ) (i : ActionIndex) (s : Position) (old tab : List ℕ) (n : ℕ) : Type 0 where
-  pub ready : Recordable es first i s old
+-- where it stands: n is due from `from` on, and what is left makes of the tables what all labels make of the old ones
+pub record Standing (es : List Entry) (first : ℕ) (i : ActionIndex) (s : Position) (old now : Tables) (n : ℕ) : Type 0 where
+  pub ready : Recordable es first i s (old .positions)
   pub from : ℕ
   pub low : 65536 * i .index ≤ from
   pub high : from ≤ 65536 * (i .index + 1)
   pub most : from ≤ noneLeft
   pub is-due : n ≡ due es from
-  pub to-do : recordAll (left i s from es) tab ≡ recordAll (labelsAt es i s) old
-  pub full : length tab ≡ length old
+  pub to-do : recorded (left i s from es) now ≡ recorded (labelsAt es i s) old
+  pub full : length (now .positions) ≡ length (old .positions)
+  pub homes-full : length (now .homes) ≡ length (old .homes)
 
-module _ {es : List Entry} {first : ℕ} {i : ActionIndex} {s : Position} {old : List ℕ} where
+module _ {es : List Entry} {first : ℕ} {i : ActionIndex} {s : Position} {old : Tables} where
   -- before the first turn
-  pub start : Recordable es first i s old → Standing es first i s old old first
+  pub start : Recordable es first i s (old .positions) → Standing es first i s old old first
   start h =
       record {
         ready = h;
@@ -225,17 +233,18 @@ module _ {es : List Entry} {first : ℕ} {i : ActionIndex} {s : Position} {old :
         high = omega arith;
         most = omega (arith, h .index-fits);
         is-due = h .is-due;
-        to-do = ap (λ xs. recordAll xs old) (left-all (h .slots) i s es (h .rising));
+        to-do = ap (λ xs. recorded xs old) (left-all (h .slots) i s es (h .rising));
         full = refl;
+        homes-full = refl;
       }
 
-  module _ {tab : List ℕ} {n : ℕ} (at : Standing es first i s old tab n) where
+  module _ {now : Tables} {n : ℕ} (at : Standing es first i s old now n) where
     -- where an entry is due, its number is less than "no entry is left"
     some-due : (n ≡ noneLeft → ⊥) → n < noneLeft
     some-due h = omega (arith, at .is-due, due-most es (at .from))
 
     -- the label of what is due has a slot
-    pub within : (n ≡ noneLeft → ⊥) → n % 65536 < length tab
+    pub within : (n ≡ noneLeft → ⊥) → n % 65536 < length (now .positions)
     within h = omega (arith, at .full, due-label (at .ready .slots) es (at .from) (at .ready .rising) (at .is-due) (some-due h))
 
     -- what is due after it is greater
@@ -243,8 +252,9 @@ module _ {es : List Entry} {first : ℕ} {i : ActionIndex} {s : Position} {old :
     rises h d = omega (arith, due-least es (n + 1) (omega (arith, some-due h)))
 
     -- a turn: what is due has index i, and is recorded
-    pub more : {m : ℕ} → n / 65536 ≡ i .index → (n ≡ noneLeft → ⊥) → m ≡ due es (n + 1) → Standing es first i s old (set tab (n % 65536) (s .at + 1)) m
-    unfolding recordAll
+    pub more : {m : ℕ} → n / 65536 ≡ i .index → (n ≡ noneLeft → ⊥) → m ≡ due es (n + 1)
+        → Standing es first i s old (tables (set (now .positions) (n % 65536) (s .at + 1)) (set (now .homes) (n % 65536) (s .home))) m
+    unfolding recorded recordAll
     more e h d =
         let k : n < noneLeft = some-due h in
         let first-left = left-due (at .ready .slots) i s es (at .from) n (at .ready .rising) (at .most) (at .is-due) k e in
@@ -255,25 +265,26 @@ module _ {es : List Entry} {first : ℕ} {i : ActionIndex} {s : Position} {old :
           high = omega arith;
           most = omega arith;
           is-due = d;
-          to-do = ap (λ xs. recordAll xs tab) (sym first-left) ∙ at .to-do;
-          full = length-set tab (n % 65536) (s .at + 1) ∙ at .full;
+          to-do = ap (λ xs. recorded xs now) (sym first-left) ∙ at .to-do;
+          full = length-set (now .positions) (n % 65536) (s .at + 1) ∙ at .full;
+          homes-full = length-set (now .homes) (n % 65536) (s .home) ∙ at .homes-full;
         }
 
-    -- where what is due has a greater index, the table is done
-    nothing-left : 65536 * (i .index + 1) ≤ n + 1 → tab ≡ recordAll (labelsAt es i s) old
-    unfolding recordAll
+    -- where what is due has a greater index, the tables are done
+    nothing-left : 65536 * (i .index + 1) ≤ n + 1 → now ≡ recorded (labelsAt es i s) old
+    unfolding recorded recordAll
     nothing-left h =
         let none-left = left-none (at .ready .slots) i s es (at .from) (at .ready .rising) (omega (arith, at .is-due)) in
-        ap (λ xs. recordAll xs tab) (sym none-left) ∙ at .to-do
+        ap (λ xs. recorded xs now) (sym none-left) ∙ at .to-do
 
     -- the loop ends where no entry is left
-    pub none-due : n ≡ noneLeft → Recorded es i s old tab n
+    pub none-due : n ≡ noneLeft → Recorded es i s old now n
     none-due h =
         let g : ℕ = 65536 * (i .index + 1) in
         record { table = nothing-left (omega (arith, at .ready .index-fits)); is-due = omega (arith, at .is-due, due-most es g, due-rises es (at .from) g (at .high)) }
 
     -- and where what is due has another index, which is greater
-    pub later-due : (n / 65536 ≡ i .index → ⊥) → Recorded es i s old tab n
+    pub later-due : (n / 65536 ≡ i .index → ⊥) → Recorded es i s old now n
     later-due h =
         let g : ℕ = 65536 * (i .index + 1) in
         let l : g ≤ n = omega (arith, at .low, at .is-due, due-least es (at .from) (at .most)) in

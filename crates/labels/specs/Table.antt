@@ -5,23 +5,27 @@ use mathlib.Core.Bool.{Bool, true, false, _&&_}
 use mathlib.Core.Option.{Option, none, some}
 use mathlib.Core.List.{List, [], _∷_}
 use lib.ListN.{length, getD, set}
-use lib.Dec.{ltb}
+use lib.Dec.{ltb, eqb}
 use Rattle.layout.specs.Lists.{pick}
 use Rattle.layout.specs.Numbers.{u16At}
 use Rattle.layout.specs.Tree.{ActionIndex, Entry, entry}
-use Rattle.layout.specs.Write.{Position, Event, labelAt, branchAt, payloadTooLong, bodyTooLong, labelsAt, lookup}
+use Rattle.layout.specs.Write.{Position, position, Event, labelAt, branchAt, payloadTooLong, bodyTooLong, labelsAt, lookup}
 
--- ---- the table
+-- ---- the table of positions
 
--- what it holds for a label number: its record's position + 1, or 0 without one
+-- what it keeps of a label's record: its position + 1
+abbrev pub slotOf : Position → ℕ
+slotOf s = s .at + 1
+
+-- what it holds for a label number, 0 without a record
 unfoldable pub slot : Option Position → ℕ
 slot none = 0
-slot (some s) = s .at + 1
+slot (some s) = slotOf s
 
--- the record that a slot holds
+-- the record that a slot holds, but for its home, which this table does not keep: 0 stands there
 unfoldable pub recordOf : ℕ → Option Position
 recordOf zero = none
-recordOf (suc n) = some (record { at = n })
+recordOf (suc n) = some (position n 0)
 
 -- the record that a table holds for a label
 abbrev pub recordAt : List ℕ → ℕ → Option Position
@@ -32,18 +36,56 @@ unfoldable pub isRecorded : Option Position → Bool
 isRecorded none = false
 isRecorded (some s) = true
 
--- what the label records among these events make of a table
-unfoldable pub recordAll : List Event → List ℕ → List ℕ
-recordAll [] tab = tab
-recordAll (labelAt l s ∷ es) tab = recordAll es (set tab l (s .at + 1))
-recordAll (branchAt l s ∷ es) tab = recordAll es tab
-recordAll (payloadTooLong n s ∷ es) tab = recordAll es tab
-recordAll (bodyTooLong n s ∷ es) tab = recordAll es tab
+-- ---- the table of homes: lent where the mode is contained, else empty
+
+-- what it keeps of a label's record
+abbrev pub homeOf : Position → ℕ
+homeOf s = s .home
+
+-- a record with this home
+unfoldable pub homed : ℕ → Option Position → Option Position
+homed home none = none
+homed home (some s) = some (position (s .at) home)
+
+-- the record that both tables hold for a label
+abbrev pub recordIn : List ℕ → List ℕ → ℕ → Option Position
+recordIn tab homes l = homed (getD homes l 0) (recordAt tab l)
+
+-- whether a record, if there is one, was made in the function body that starts at `home`
+unfoldable pub isAtHome : ℕ → Option Position → Bool
+isAtHome home none = true
+isAtHome home (some s) = eqb (s .home) home
+
+-- ---- recording
+
+-- what the label records among these events make of a table, by what it keeps of each; a label past its end changes nothing
+unfoldable pub recordAll : (Position → ℕ) → List Event → List ℕ → List ℕ
+recordAll keep [] tab = tab
+recordAll keep (labelAt l s ∷ es) tab = recordAll keep es (set tab l (keep s))
+recordAll keep (branchAt l s ∷ es) tab = recordAll keep es tab
+recordAll keep (payloadTooLong n s ∷ es) tab = recordAll keep es tab
+recordAll keep (bodyTooLong n s ∷ es) tab = recordAll keep es tab
+
+-- both tables
+pub record Tables : Type 0 where
+  pub positions : List ℕ
+  pub homes : List ℕ
+
+abbrev pub tables : List ℕ → List ℕ → Tables
+tables tab homes = record { positions = tab; homes = homes }
+
+-- what the label records make of both
+unfoldable pub recorded : List Event → Tables → Tables
+recorded es t = tables (recordAll slotOf es (t .positions)) (recordAll homeOf es (t .homes))
 
 -- a table of `bound` slots holds each label's final record among these events
 pub record TableHolds (bound : ℕ) (tab : List ℕ) (es : List Event) : Type 0 where
   pub slots : length tab ≡ bound
   pub holds : (l : ℕ) → l < bound → getD tab l 0 ≡ slot (lookup l es)
+
+-- and a table of homes the home of each one's
+pub record HomesHold (homes : List ℕ) (es : List Event) : Type 0 where
+  pub holds : (l : ℕ) (s : Position) → l < length homes → lookup l es ≡ some s → getD homes l 0 ≡ s .home
 
 -- ---- the entries
 
@@ -79,8 +121,9 @@ pub data Rising (bound : ℕ) : ℕ → List Entry → Type 0 where
 abbrev pub indexOf : Rattle.positions.specs.declared.ActionIndex.ActionIndex → ActionIndex
 indexOf i = record { index = i .0 }
 
-abbrev pub positionOf : Rattle.positions.specs.declared.BytePosition.BytePosition → Position
-positionOf p = record { at = p .0 }
+-- a position, and where the function body that it lies in starts
+abbrev pub positionOf : Rattle.positions.specs.declared.BytePosition.BytePosition → Rattle.positions.specs.declared.BytePosition.BytePosition → Position
+positionOf p home = position (p .0) (home .0)
 
 -- ---- the recording of the entries es with index i, at position s
 
@@ -92,9 +135,9 @@ pub record Recordable (es : List Entry) (first : ℕ) (i : ActionIndex) (s : Pos
   pub index-fits : i .index < 65536
   pub position-fits : s .at < 9223372036854775808
 
--- what it leaves in the table, and `later`, the first entry due at the next action
-pub record Recorded (es : List Entry) (i : ActionIndex) (s : Position) (old new : List ℕ) (later : ℕ) : Type 0 where
-  pub table : new ≡ recordAll (labelsAt es i s) old
+-- what it leaves in the tables, and `later`, the first entry due at the next action
+pub record Recorded (es : List Entry) (i : ActionIndex) (s : Position) (old new : Tables) (later : ℕ) : Type 0 where
+  pub table : new ≡ recorded (labelsAt es i s) old
   pub is-due : later ≡ due es (65536 * (i .index + 1))
 
 -- ---- a branch's distance

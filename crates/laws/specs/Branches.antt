@@ -58,6 +58,13 @@ module _ (P : ℕ → Position → Type 0) where
     each-then f (payloadTooLong n s ∷ es) h = each-then f es h
     each-then f (bodyTooLong n s ∷ es) h = each-then f es h
 
+    pub each-both : (es : List Event) → EachBranch P es → EachBranch Q es → EachBranch (λ l s. P l s × Q l s) es
+    each-both [] h k = tt
+    each-both (labelAt l s ∷ es) h k = each-both es h k
+    each-both (branchAt l s ∷ es) h k = ((h .0, k .0), each-both es (h .1) (k .1))
+    each-both (payloadTooLong n s ∷ es) h k = each-both es h k
+    each-both (bodyTooLong n s ∷ es) h k = each-both es h k
+
 -- ---- the first that a rule refuses, by the final records
 
 -- what is so for one branch after the other, by two rules or by two records of each label

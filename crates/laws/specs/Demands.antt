@@ -14,7 +14,7 @@ use Rattle.layout.specs.Lists.{pick}
 use Rattle.layout.specs.Answers.{SheetTooLong, Answer, Done}
 use Rattle.layout.specs.Tree.{ActionOf, ActionListOf, ActionsOf, CatchOf, FinallyOf, ActionIndex, firstAction, nextAction, Entry, Action, flat, branch, owner, Try, ActionList, empty, more, Actions, body, Catch, noCatch, catch, Finally, noFinally, finally}
 use Rattle.layout.specs.Payload.{ownerFields, catchName}
-use Rattle.layout.specs.Write.{size, bodySize, catchSize, finallySize, Position, position, Event, moved, payloadTest, bodyTest, labelsAt, trace, traces, traceBody, traceCatch, traceFinally, events, lookup, distanceBits, branchBits, bodyBytes, blockBytes, blockSize}
+use Rattle.layout.specs.Write.{bodySize, catchSize, finallySize, Position, blockStart, Event, moved, toBody, toTry, toCatch, toFinally, past, payloadTest, bodyTest, labelsAt, trace, traces, traceBody, traceCatch, traceFinally, events, lookup, distanceBits, branchBits, bodyBytes, blockBytes, blockSize}
 use Rattle.layout.specs.Judge.{distance, isNear, judged, tooFar, Mode}
 use Rattle.layout.specs.Cut.{Cut, main, uncut, sheetLimit, trailerDistance, isMarked, cutIf, cutAt, cutIfTrailer, cutIfShort, cut}
 use Rattle.layout.specs.Pack.{packCut, pack, output, ReadsAs}
@@ -107,14 +107,14 @@ module _ (all : List Event) where
     signed (flat f) s e = refl
     signed (branch k l) s e = ap (branch k) (judged-signed (lookup l all) (s .at + 5) (branch-near final l s e))
     signed (owner o b) s e =
-        let u : Position = moved (5 + length (ownerFields o)) s in
+        let u : Position = toBody o s in
         let y : List Event = traceBody b u in
         let z : List Event = bodyTest (bodySize b) s in
         ap (owner o) (signed-body b u (near-left final y z (near-right final (payloadTest (length (ownerFields o) + 2) s) (y ++ z) e)))
     signed (Try b c f) s e =
-        let t : Position = moved (10 + length (catchName c)) s in
-        let t₁ : Position = moved (bodySize b) t in
-        let t₂ : Position = moved (bodySize b + catchSize c) t in
+        let t : Position = toTry c s in
+        let t₁ : Position = toCatch b c s in
+        let t₂ : Position = toFinally b c s in
         let x₁ : List Event = traceBody b t in
         let x₂ : List Event = traceCatch c t₁ in
         let x₃ : List Event = traceFinally f t₂ in
@@ -128,9 +128,9 @@ module _ (all : List Event) where
         → mapBranchList signed16 (toldActions bitsOf xs (s .at)) ≡ toldActions distanceOf xs (s .at)
     signed-actions empty es i s e = refl
     signed-actions (more a xs) es i s e =
-        let y : List Event = traces xs es (nextAction i) (moved (size a) s) in
+        let y : List Event = traces xs es (nextAction i) (past a s) in
         let r : NoneFar final (trace a s ++ y) = near-right final (labelsAt es i s) (trace a s ++ y) e in
-        ap₂ more (signed a s (near-left final (trace a s) y r)) (signed-actions xs es (nextAction i) (moved (size a) s) (near-right final (trace a s) y r))
+        ap₂ more (signed a s (near-left final (trace a s) y r)) (signed-actions xs es (nextAction i) (past a s) (near-right final (trace a s) y r))
 
     signed-body : (b : Actions) (s : Position) → NoneFar final (traceBody b s) → mapBranches signed16 (toldBody bitsOf b (s .at)) ≡ toldBody distanceOf b (s .at)
     signed-body (body es xs) s e = ap (body []) (signed-actions xs es firstAction s e)
@@ -152,7 +152,7 @@ branch-small t l p = bits-small (lookup l (events t)) p
 -- the meaning is what the block's bits tell
 meaning-told : (t : Actions) → tooFar (events t) (events t) ≡ none → meaning t ≡ mapBranches signed16 (toldBody (branchBits t) t 0)
 unfolding meaning branchDistance branchBits
-meaning-told t e = sym (signed-body (events t) t (position 0) (unfold events in e))
+meaning-told t e = sym (signed-body (events t) t blockStart (unfold events in e))
 
 snoc-same : (x y : List ℕ) (a : ℕ) → x ++ a ∷ [] ≡ y ++ a ∷ [] → x ≡ y
 snoc-same x y a e =

@@ -4,6 +4,8 @@ pub mod Fits
 pub mod Branches
 pub mod Nears
 pub mod Modes
+pub mod Barred
+pub mod Homes
 pub mod Within
 pub mod RoundTrip
 pub mod ReadFits

@@ -9,7 +9,7 @@ use lib.Dec.{leb}
 use borrow.Author.Tests.{leb-true}
 use native.Mathlib.Omega.{arith}
 use Rattle.layout.specs.Answers.{JumpOffsetOverflow}
-use Rattle.layout.specs.Write.{Position, Event, branchAt, moved, distanceBits}
+use Rattle.layout.specs.Write.{Position, Event, branchAt, moved, toOperand, distanceBits}
 use Rattle.layout.specs.Judge.{distance, isNear, farUnless, judged, firstRefused, farBy}
 use Rattle.laws.specs.Branches.{or-left, or-right, refused-append}
 
@@ -52,7 +52,7 @@ module _ (final : ℕ → Option Position) where
   near-right xs ys e = or-right (farBy final xs) (farBy final ys) (sym (refused-append _ final xs ys) ∙ e)
 
   -- a branch at a position, whose operand ends five bytes after it
-  pub branch-near : (l : ℕ) (s : Position) → NoneFar (branchAt l (moved 3 s) ∷ []) → judged (final l) (s .at + 5) ≡ none
+  pub branch-near : (l : ℕ) (s : Position) → NoneFar (branchAt l (toOperand s) ∷ []) → judged (final l) (s .at + 5) ≡ none
   unfolding firstRefused moved
   branch-near l s e =
       let same : s .at + 5 ≡ s .at + 3 + 2 = omega arith in

@@ -15,7 +15,7 @@ use Rattle.layout.specs.Tree.{Actions, ActionsOf, ActionIndex, firstAction, nex
 use Rattle.layout.specs.Read.{Text, plain, Terms, edition1, deepest, Place, Read, got, bad, readMain, readString}
 use Rattle.layout.specs.Strings.{mapBody}
 use Rattle.layout.specs.Payload.{payload, ownerFields, catchName}
-use Rattle.layout.specs.Write.{size, bodySize, catchSize, finallySize, Position, Event, labelAt, branchAt, payloadTooLong, bodyTooLong, moved, eventIf, payloadTest, bodyTest, labelsAt, trace, traces, traceBody, traceCatch, traceFinally, events, lookup, blockBytes, blockSize}
+use Rattle.layout.specs.Write.{bodySize, catchSize, finallySize, Position, Event, labelAt, branchAt, payloadTooLong, bodyTooLong, blockStart, toBody, toTry, toCatch, toFinally, past, eventIf, payloadTest, bodyTest, labelsAt, trace, traces, traceBody, traceCatch, traceFinally, events, lookup, blockBytes, blockSize}
 use Rattle.layout.specs.Judge.{tooLong, tooFar, orElse, Mode, badBranch, judge}
 use Rattle.layout.specs.Cut.{Cut, main, uncut, sheetLimit, trailerDistance, isMarked, cutIf, cutAt, cutIfTrailer, cutIfShort, cut}
 use Rattle.layout.specs.Pack.{unless, ifRoom, packTree, spelling, packRead, packCut, pack, ReadsAs}
@@ -200,15 +200,15 @@ mutual
   fits (branch k l) s h e = tt
   fits (owner o b) s h e =
       let x : List Event = payloadTest (length (ownerFields o) + 2) s in
-      let u : Position = moved (5 + length (ownerFields o)) s in
+      let u : Position = toBody o s in
       let y : List Event = traceBody b u in
       let z : List Event = bodyTest (bodySize b) s in
       let r : Short (y ++ z) = short-right x (y ++ z) e in
       (h .0, payload-short (length (ownerFields o) + 2) s (short-left x (y ++ z) e), body-short (bodySize b) s (short-right y z r), fits-body b u (h .1) (short-left y z r))
   fits (Try b c f) s h e =
-      let t : Position = moved (10 + length (catchName c)) s in
-      let t₁ : Position = moved (bodySize b) t in
-      let t₂ : Position = moved (bodySize b + catchSize c) t in
+      let t : Position = toTry c s in
+      let t₁ : Position = toCatch b c s in
+      let t₂ : Position = toFinally b c s in
       let x₀ : List Event = payloadTest (7 + length (catchName c)) s in
       let x₁ : List Event = traceBody b t in
       let x₂ : List Event = traceCatch c t₁ in
@@ -234,9 +234,9 @@ mutual
   fits-actions : (xs : ActionList) (es : List Entry) (i : ActionIndex) (s : Position) → WellActions xs → Short (traces xs es i s) → ActionsFit xs
   fits-actions empty es i s h e = tt
   fits-actions (more a xs) es i s h e =
-      let y : List Event = traces xs es (nextAction i) (moved (size a) s) in
+      let y : List Event = traces xs es (nextAction i) (past a s) in
       let r : Short (trace a s ++ y) = short-right (labelsAt es i s) (trace a s ++ y) e in
-      (fits a s (h .0) (short-left (trace a s) y r), fits-actions xs es (nextAction i) (moved (size a) s) (h .1) (short-right (trace a s) y r))
+      (fits a s (h .0) (short-left (trace a s) y r), fits-actions xs es (nextAction i) (past a s) (h .1) (short-right (trace a s) y r))
 
   fits-body : (b : Actions) (s : Position) → WellBody b → Short (traceBody b s) → BodyFits b
   fits-body (body es xs) s h e = fits-actions xs es firstAction s h e
@@ -270,4 +270,4 @@ module _ (s : List ℕ) (t : Actions) (small : Bytes s) (h : ReadsAs s t) where
   -- and where nothing is too long, its lengths fit too
   pub tree-fits : tooLong (events t) ≡ none → BodyFits t
   unfolding events
-  tree-fits e = fits-body t (record { at = 0 }) (tree-good .0) e
+  tree-fits e = fits-body t (blockStart) (tree-good .0) e

@@ -2,18 +2,18 @@
 use mathlib.Core.Path.{_≡_, refl, sym, subst}
 use Prim.Native.Nat.{ℕ, suc, _+_, _-_, _*_, _≤_, _<_}
 use native.Mathlib.Omega.{arith}
-use mathlib.Core.Bool.{Bool, true, false, _&&_}
+use mathlib.Core.Bool.{Bool, true, false, _&&_, not}
 use mathlib.Core.Option.{Option, none, some}
 use mathlib.Core.List.{List, [], _∷_}
 use lib.ListN.{length, drop}
 use lib.IntN.{pos, subℕ}
-use lib.Dec.{leb, ltb}
+use lib.Dec.{leb, ltb, eqb}
 use borrow.Author.Tests.{ltb-true, ltb-false}
-use Rattle.layout.specs.Answers.{Refusal, NeverRecorded, refusalValue, Answer, value, lengthOf}
+use Rattle.layout.specs.Answers.{Refusal, NeverRecorded, StrayBranch, refusalValue, Answer, value, lengthOf}
 use Rattle.layout.specs.Tree.{Actions, ActionsOf}
 use Rattle.layout.specs.Read.{Text, edition1, deepest, Read}
 use Rattle.layout.specs.Strings.{mapBody}
-use Rattle.layout.specs.Write.{bodySize, Position, position, Event, labelAt, branchAt, payloadTooLong, bodyTooLong, events, lookup, blockBytes, blockSize}
+use Rattle.layout.specs.Write.{bodySize, Position, blockStart, Event, labelAt, branchAt, payloadTooLong, bodyTooLong, events, lookup, blockBytes, blockSize}
 use Rattle.layout.specs.Judge.{tooLong, distance, isNear, farUnless, judged, orElse, Mode, refusalIf, barred, judgedIn, firstRefused, badBy, judge}
 use Rattle.layout.specs.Cut.{Cut, main, uncut, sheetLimit, trailerDistance, isMarked, cutIf, cutAt, cutIfTrailer, cutIfShort, cut}
 use Rattle.layout.specs.Pack.{unless, ifRoom, packTree, spelling, packRead, packCut, pack}
@@ -72,7 +72,11 @@ module _ (end : ℕ) (small : end < 9223372036854775808) where
       go : (t : Bool) → Held (refusalIf t (NeverRecorded (s .at)))
       go true = zeroUp {n = s .at} (omega arith)
       go false = tt
-  barred-held m (some r) s k = tt
+  barred-held m (some r) s k = go (m .contained && not (eqb (r .home) (s .home)))
+    where
+      go : (t : Bool) → Held (refusalIf t (StrayBranch (s .at)))
+      go true = zeroUp {n = s .at} (omega arith)
+      go false = tt
 
   bad-held : (m : Mode) (final : ℕ → Option Position) → ((l : ℕ) → Recorded end (final l)) → (es : List Event) → AllWithin end es → Held (badBy m final es)
   unfolding firstRefused judgedIn
@@ -91,7 +95,7 @@ unfolding packTree
 tree-i64 m t room small = go (judge m t) (leb (blockSize t) room) judge-held
   where
     all : AllWithin (bodySize t) (events t)
-    all = unfold events in body-within (bodySize t) t (position 0) (omega arith)
+    all = unfold events in body-within (bodySize t) t blockStart (omega arith)
 
     judge-held : Held (judge m t)
     judge-held =

@@ -7,11 +7,11 @@ use mathlib.Core.Option.{Option, none, some}
 use mathlib.Core.List.{List, [], _∷_, _++_}
 use lib.ListN.{length}
 use lib.Dec.{ltb, eqb}
-use Rattle.layout.specs.Lists.{All}
+use Rattle.layout.specs.Lists.{All, all-append}
 use Rattle.layout.specs.OpCode.{OpCode, byte}
 use Rattle.layout.specs.Tree.{Flat, Small, GotoFrame, GetUrl, StoreRegister, ConstantPool, WaitForFrame, SetTarget, GotoLabel, WaitForFrame2, Push, GetUrl2, GotoFrame2, ActionIndex, firstAction, nextAction, Entry, entry, Action, flat, branch, owner, Try, ActionList, empty, more, Actions, body, Catch, noCatch, catch, Finally, noFinally, finally}
-use Rattle.layout.specs.Payload.{opcode, payload, ownerFields, catchName, framed}
-use Rattle.layout.specs.Write.{size, sizes, bodySize, catchSize, finallySize, Position, moved, Event, labelAt, branchAt, payloadTooLong, bodyTooLong, eventIf, payloadTest, bodyTest, labelsAt, trace, traces, traceBody, traceCatch, traceFinally, events, later, recordIf, lookup}
+use Rattle.layout.specs.Payload.{opcode, payload, framed}
+use Rattle.layout.specs.Write.{size, sizes, bodySize, catchSize, finallySize, Position, moved, toBody, toTry, toCatch, toFinally, past, Event, labelAt, branchAt, payloadTooLong, bodyTooLong, eventIf, payloadTest, bodyTest, labelsAt, trace, traces, traceBody, traceCatch, traceFinally, later, recordIf, lookup}
 use Rattle.layout.specs.Lengths.{length-framed}
 
 -- ---- a payload is no longer than its action
@@ -48,8 +48,7 @@ module _ (end : ℕ) where
   AllWithin es = All Within es
 
   both : (xs ys : List Event) → AllWithin xs → AllWithin ys → AllWithin (xs ++ ys)
-  both [] ys h k = k
-  both (x ∷ xs) ys h k = (h .0, both xs ys (h .1) k)
+  both xs ys h k = all-append Within xs ys h k
 
   if-within : (t : Bool) (e : Event) → Within e → AllWithin (eventIf t e)
   unfolding eventIf
@@ -78,20 +77,19 @@ module _ (end : ℕ) where
     action-within (branch k l) s h = (omega (arith, h), tt)
     action-within (owner o b) s h =
         both (payloadTest _ s) _ (payload-within _ s (omega (arith, h)))
-        (both (traceBody b _) _ (body-within b (moved (5 + length (ownerFields o)) s) (omega (arith, h))) (length-within _ s (omega (arith, h))))
+        (both (traceBody b (toBody o s)) _ (body-within b (toBody o s) (omega (arith, h))) (length-within _ s (omega (arith, h))))
     action-within (Try b c f) s h =
-        let t : Position = moved (10 + length (catchName c)) s in
         both (payloadTest _ s) _ (payload-within _ s (omega (arith, h)))
-        (both (traceBody b t) _ (body-within b t (omega (arith, h)))
-        (both (traceCatch c (moved (bodySize b) t)) _ (catch-within c (moved (bodySize b) t) (omega (arith, h)))
-        (both (traceFinally f (moved (bodySize b + catchSize c) t)) _ (finally-within f (moved (bodySize b + catchSize c) t) (omega (arith, h)))
+        (both (traceBody b (toTry c s)) _ (body-within b (toTry c s) (omega (arith, h)))
+        (both (traceCatch c (toCatch b c s)) _ (catch-within c (toCatch b c s) (omega (arith, h)))
+        (both (traceFinally f (toFinally b c s)) _ (finally-within f (toFinally b c s) (omega (arith, h)))
         (both (bodyTest _ s) _ (length-within _ s (omega (arith, h))) (both (bodyTest _ s) _ (length-within _ s (omega (arith, h))) (length-within _ s (omega (arith, h))))))))
 
     actions-within : (xs : ActionList) (es : List Entry) (i : ActionIndex) (s : Position) → s .at + sizes xs ≤ end → AllWithin (traces xs es i s)
     actions-within empty es i s h = labels-within es i s (omega (arith, h))
     actions-within (more a xs) es i s h =
         both (labelsAt es i s) _ (labels-within es i s (omega (arith, h)))
-        (both (trace a s) _ (action-within a s (omega (arith, h))) (actions-within xs es (nextAction i) (moved (size a) s) (omega (arith, h))))
+        (both (trace a s) _ (action-within a s (omega (arith, h))) (actions-within xs es (nextAction i) (past a s) (omega (arith, h))))
 
     pub body-within : (b : Actions) (s : Position) → s .at + bodySize b ≤ end → AllWithin (traceBody b s)
     body-within (body es xs) s h = actions-within xs es firstAction s h

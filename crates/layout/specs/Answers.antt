@@ -10,7 +10,7 @@ use Rattle.layout.specs.Numbers.{i64Bytes}
 pub data Fault : Type 0 where
   CutShort UnknownCode BadField TooDeep LeftOver : Fault
 
--- numbers 1 to 14, each with what its value is made of
+-- numbers 1 to 15, each with what its value is made of
 pub data Refusal : Type 0 where
   SheetTooLong : (sheet-length : ℕ) → Refusal
   BadTrailer : Refusal
@@ -22,6 +22,7 @@ pub data Refusal : Type 0 where
   InputFull : Refusal
   Unclean : (place : ℕ) → Refusal
   NeverRecorded : (operand : ℕ) → Refusal
+  StrayBranch : (operand : ℕ) → Refusal
 
 -- number 0 with what was made, or a refusal
 pub data Answer (A : Type 0) : Type 0 where
@@ -47,6 +48,7 @@ refusalNumber (NoRoom n) = 11
 refusalNumber InputFull = 12
 refusalNumber (Unclean p) = 13
 refusalNumber (NeverRecorded p) = 14
+refusalNumber (StrayBranch p) = 15
 
 -- the column "Value, and when"; only 10's can be negative
 unfoldable pub refusalValue : Refusal → ℤ
@@ -60,6 +62,7 @@ refusalValue (NoRoom n) = pos n
 refusalValue InputFull = pos 65536
 refusalValue (Unclean p) = pos p
 refusalValue (NeverRecorded p) = pos p
+refusalValue (StrayBranch p) = pos p
 
 unfoldable pub number : {A : Type 0} → Answer A → ℕ
 number (Done a) = 0

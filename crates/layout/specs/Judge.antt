@@ -1,12 +1,12 @@
 -- What is wrong with a tree that was read: 8 and 9, "the first met in writing order; then 10, branches in writing order"; and
--- what a mode refuses besides, 14, which is "judged with 10". Assumes nothing.
+-- what a mode refuses besides, 14 and 15, which are "judged with 10". Assumes nothing.
 use Prim.Native.Nat.{ℕ, _+_}
-use mathlib.Core.Bool.{Bool, true, false, _&&_}
+use mathlib.Core.Bool.{Bool, true, false, _&&_, not}
 use mathlib.Core.Option.{Option, none, some}
 use mathlib.Core.List.{List, [], _∷_}
 use lib.IntN.{ℤ, pos, subℕ}
-use lib.Dec.{leb}
-use Rattle.layout.specs.Answers.{Refusal, ActionLenOverflow, BlockLenOverflow, JumpOffsetOverflow, NeverRecorded}
+use lib.Dec.{leb, eqb}
+use Rattle.layout.specs.Answers.{Refusal, ActionLenOverflow, BlockLenOverflow, JumpOffsetOverflow, NeverRecorded, StrayBranch}
 use Rattle.layout.specs.Tree.{Actions}
 use Rattle.layout.specs.Write.{Position, Event, labelAt, branchAt, payloadTooLong, bodyTooLong, lookup, events}
 
@@ -43,13 +43,14 @@ orElse (some r) o = some r
 
 -- ---- the mode
 
--- document 02: "a strict mode beside the plain one"
+-- document 02: "a strict mode beside the plain one", and "a contained mode, usable with or without strict"
 pub record Mode : Type 0 where
   pub strict : Bool
+  pub contained : Bool
 
 -- document 01's
 abbrev pub plainMode : Mode
-plainMode = record { strict = false }
+plainMode = record { strict = false; contained = false }
 
 -- a refusal, where a test holds
 unfoldable pub refusalIf : Bool → Refusal → Option Refusal
@@ -57,12 +58,13 @@ refusalIf true r = some r
 refusalIf false r = none
 
 -- what the mode alone refuses in one branch, by its label's record and its operand's position: in strict mode "a branch whose
--- label has no record stops the build", by 14 with "the byte position of the operand"
+-- label has no record stops the build", by 14; a contained mode "refuses a branch whose final label record is in another function
+-- body", by 15, and "an unrecorded label is left to strict mode". The value of both is "the byte position of the operand"
 unfoldable pub barred : Mode → Option Position → Position → Option Refusal
 barred mode none s = refusalIf (mode .strict) (NeverRecorded (s .at))
-barred mode (some r) s = none
+barred mode (some r) s = refusalIf (mode .contained && not (eqb (r .home) (s .home))) (StrayBranch (s .at))
 
--- what is wrong with one branch, by the same
+-- what is wrong with one branch, by the same: "for one branch 15 before 10"
 unfoldable pub judgedIn : Mode → Option Position → Position → Option Refusal
 judgedIn mode o s = orElse (barred mode o s) (judged o (s .at + 2))
 
@@ -92,6 +94,6 @@ tooFar all es = farBy (λ l. lookup l all) es
 abbrev pub badBranch : Mode → List Event → List Event → Option Refusal
 badBranch mode all es = badBy mode (λ l. lookup l all) es
 
--- 8 and 9 before 10 and 14
+-- 8 and 9 before 10, 14 and 15
 unfoldable pub judge : Mode → Actions → Option Refusal
 judge mode t = orElse (tooLong (events t)) (badBranch mode (events t) (events t))

@@ -18,7 +18,7 @@ use Rattle.layout.specs.Judge.{tooLong, orElse, Mode, badBranch, judge}
 use Rattle.layout.specs.Cut.{main, uncut, cut}
 use Rattle.layout.specs.Pack.{unless, ifRoom, blockIn, packTree, packRead, packCut, pack, Outcome, ReadsAs}
 
--- ---- 1, 2; then 3 to 7; then 8 and 9; then 10 and 14; then 11
+-- ---- 1, 2; then 3 to 7; then 8 and 9; then 10, 14 and 15; then 11
 
 -- 1 and 2 come first, whatever the room
 pub uncut-first : (m : Mode) (s : List ℕ) (room : ℕ) (r : Refusal) → cut s ≡ uncut r → pack m s room ≡ Refused r
@@ -37,12 +37,12 @@ unfolding pack packCut packRead
 tree-next m s room t h = ap (λ x. packCut m x room) (h .is-cut) ∙ ap (λ x. packRead m (h .start) x room) (h .is-read) ∙ ap (λ x. packTree m x room) (h .is-tree)
 
 module _ (m : Mode) (t : Actions) (room : ℕ) where
-  -- 8 and 9 come before 10, 14 and 11
+  -- 8 and 9 come before 10, 14, 15 and 11
   pub long-first : (r : Refusal) → tooLong (events t) ≡ some r → packTree m t room ≡ Refused r
   unfolding packTree unless judge orElse
   long-first r e = rw e
 
-  -- 10 and 14 come before 11
+  -- 10, 14 and 15 come before 11
   pub branch-next : (r : Refusal) → tooLong (events t) ≡ none → badBranch m (events t) (events t) ≡ some r → packTree m t room ≡ Refused r
   unfolding packTree unless judge orElse
   branch-next r e f = rw (e, f)

@@ -1,5 +1,5 @@
 -- The packer: from a mode, a sheet and the room in the output to an answer and what the output then holds. "The order is 1, 2;
--- then 3 to 7 ..; then 8 and 9 ..; then 10 ..; then 11", and 14 is judged with 10. Assumes nothing.
+-- then 3 to 7 ..; then 8 and 9 ..; then 10 ..; then 11", and 14 and 15 are judged with 10. Assumes nothing.
 use mathlib.Core.Path.{_≡_}
 use Prim.Native.Nat.{ℕ, _+_}
 use mathlib.Core.Bool.{Bool, true, false}

@@ -2,20 +2,20 @@
 -- Assumes nothing.
 use mathlib.Core.Path.{_≡_, refl}
 use Prim.Native.Nat.{ℕ}
-use mathlib.Core.Bool.{true}
+use mathlib.Core.Bool.{true, false}
 use mathlib.Core.Option.{some}
 use mathlib.Core.List.{List, [], _∷_, _++_}
 use lib.ListN.{length}
 use lib.IntN.{ℤ, pos}
 use Rattle.layout.specs.Lists.{All, each, pick, firstWith}
 use Rattle.layout.specs.Numbers.{le16, le32, bit}
-use Rattle.layout.specs.Answers.{NeverRecorded, JumpOffsetOverflow, Done, refusalNumber, refusalValue, number, value, lengthOf}
+use Rattle.layout.specs.Answers.{NeverRecorded, StrayBranch, JumpOffsetOverflow, Done, refusalNumber, refusalValue, number, value, lengthOf}
 use Rattle.layout.specs.OpCode.{smallByte, byte, smallOpCodes, opcodes, opcodeOf}
 use Rattle.layout.specs.PushKind.{kindByte, pushKinds, kindOf}
 use Rattle.layout.specs.Read.{edition1, ifWhole, ifWithin, tested, repeat, firstZero, ifNoZero, ifNothingLeft, readU8, readU16, readU32, readU64, readBytes, readFlag, readSpelling, readCounted, hasCatch, hasFinally, hasRegister, isShape, readString, readValueOf, readValueIf, readValue, readParam, readLabel, readEntries, readCatchTarget, readCatch, readFinally, readTry, readFields, readFieldsIf, readAction, readActions, readBodyWith, readBody, readMain}
 use Rattle.layout.specs.Strings.{mapValue, mapParam, mapFlat, mapOwner, mapTarget, mapAction}
 use Rattle.layout.specs.Payload.{zeroEnded, stringsBytes, constantBytes, doubleBytes, pushBytes, pushesBytes, opcode, gotoFrame2Bytes, getUrl2Bits, payload, ownerOpCode, paramsBytes, ownerFields, ownerPayload, branchOpCode, catchShape, finallyShape, catchName, tryPayload, headed, framed}
-use Rattle.layout.specs.Write.{Event, labelAt, branchAt, position, moved, eventIf, payloadTest, bodyTest, labelsAt, events, later, recordIf, lookup, distanceBits, branchBits, blockBytes, blockSize, size, trace, bytes}
+use Rattle.layout.specs.Write.{Event, labelAt, branchAt, position, homeIn, moved, eventIf, payloadTest, bodyTest, labelsAt, events, later, recordIf, lookup, distanceBits, branchBits, blockBytes, blockSize, size, trace, bytes}
 use Rattle.layout.specs.Judge.{tooLong, distance, isNear, farUnless, judged, orElse, Mode, plainMode, refusalIf, barred, judgedIn, firstRefused, badBranch, judge}
 use Rattle.layout.specs.Cut.{trailerDistance, isMarked, cutIf, cutAt, cutIfTrailer, cutIfShort, cut}
 use Rattle.layout.specs.Pack.{unless, ifRoom, packTree, spelling, packRead, packCut, pack, output}
@@ -72,9 +72,15 @@ byHand =
 pub data Case : Type 0 where
   case : (mode : Mode) (main : List ℕ) (room number : ℕ) (value : ℤ) → Case
 
--- the mode in which a label needs a record
+-- the modes beside plain mode
 abbrev pub strictMode : Mode
-strictMode = record { strict = true }
+strictMode = record { strict = true; contained = false }
+
+abbrev pub containedMode : Mode
+containedMode = record { strict = false; contained = true }
+
+abbrev pub bothModes : Mode
+bothModes = record { strict = true; contained = true }
 
 unfoldable pub byMode : List Case
 byMode =
@@ -92,6 +98,32 @@ byMode =
     ∷ case strictMode (0x00 ∷ 0x00 ∷ 0x02 ∷ 0x00 ∷ 0x94 ∷ 0x00 ∷ 0x00 ∷ 0x01 ∷ 0x00 ∷ 0x9D ∷ 0x00 ∷ 0x00 ∷ 0x99 ∷ 0x01 ∷ 0x00 ∷ []) 16 14 (pos 8)
     -- Jump 0, then a With whose body ends with label 0: recorded, though later and in another body
     ∷ case strictMode (0x00 ∷ 0x00 ∷ 0x02 ∷ 0x00 ∷ 0x99 ∷ 0x00 ∷ 0x00 ∷ 0x94 ∷ 0x01 ∷ 0x00 ∷ 0x00 ∷ 0x00 ∷ 0x01 ∷ 0x00 ∷ 0x01 ∷ 0x00 ∷ 0x17 ∷ []) 12 0 (pos 12)
+    -- a label recorded in a function, Jump in the main block
+    ∷ case containedMode (0x00 ∷ 0x00 ∷ 0x02 ∷ 0x00 ∷ 0x9B ∷ 0x01 ∷ 0x00 ∷ 0x66 ∷ 0x00 ∷ 0x00 ∷ 0x01 ∷ 0x00 ∷ 0x00 ∷ 0x00 ∷ 0x00 ∷ 0x00 ∷ 0x01 ∷ 0x00 ∷ 0x06 ∷ 0x99 ∷ 0x00 ∷ 0x00 ∷ []) 16 15 (pos 13)
+    ∷ case plainMode (0x00 ∷ 0x00 ∷ 0x02 ∷ 0x00 ∷ 0x9B ∷ 0x01 ∷ 0x00 ∷ 0x66 ∷ 0x00 ∷ 0x00 ∷ 0x01 ∷ 0x00 ∷ 0x00 ∷ 0x00 ∷ 0x00 ∷ 0x00 ∷ 0x01 ∷ 0x00 ∷ 0x06 ∷ 0x99 ∷ 0x00 ∷ 0x00 ∷ []) 16 0 (pos 16)
+    -- the same without room: 15 before 11
+    ∷ case containedMode (0x00 ∷ 0x00 ∷ 0x02 ∷ 0x00 ∷ 0x9B ∷ 0x01 ∷ 0x00 ∷ 0x66 ∷ 0x00 ∷ 0x00 ∷ 0x01 ∷ 0x00 ∷ 0x00 ∷ 0x00 ∷ 0x00 ∷ 0x00 ∷ 0x01 ∷ 0x00 ∷ 0x06 ∷ 0x99 ∷ 0x00 ∷ 0x00 ∷ []) 0 15 (pos 13)
+    -- a With in its place belongs to the function around it
+    ∷ case containedMode (0x00 ∷ 0x00 ∷ 0x02 ∷ 0x00 ∷ 0x94 ∷ 0x01 ∷ 0x00 ∷ 0x00 ∷ 0x00 ∷ 0x00 ∷ 0x00 ∷ 0x01 ∷ 0x00 ∷ 0x06 ∷ 0x99 ∷ 0x00 ∷ 0x00 ∷ []) 12 0 (pos 12)
+    -- at a function's end, and at the same position behind the function: two places
+    ∷ case containedMode (0x00 ∷ 0x00 ∷ 0x02 ∷ 0x00 ∷ 0x9B ∷ 0x01 ∷ 0x00 ∷ 0x66 ∷ 0x00 ∷ 0x00 ∷ 0x01 ∷ 0x00 ∷ 0x00 ∷ 0x00 ∷ 0x00 ∷ 0x00 ∷ 0x00 ∷ 0x00 ∷ 0x99 ∷ 0x00 ∷ 0x00 ∷ []) 15 15 (pos 12)
+    ∷ case containedMode (0x01 ∷ 0x00 ∷ 0x00 ∷ 0x00 ∷ 0x01 ∷ 0x00 ∷ 0x02 ∷ 0x00 ∷ 0x9B ∷ 0x01 ∷ 0x00 ∷ 0x66 ∷ 0x00 ∷ 0x00 ∷ 0x00 ∷ 0x00 ∷ 0x00 ∷ 0x00 ∷ 0x99 ∷ 0x00 ∷ 0x00 ∷ []) 15 0 (pos 15)
+    -- recorded in the main block, then in a function: the final record counts
+    ∷ case containedMode (0x01 ∷ 0x00 ∷ 0x00 ∷ 0x00 ∷ 0x00 ∷ 0x00 ∷ 0x02 ∷ 0x00 ∷ 0x99 ∷ 0x00 ∷ 0x00 ∷ 0x9B ∷ 0x01 ∷ 0x00 ∷ 0x66 ∷ 0x00 ∷ 0x00 ∷ 0x01 ∷ 0x00 ∷ 0x00 ∷ 0x00 ∷ 0x00 ∷ 0x00 ∷ 0x00 ∷ 0x00 ∷ []) 15 15 (pos 3)
+    -- P7: an unrecorded label is left to strict mode
+    ∷ case containedMode (0x01 ∷ 0x00 ∷ 0x00 ∷ 0x00 ∷ 0x02 ∷ 0x00 ∷ 0x01 ∷ 0x00 ∷ 0x99 ∷ 0x00 ∷ 0x00 ∷ []) 6 0 (pos 6)
+    ∷ case bothModes (0x01 ∷ 0x00 ∷ 0x00 ∷ 0x00 ∷ 0x02 ∷ 0x00 ∷ 0x01 ∷ 0x00 ∷ 0x99 ∷ 0x00 ∷ 0x00 ∷ []) 6 14 (pos 3)
+    -- recorded in the main block, Jump in a Try in a function
+    ∷ case containedMode (0x01 ∷ 0x00 ∷ 0x00 ∷ 0x00 ∷ 0x00 ∷ 0x00 ∷ 0x01 ∷ 0x00 ∷ 0x8E ∷ 0x01 ∷ 0x00 ∷ 0x66 ∷ 0x00 ∷ 0x00 ∷ 0x00 ∷ 0x00 ∷ 0x00 ∷ 0x00 ∷ 0x00 ∷ 0x01 ∷ 0x00 ∷ 0x8F ∷ 0x00 ∷ 0x00 ∷ 0x00 ∷ 0x01 ∷ 0x00 ∷ 0x99 ∷ 0x00 ∷ 0x00 ∷ []) 29 15 (pos 26)
+    -- recorded in a With in a function, Jump in the function
+    ∷ case containedMode (0x00 ∷ 0x00 ∷ 0x01 ∷ 0x00 ∷ 0x8E ∷ 0x01 ∷ 0x00 ∷ 0x66 ∷ 0x00 ∷ 0x00 ∷ 0x00 ∷ 0x00 ∷ 0x00 ∷ 0x00 ∷ 0x00 ∷ 0x02 ∷ 0x00 ∷ 0x94 ∷ 0x01 ∷ 0x00 ∷ 0x00 ∷ 0x00 ∷ 0x00 ∷ 0x00 ∷ 0x01 ∷ 0x00 ∷ 0x06 ∷ 0x99 ∷ 0x00 ∷ 0x00 ∷ []) 24 0 (pos 24)
+    -- recorded in one function, Jump in another
+    ∷ case containedMode (0x00 ∷ 0x00 ∷ 0x02 ∷ 0x00 ∷ 0x9B ∷ 0x01 ∷ 0x00 ∷ 0x66 ∷ 0x00 ∷ 0x00 ∷ 0x01 ∷ 0x00 ∷ 0x00 ∷ 0x00 ∷ 0x00 ∷ 0x00 ∷ 0x01 ∷ 0x00 ∷ 0x06 ∷ 0x9B ∷ 0x01 ∷ 0x00 ∷ 0x67 ∷ 0x00 ∷ 0x00 ∷ 0x00 ∷ 0x00 ∷ 0x01 ∷ 0x00 ∷ 0x99 ∷ 0x00 ∷ 0x00 ∷ []) 25 15 (pos 22)
+    -- an unrecorded label, then a stray branch; and the other way round
+    ∷ case bothModes (0x00 ∷ 0x00 ∷ 0x03 ∷ 0x00 ∷ 0x9B ∷ 0x01 ∷ 0x00 ∷ 0x66 ∷ 0x00 ∷ 0x00 ∷ 0x01 ∷ 0x00 ∷ 0x00 ∷ 0x00 ∷ 0x00 ∷ 0x00 ∷ 0x01 ∷ 0x00 ∷ 0x06 ∷ 0x99 ∷ 0x01 ∷ 0x00 ∷ 0x99 ∷ 0x00 ∷ 0x00 ∷ []) 21 14 (pos 13)
+    ∷ case containedMode (0x00 ∷ 0x00 ∷ 0x03 ∷ 0x00 ∷ 0x9B ∷ 0x01 ∷ 0x00 ∷ 0x66 ∷ 0x00 ∷ 0x00 ∷ 0x01 ∷ 0x00 ∷ 0x00 ∷ 0x00 ∷ 0x00 ∷ 0x00 ∷ 0x01 ∷ 0x00 ∷ 0x06 ∷ 0x99 ∷ 0x01 ∷ 0x00 ∷ 0x99 ∷ 0x00 ∷ 0x00 ∷ []) 21 15 (pos 18)
+    ∷ case bothModes (0x00 ∷ 0x00 ∷ 0x03 ∷ 0x00 ∷ 0x9B ∷ 0x01 ∷ 0x00 ∷ 0x66 ∷ 0x00 ∷ 0x00 ∷ 0x01 ∷ 0x00 ∷ 0x00 ∷ 0x00 ∷ 0x00 ∷ 0x00 ∷ 0x01 ∷ 0x00 ∷ 0x06 ∷ 0x99 ∷ 0x00 ∷ 0x00 ∷ 0x99 ∷ 0x01 ∷ 0x00 ∷ []) 21 15 (pos 13)
+    ∷ case strictMode (0x00 ∷ 0x00 ∷ 0x03 ∷ 0x00 ∷ 0x9B ∷ 0x01 ∷ 0x00 ∷ 0x66 ∷ 0x00 ∷ 0x00 ∷ 0x01 ∷ 0x00 ∷ 0x00 ∷ 0x00 ∷ 0x00 ∷ 0x00 ∷ 0x01 ∷ 0x00 ∷ 0x06 ∷ 0x99 ∷ 0x00 ∷ 0x00 ∷ 0x99 ∷ 0x01 ∷ 0x00 ∷ []) 21 14 (pos 18)
     ∷ []
 
 -- a sum holds where the sheet packs to the block, with no room to spare
@@ -104,8 +136,8 @@ Answers (case mode main room n v) = (number (pack mode (sheetOf main) room) ≡ 
 
 -- both tables, so that what is unfolded is listed once
 both : All Holds byHand × All Answers byMode
-unfolding byMode byHand sheetOf each pick firstWith le16 le32 bit smallByte byte smallOpCodes opcodes opcodeOf kindByte pushKinds kindOf edition1 ifWhole ifWithin tested repeat firstZero ifNoZero ifNothingLeft readU8 readU16 readU32 readU64 readBytes readFlag readSpelling readCounted hasCatch hasFinally hasRegister isShape readString readValueOf readValueIf readValue readParam readLabel readEntries readCatchTarget readCatch readFinally readTry readFields readFieldsIf readAction readActions readBodyWith readBody readMain mapValue mapParam mapFlat mapOwner mapTarget mapAction zeroEnded stringsBytes constantBytes doubleBytes pushBytes pushesBytes opcode gotoFrame2Bytes getUrl2Bits payload ownerOpCode paramsBytes ownerFields ownerPayload branchOpCode catchShape finallyShape catchName tryPayload headed framed moved eventIf payloadTest bodyTest labelsAt events later recordIf lookup distanceBits branchBits blockBytes blockSize size trace bytes tooLong distance isNear farUnless judged orElse refusalIf barred judgedIn firstRefused judge trailerDistance isMarked cutIf cutAt cutIfTrailer cutIfShort cut unless ifRoom packTree spelling packRead packCut pack output number value lengthOf refusalNumber refusalValue
-both = ((refl, (refl, (refl, (refl, (refl, (refl, (refl, (refl, (refl, (refl, (refl, (refl, tt)))))))))))), ((refl, refl), ((refl, refl), ((refl, refl), ((refl, refl), ((refl, refl), ((refl, refl), ((refl, refl), ((refl, refl), tt)))))))))
+unfolding byMode byHand sheetOf each pick firstWith le16 le32 bit smallByte byte smallOpCodes opcodes opcodeOf kindByte pushKinds kindOf edition1 ifWhole ifWithin tested repeat firstZero ifNoZero ifNothingLeft readU8 readU16 readU32 readU64 readBytes readFlag readSpelling readCounted hasCatch hasFinally hasRegister isShape readString readValueOf readValueIf readValue readParam readLabel readEntries readCatchTarget readCatch readFinally readTry readFields readFieldsIf readAction readActions readBodyWith readBody readMain mapValue mapParam mapFlat mapOwner mapTarget mapAction zeroEnded stringsBytes constantBytes doubleBytes pushBytes pushesBytes opcode gotoFrame2Bytes getUrl2Bits payload ownerOpCode paramsBytes ownerFields ownerPayload branchOpCode catchShape finallyShape catchName tryPayload headed framed homeIn moved eventIf payloadTest bodyTest labelsAt events later recordIf lookup distanceBits branchBits blockBytes blockSize size trace bytes tooLong distance isNear farUnless judged orElse refusalIf barred judgedIn firstRefused judge trailerDistance isMarked cutIf cutAt cutIfTrailer cutIfShort cut unless ifRoom packTree spelling packRead packCut pack output number value refusalNumber refusalValue
+both = ((refl, (refl, (refl, (refl, (refl, (refl, (refl, (refl, (refl, (refl, (refl, (refl, tt)))))))))))), ((refl, refl), ((refl, refl), ((refl, refl), ((refl, refl), ((refl, refl), ((refl, refl), ((refl, refl), ((refl, refl), ((refl, refl), ((refl, refl), ((refl, refl), ((refl, refl), ((refl, refl), ((refl, refl), ((refl, refl), ((refl, refl), ((refl, refl), ((refl, refl), ((refl, refl), ((refl, refl), ((refl, refl), ((refl, refl), ((refl, refl), ((refl, refl), tt)))))))))))))))))))))))))
 
 pub sums-hold : All Holds byHand
 sums-hold = both .0
@@ -113,15 +145,29 @@ sums-hold = both .0
 pub cases-answer : All Answers byMode
 cases-answer = both .1
 
--- ---- "first branch in writing order": label 0 has no record, label 1 one that both branches are too far from
+-- ---- "first branch in writing order", among branches of the main block
 
+-- label 0 has no record, label 1 one that both branches are too far from
 abbrev pub unrecordedFirst : List Event
-unrecordedFirst = branchAt 0 (position 3) ∷ branchAt 1 (position 8) ∷ labelAt 1 (position 40000) ∷ []
+unrecordedFirst = branchAt 0 (position 3 0) ∷ branchAt 1 (position 8 0) ∷ labelAt 1 (position 40000 0) ∷ []
 
 abbrev pub farFirst : List Event
-farFirst = branchAt 1 (position 3) ∷ branchAt 0 (position 8) ∷ labelAt 1 (position 40000) ∷ []
+farFirst = branchAt 1 (position 3 0) ∷ branchAt 0 (position 8 0) ∷ labelAt 1 (position 40000 0) ∷ []
+
+-- label 2 is recorded in a function body that starts at 20
+abbrev pub strayFirst : List Event
+strayFirst = branchAt 2 (position 3 0) ∷ branchAt 1 (position 8 0) ∷ labelAt 2 (position 20 20) ∷ labelAt 1 (position 40000 0) ∷ []
+
+abbrev pub strayLater : List Event
+strayLater = branchAt 1 (position 3 0) ∷ branchAt 2 (position 8 0) ∷ labelAt 2 (position 20 20) ∷ labelAt 1 (position 40000 0) ∷ []
+
+-- one branch that is both stray and too far
+abbrev pub strayAndFar : List Event
+strayAndFar = branchAt 2 (position 3 0) ∷ labelAt 2 (position 40000 20) ∷ []
 
 pub first-decides : (badBranch strictMode unrecordedFirst unrecordedFirst ≡ some (NeverRecorded 3))
     × (badBranch strictMode farFirst farFirst ≡ some (JumpOffsetOverflow (pos 39995))) × (badBranch plainMode unrecordedFirst unrecordedFirst ≡ some (JumpOffsetOverflow (pos 39990)))
+    × (badBranch containedMode strayFirst strayFirst ≡ some (StrayBranch 3)) × (badBranch containedMode strayLater strayLater ≡ some (JumpOffsetOverflow (pos 39995)))
+    × (badBranch containedMode strayAndFar strayAndFar ≡ some (StrayBranch 3)) × (badBranch plainMode strayAndFar strayAndFar ≡ some (JumpOffsetOverflow (pos 39995)))
 unfolding later recordIf lookup distance isNear farUnless judged orElse refusalIf barred judgedIn firstRefused
-first-decides = (refl, refl, refl)
+first-decides = (refl, refl, refl, refl, refl, refl, refl)

@@ -7,7 +7,7 @@ use lib.ListN.{length}
 use lib.Dec.{ltb, eqb}
 use Rattle.layout.specs.Numbers.{le16}
 use Rattle.layout.specs.OpCode.{OpCode}
-use Rattle.layout.specs.Tree.{ActionIndex, firstAction, nextAction, Entry, entry, Action, flat, branch, owner, Try, ActionList, empty, more, Actions, body, Catch, noCatch, catch, Finally, noFinally, finally}
+use Rattle.layout.specs.Tree.{ActionIndex, firstAction, nextAction, Entry, entry, Owner, With, DefineFunction, DefineFunction2, Action, flat, branch, owner, Try, ActionList, empty, more, Actions, body, Catch, noCatch, catch, Finally, noFinally, finally}
 use Rattle.layout.specs.Payload.{opcode, payload, ownerOpCode, ownerFields, ownerPayload, branchOpCode, catchShape, finallyShape, catchName, tryPayload, framed}
 
 -- ---- sizes: how many bytes are written. "Payload lengths exclude bodies"; "Bodies follow their payload"
@@ -37,17 +37,50 @@ unfoldable mutual
 
 -- ---- what happens on the way, in writing order
 
--- "position in the written block": what the encoder's label_positions holds, and where the writer stands
+-- "position in the written block": what the encoder's label_positions holds, and where the writer stands. Its home is the function
+-- body it lies in, told by the position of that body's first byte, which no two share (`homes-rise` in laws' Homes)
 pub record Position : Type 0 where
   pub at : ℕ
+  pub home : ℕ
 
--- the position at a number
-abbrev pub position : ℕ → Position
-position n = record { at = n }
+-- the position at a number, in the function body that starts at `home`
+abbrev pub position : ℕ → ℕ → Position
+position n home = record { at = n; home = home }
+
+-- where the block starts: "the main block being one" function body
+abbrev pub blockStart : Position
+blockStart = position 0 0
 
 -- n bytes on
 unfoldable pub moved : ℕ → Position → Position
-moved n s = record { at = s .at + n }
+moved n s = position (s .at + n) (s .home)
+
+-- the home of what stands in an owner's body, which starts at s: "With and Try bodies belong to the function around them"
+unfoldable pub homeIn : Owner → Position → ℕ
+homeIn With s = s .home
+homeIn (DefineFunction name params) s = s .at
+homeIn (DefineFunction2 name params registers flags) s = s .at
+
+-- from where an action starts: to the operand of a branch, to the body of an owner, to the bodies of a Try, and past the action
+abbrev pub toOperand : Position → Position
+toOperand s = moved 3 s
+
+abbrev pub toBody : Owner → Position → Position
+toBody o s =
+    let t : Position = moved (5 + length (ownerFields o)) s in
+    position (t .at) (homeIn o t)
+
+abbrev pub toTry : Catch → Position → Position
+toTry c s = moved (10 + length (catchName c)) s
+
+abbrev pub toCatch : Actions → Catch → Position → Position
+toCatch b c s = moved (bodySize b) (toTry c s)
+
+abbrev pub toFinally : Actions → Catch → Position → Position
+toFinally b c s = moved (bodySize b + catchSize c) (toTry c s)
+
+abbrev pub past : Action → Position → Position
+past a s = moved (size a) s
 
 -- A label recorded where the writer stands; a branch, its operand standing there; a payload or a body that is too long. The
 -- last two have the position of the action whose payload it is or that owns the body: it says which action is meant, and no
@@ -80,22 +113,21 @@ labelsAt (entry l j ∷ es) i s = eventIf (eqb (i .index) (j .index)) (labelAt l
 unfoldable mutual
   pub trace : Action → Position → List Event
   trace (flat f) s = payloadTest (length (payload f)) s
-  trace (branch k l) s = branchAt l (moved 3 s) ∷ []
+  trace (branch k l) s = branchAt l (toOperand s) ∷ []
   trace (owner o b) s =
       payloadTest (length (ownerFields o) + 2) s
-      ++ (traceBody b (moved (5 + length (ownerFields o)) s) ++ bodyTest (bodySize b) s)
+      ++ (traceBody b (toBody o s) ++ bodyTest (bodySize b) s)
   trace (Try b c f) s =
-      let t : Position = moved (10 + length (catchName c)) s in
       payloadTest (7 + length (catchName c)) s
-      ++ (traceBody b t
-      ++ (traceCatch c (moved (bodySize b) t)
-      ++ (traceFinally f (moved (bodySize b + catchSize c) t)
+      ++ (traceBody b (toTry c s)
+      ++ (traceCatch c (toCatch b c s)
+      ++ (traceFinally f (toFinally b c s)
       ++ (bodyTest (bodySize b) s ++ (bodyTest (catchSize c) s ++ bodyTest (finallySize f) s)))))
 
   -- "Before action i of a body, and after its last action for i equal to the count": the actions from index i on
   pub traces : ActionList → List Entry → ActionIndex → Position → List Event
   traces empty es i s = labelsAt es i s
-  traces (more a xs) es i s = labelsAt es i s ++ (trace a s ++ traces xs es (nextAction i) (moved (size a) s))
+  traces (more a xs) es i s = labelsAt es i s ++ (trace a s ++ traces xs es (nextAction i) (past a s))
 
   pub traceBody : Actions → Position → List Event
   traceBody (body es xs) s = traces xs es firstAction s
@@ -108,9 +140,9 @@ unfoldable mutual
   traceFinally noFinally s = []
   traceFinally (finally b) s = traceBody b s
 
--- what happens when a main body is written, from position 0
+-- what happens when a main body is written
 unfoldable pub events : Actions → List Event
-events t = traceBody t (position 0)
+events t = traceBody t blockStart
 
 -- ---- labels: "One table serves the block; the last record wins"
 

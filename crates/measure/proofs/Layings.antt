@@ -10,13 +10,14 @@ use borrow.Author.Tests.{ltb-true, ltb-false, ne-eqb}
 use Rattle.layout.specs.Lists.{pick}
 use Rattle.layout.specs.OpCode.{byte}
 use Rattle.layout.specs.Answers as answers
-use Rattle.layout.specs.Tree.{FlatOf, OwnerOf, ActionOf, flat, branch, Branch, owner, ActionsOf}
+use Rattle.layout.specs.Tree.{FlatOf, OwnerOf, With, DefineFunction, DefineFunction2, ActionOf, flat, branch, Branch, owner, ActionsOf}
 use Rattle.layout.specs.Read.{Text, Place, placed, Read, got, bad, Reader, chain, repeat}
 use Rattle.layout.specs.Strings.{mapFlat, mapOwner, mapAction, mapBody}
 use Rattle.layout.specs.Payload.{opcode, payload, ownerFields}
-use Rattle.layout.specs.Write.{size, bodySize, Position, Event, moved, payloadTest, bodyTest, trace, traceBody}
+use Rattle.layout.specs.Write.{size, bodySize, Position, position, Event, moved, homeIn, toBody, payloadTest, bodyTest, trace, traceBody}
 use Rattle.layout.specs.Lengths.{total, ownerLength, length-payload, length-framed, length-ownerFields}
 use Rattle.layout.specs.Pack.{spelling}
+use Rattle.labels.specs.Table.{Tables}
 use Rattle.positions.specs.declared.BytePosition.{BytePosition}
 use Rattle.positions.specs.Scanned.{faultOf, scanned}
 use Rattle.positions.specs.declared.Fault.{Fault}
@@ -26,7 +27,7 @@ use Rattle.measure.specs.declared.Laid.{Laid}
 use Rattle.measure.specs.declared.Laid.the-variants as laid
 use Rattle.action_fields.specs.Fields.{flatSize, ownerSize, readCaught, caughtSize}
 use Rattle.laws.specs.Resolved.{actionSize, actionTrace, bodyLength}
-use Rattle.measure.specs.Walk.{State, state, notedIf, run, done, outcome, branches, measure, measured, inBodies, bodyTests, bodiesEvents, Onward, Laying, laidAs, branchLaid, notedFrom, EndsFrom, Tried}
+use Rattle.measure.specs.Walk.{State, state, notedIf, run, done, outcome, branches, measure, measured, inBodies, bodyTests, bodiesEvents, Onward, Owning, Laying, laidAs, laidFunction, branchLaid, notedFrom, EndsFrom, Tried}
 use Rattle.action_fields.proofs.Steps.{caught-out}
 use Rattle.measure.proofs.Runs.{run-append, run-payload, run-body, noted-short, outcome-got, branches-append, branches-payload, branches-after, branches-body, measured-got}
 
@@ -36,13 +37,13 @@ flat-size : (f : FlatOf Text) → ltb (byte (opcode (mapFlat spelling f))) 128 �
 unfolding size mapAction flatSize
 flat-size f h = length-framed (opcode (mapFlat spelling f)) (payload (mapFlat spelling f)) h ∙ ap (λ (n : ℕ). 3 + n) (length-payload (mapFlat spelling f))
 
-flat-run : (f : FlatOf Text) (pos : ℕ) (tab over : List ℕ) → run (actionTrace (flat f) pos) (state tab over) ≡ state tab (notedIf 8 (flatSize f) over)
+flat-run : (f : FlatOf Text) (s : Position) (tab : Tables) (over : List ℕ) → run (actionTrace (flat f) s) (state tab over) ≡ state tab (notedIf 8 (flatSize f) over)
 unfolding trace mapAction flatSize
-flat-run f pos tab over = run-payload (length (payload (mapFlat spelling f))) _ tab over ∙ ap (λ (n : ℕ). state tab (notedIf 8 n over)) (length-payload (mapFlat spelling f))
+flat-run f s tab over = run-payload (length (payload (mapFlat spelling f))) _ tab over ∙ ap (λ (n : ℕ). state tab (notedIf 8 n over)) (length-payload (mapFlat spelling f))
 
-flat-branches : (f : FlatOf Text) (pos : ℕ) → [] ≡ branches (actionTrace (flat f) pos)
+flat-branches : (f : FlatOf Text) (s : Position) → [] ≡ branches (actionTrace (flat f) s)
 unfolding trace mapAction
-flat-branches f pos = sym (branches-payload (length (payload (mapFlat spelling f))) _)
+flat-branches f s = sym (branches-payload (length (payload (mapFlat spelling f))) _)
 
 -- an opcode from 80 on
 abbrev pub Long : FlatOf Text → Type 0
@@ -58,21 +59,21 @@ module _ {A : Type 0} (read : Reader (ActionsOf Text ℕ) → Read (ActionOf Tex
   unfolding scanned laidAs pick notedFrom
   long-got a q h l =
       Laying.flat {q = q .at} {w = record { 0 = w + s a }}
-      (λ inner tab. outcome-got actionSize actionTrace pos (state tab over) (h inner) (omega (arith, is-size a, flat-size (g a) l))
-      (ap (λ (n : ℕ). state tab (notedIf 8 n over)) (omega (arith, is-size a)) ∙ sym (flat-run (g a) pos tab over)))
-      (λ inner. measured-got actionSize actionTrace pos (h inner) (omega (arith, is-size a, flat-size (g a) l)) (flat-branches (g a) pos))
+      (λ inner tab home. outcome-got actionSize actionTrace (position pos home) (state tab over) (h inner) (omega (arith, is-size a, flat-size (g a) l))
+      (ap (λ (n : ℕ). state tab (notedIf 8 n over)) (omega (arith, is-size a)) ∙ sym (flat-run (g a) (position pos home) tab over)))
+      (λ inner home. measured-got actionSize actionTrace (position pos home) (h inner) (omega (arith, is-size a, flat-size (g a) l)) (flat-branches (g a) (position pos home)))
 
   flat-got : (a : A) (q : Place) → Reads (got a q) → Long (g a) → flatSize (g a) ≤ 65535 → Laying read at end pos over over (laidAs 0 (scanned s w (got a q)))
   unfolding scanned laidAs pick
   flat-got a q h l short =
       Laying.flat {q = q .at} {w = record { 0 = w + s a }}
-      (λ inner tab. outcome-got actionSize actionTrace pos (state tab over) (h inner) (omega (arith, is-size a, flat-size (g a) l))
-      (ap (state tab) (noted-short 8 (flatSize (g a)) over short) ∙ sym (flat-run (g a) pos tab over)))
-      (λ inner. measured-got actionSize actionTrace pos (h inner) (omega (arith, is-size a, flat-size (g a) l)) (flat-branches (g a) pos))
+      (λ inner tab home. outcome-got actionSize actionTrace (position pos home) (state tab over) (h inner) (omega (arith, is-size a, flat-size (g a) l))
+      (ap (state tab) (noted-short 8 (flatSize (g a)) over short) ∙ sym (flat-run (g a) (position pos home) tab over)))
+      (λ inner home. measured-got actionSize actionTrace (position pos home) (h inner) (omega (arith, is-size a, flat-size (g a) l)) (flat-branches (g a) (position pos home)))
 
   flat-bad : (f : answers.Fault) (q : Place) (over′ : List ℕ) → Reads (bad f q) → Laying read at end pos over over′ (laidAs 0 (scanned s w (bad f q)))
   unfolding scanned laidAs outcome
-  flat-bad f q over′ h = Laying.stops {f = faultOf f} {q = q .at} (λ inner t. rw (h inner))
+  flat-bad f q over′ h = Laying.stops {f = faultOf f} {q = q .at} (λ inner t home. rw (h inner))
 
   -- its payload may be too long
   pub lay-long : (x : Read A) → Reads x → ((a : A) (q : Place) → x ≡ got a q → Long (g a)) → (over′ : List ℕ) (r : Scan) (l : Laid)
@@ -102,84 +103,122 @@ module _ (read : Reader (ActionsOf Text ℕ) → Read (ActionOf Text ℕ)) (k : 
       go : (x : Read ℕ) → ((inner : Reader (ActionsOf Text ℕ)) → read inner ≡ chain x (λ l q. got (branch k l) q)) → ((l : ℕ) (q : Place) → x ≡ got l q → l < 1024)
           → Laying read at end pos over over (branchLaid (pos + 3) x)
       go (got n q) h u = unfold branchLaid in Laying.to-label {q = q .at} {label = n} {w = record { 0 = pos + 3 + 2 }} {k = k} (omega arith) (u n q refl) refl h
-      go (bad f q) h u = unfold branchLaid in Laying.stops {f = faultOf f} {q = q .at} (λ inner t. unfold outcome in rw (h inner))
+      go (bad f q) h u = unfold branchLaid in Laying.stops {f = faultOf f} {q = q .at} (λ inner t home. unfold outcome in rw (h inner))
 
 -- ---- an action that owns a body
 
-module _ (read : Reader (ActionsOf Text ℕ) → Read (ActionOf Text ℕ)) (o : OwnerOf Text) (inner : Reader (ActionsOf Text ℕ)) (pos w q : ℕ) (tab over : List ℕ) (is-size : w ≡ pos + 3 + ownerSize o) where
-  -- where its body starts
-  body-at : pos + (5 + length (ownerFields (mapOwner spelling o))) ≡ w
-  unfolding ownerSize
-  body-at = omega (arith, is-size, length-ownerFields (mapOwner spelling o))
+module _ (read : Reader (ActionsOf Text ℕ) → Read (ActionOf Text ℕ)) (o : OwnerOf Text) (inner : Reader (ActionsOf Text ℕ)) (pos home w q : ℕ) (is-size : w ≡ pos + 3 + ownerSize o) where
+  -- where it stands, and where its body does
+  abbrev here : Position
+  here = position pos home
+
+  abbrev pub bodyStart : Position
+  bodyStart = position w (homeIn (mapOwner spelling o) (position w home))
+
+  body-at : toBody (mapOwner spelling o) here ≡ bodyStart
+  unfolding ownerSize moved
+  body-at =
+      let e : pos + (5 + length (ownerFields (mapOwner spelling o))) ≡ w = omega (arith, is-size, length-ownerFields (mapOwner spelling o)) in
+      ap (λ (v : ℕ). position v (homeIn (mapOwner spelling o) (position v home))) e
 
   -- the events of its body and their test, after the test of its payload
-  owner-run : (y : ActionsOf Text ℕ) → run (actionTrace (owner o y) pos) (state tab over) ≡ run (bodiesEvents (y ∷ []) w) (state tab (notedIf 8 (ownerSize o) over))
-  unfolding trace mapAction bodiesEvents inBodies bodyTests moved ownerSize
-  owner-run y =
+  owner-run : (tab : Tables) (over : List ℕ) (y : ActionsOf Text ℕ)
+      → run (actionTrace (owner o y) here) (state tab over) ≡ run (bodiesEvents (y ∷ []) bodyStart) (state tab (notedIf 8 (ownerSize o) over))
+  unfolding trace mapAction bodiesEvents inBodies bodyTests ownerSize
+  owner-run tab over y =
       let n : ℕ = length (ownerFields (mapOwner spelling o)) + 2 in
-      let p : Position = record { at = pos } in
-      let u : Position = record { at = pos + (5 + length (ownerFields (mapOwner spelling o))) } in
+      let u : Position = toBody (mapOwner spelling o) here in
       let b = mapBody spelling y in
-      run-append (payloadTest n p) (traceBody b u ++ bodyTest (bodySize b) p) (state tab over)
-      ∙ ap (run (traceBody b u ++ bodyTest (bodySize b) p)) (run-payload n p tab over ∙ ap (λ (m : ℕ). state tab (notedIf 8 m over)) (length-ownerFields (mapOwner spelling o)))
-      ∙ run-append (traceBody b u) (bodyTest (bodySize b) p) _
-      ∙ tests (bodySize b) p (record { at = w }) (run (traceBody b u) _)
-      ∙ ap (λ (v : ℕ). run (bodyTest (bodySize b) (record { at = w })) (run (traceBody b (record { at = v })) (state tab (notedIf 8 (ownerLength (mapOwner spelling o)) over)))) body-at
-      ∙ sym (run-append (traceBody b (record { at = w })) (bodyTest (bodySize b) (record { at = w })) _)
+      run-append (payloadTest n here) (traceBody b u ++ bodyTest (bodySize b) here) (state tab over)
+      ∙ ap (run (traceBody b u ++ bodyTest (bodySize b) here)) (run-payload n here tab over ∙ ap (λ (m : ℕ). state tab (notedIf 8 m over)) (length-ownerFields (mapOwner spelling o)))
+      ∙ run-append (traceBody b u) (bodyTest (bodySize b) here) _
+      ∙ tests (bodySize b) here bodyStart (run (traceBody b u) _)
+      ∙ ap (λ (v : Position). run (bodyTest (bodySize b) bodyStart) (run (traceBody b v) (state tab (notedIf 8 (ownerLength (mapOwner spelling o)) over)))) body-at
+      ∙ sym (run-append (traceBody b bodyStart) (bodyTest (bodySize b) bodyStart) _)
       ∙ sym (simp append-nil)
     where
       tests : (n : ℕ) (p p′ : Position) (s : State) → run (bodyTest n p) s ≡ run (bodyTest n p′) s
-      tests n p p′ s = run-body n p (s .table) (s .over) ∙ sym (run-body n p′ (s .table) (s .over))
+      tests n p p′ s = run-body n p (s .labels) (s .over) ∙ sym (run-body n p′ (s .labels) (s .over))
 
-  pub owner-outcome : read inner ≡ chain (inner (placed q)) (λ y r. got (owner o y) r)
-      → outcome actionSize actionTrace pos (state tab over) (read inner) ≡ outcome (total bodyLength) bodiesEvents w (state tab (notedIf 8 (ownerSize o) over)) (repeat inner 1 (placed q))
+  owner-size : (y : ActionsOf Text ℕ) → pos + actionSize (owner o y) ≡ w + total bodyLength (y ∷ [])
+  unfolding size mapAction total ownerSize
+  owner-size y = omega (arith, is-size, length-ownerFields (mapOwner spelling o))
+
+  owner-outcome : (tab : Tables) (over : List ℕ) → read inner ≡ chain (inner (placed q)) (λ y r. got (owner o y) r)
+      → outcome actionSize actionTrace here (state tab over) (read inner) ≡ outcome (total bodyLength) bodiesEvents bodyStart (state tab (notedIf 8 (ownerSize o) over)) (repeat inner 1 (placed q))
   unfolding repeat
-  owner-outcome e = rw e (go (inner (placed q)))
+  owner-outcome tab over e = rw e (go (inner (placed q)))
     where
-      go : (y : Read (ActionsOf Text ℕ)) → outcome actionSize actionTrace pos (state tab over) (chain y (λ y r. got (owner o y) r))
-          ≡ outcome (total bodyLength) bodiesEvents w (state tab (notedIf 8 (ownerSize o) over)) (chain y (λ a u. chain (got [] u) (λ xs v. got (a ∷ xs) v)))
-      go (got y r) =
-          unfold outcome in
-          ap₂ (λ (n : ℕ) (s : State). done (r .at) n s) (unfold size mapAction total in omega (arith, body-at)) (owner-run y)
+      go : (y : Read (ActionsOf Text ℕ)) → outcome actionSize actionTrace here (state tab over) (chain y (λ y r. got (owner o y) r))
+          ≡ outcome (total bodyLength) bodiesEvents bodyStart (state tab (notedIf 8 (ownerSize o) over)) (chain y (λ a u. chain (got [] u) (λ xs v. got (a ∷ xs) v)))
+      go (got y r) = unfold outcome in ap₂ (λ (n : ℕ) (s : State). done (r .at) n s) (owner-size y) (owner-run tab over y)
       go (bad f r) = unfold outcome in refl
 
   -- and its branches are those of its body
-  owner-branches : (y : ActionsOf Text ℕ) → branches (actionTrace (owner o y) pos) ≡ branches (inBodies (y ∷ []) w)
-  unfolding trace mapAction inBodies moved
+  owner-branches : (y : ActionsOf Text ℕ) → branches (actionTrace (owner o y) here) ≡ branches (inBodies (y ∷ []) bodyStart)
+  unfolding trace mapAction inBodies
   owner-branches y =
-      let u : Position = record { at = pos + (5 + length (ownerFields (mapOwner spelling o))) } in
+      let u : Position = toBody (mapOwner spelling o) here in
       let b = mapBody spelling y in
-      branches-after _ _ (traceBody b u ++ bodyTest (bodySize b) (record { at = pos }))
-      ∙ branches-append (traceBody b u) (bodyTest (bodySize b) (record { at = pos }))
-      ∙ ap (λ (es : List Event). branches (traceBody b u) ++ es) (branches-body (bodySize b) (record { at = pos }))
+      branches-after _ _ (traceBody b u ++ bodyTest (bodySize b) here)
+      ∙ branches-append (traceBody b u) (bodyTest (bodySize b) here)
+      ∙ ap (λ (es : List Event). branches (traceBody b u) ++ es) (branches-body (bodySize b) here)
       ∙ append-nil (branches (traceBody b u))
-      ∙ ap (λ (v : ℕ). branches (traceBody b (record { at = v }))) body-at
-      ∙ ap branches (sym (append-nil (traceBody b (record { at = w }))))
+      ∙ ap (λ (v : Position). branches (traceBody b v)) body-at
+      ∙ ap branches (sym (append-nil (traceBody b bodyStart)))
 
-  pub owner-measured : read inner ≡ chain (inner (placed q)) (λ y r. got (owner o y) r) → measured actionSize actionTrace pos (read inner) ≡ measured (total bodyLength) inBodies w (repeat inner 1 (placed q))
+  owner-measured : read inner ≡ chain (inner (placed q)) (λ y r. got (owner o y) r)
+      → measured actionSize actionTrace here (read inner) ≡ measured (total bodyLength) inBodies bodyStart (repeat inner 1 (placed q))
   unfolding repeat
   owner-measured e = rw e (go (inner (placed q)))
     where
-      go : (y : Read (ActionsOf Text ℕ)) → measured actionSize actionTrace pos (chain y (λ y r. got (owner o y) r)) ≡ measured (total bodyLength) inBodies w (chain y (λ a u. chain (got [] u) (λ xs v. got (a ∷ xs) v)))
-      go (got y r) = unfold measured in ap₂ (λ (n : ℕ) (es : List Event). got (measure n es) r) (unfold size mapAction total in omega (arith, body-at)) (owner-branches y)
+      go : (y : Read (ActionsOf Text ℕ)) → measured actionSize actionTrace here (chain y (λ y r. got (owner o y) r))
+          ≡ measured (total bodyLength) inBodies bodyStart (chain y (λ a u. chain (got [] u) (λ xs v. got (a ∷ xs) v)))
+      go (got y r) = unfold measured in ap₂ (λ (n : ℕ) (es : List Event). got (measure n es) r) (owner-size y) (owner-branches y)
       go (bad f r) = unfold measured in refl
+
+-- what is told of an owner whose fields were read; `inside` tells its body's home from its own
+module _ (read : Reader (ActionsOf Text ℕ) → Read (ActionOf Text ℕ)) (o : OwnerOf Text) (q : Place) (is-read : (inner : Reader (ActionsOf Text ℕ)) → read inner ≡ chain (inner q) (λ y r. got (owner o y) r))
+    (at end pos : ℕ) (w : BytePosition) (is-size : w .0 ≡ pos + 3 + ownerSize o) (onward : Onward at end pos (q .at) (w .0))
+    (inside : ℕ → ℕ) (is-inside : (home : ℕ) → homeIn (mapOwner spelling o) (position (w .0) home) ≡ inside home) where
+  pub owning : (over over′ : List ℕ) → over′ ≡ notedIf 8 (ownerSize o) over → Owning read at end pos over over′ (q .at) w 1 inside
+  owning over over′ e =
+      rw e (record {
+        onward = onward;
+        runs = λ inner tab home. owner-outcome read o inner pos home (w .0) (q .at) is-size tab over (is-read inner)
+            ∙ ap (λ (h : ℕ). outcome (total bodyLength) bodiesEvents (position (w .0) h) (state tab (notedIf 8 (ownerSize o) over)) (repeat inner 1 q)) (is-inside home);
+        measures = λ inner home. owner-measured read o inner pos home (w .0) (q .at) is-size (is-read inner)
+            ∙ ap (λ (h : ℕ). measured (total bodyLength) inBodies (position (w .0) h) (repeat inner 1 q)) (is-inside home);
+      })
+
+-- the fields of a function, not of a With
+abbrev pub IsFunction : OwnerOf Text → Type 0
+IsFunction With = ⊥
+IsFunction (DefineFunction name ps) = Unit {0}
+IsFunction (DefineFunction2 name ps r f) = Unit {0}
+
+-- a function's body has its own start as its home
+function-home : (o : OwnerOf Text) → IsFunction o → (s : Position) → homeIn (mapOwner spelling o) s ≡ s .at
+unfolding homeIn mapOwner
+function-home With k s = absurd k
+function-home (DefineFunction name ps) k s = refl
+function-home (DefineFunction2 name ps r f) k s = refl
 
 module _ (read : Reader (ActionsOf Text ℕ) → Read (ActionOf Text ℕ)) (x : Read (OwnerOf Text))
     (is-read : (inner : Reader (ActionsOf Text ℕ)) → read inner ≡ chain x (λ o q. chain (inner q) (λ y r. got (owner o y) r)))
-    (at end pos : ℕ) (onward : (o : OwnerOf Text) (q : Place) → x ≡ got o q → Onward at end pos (q .at) (pos + 3 + ownerSize o)) where
-  pub lay-owner : (over over′ : List ℕ) (r : Scan) (l : Laid) → r ≡ scanned ownerSize (pos + 3) x → l ≡ laidAs 1 r → over′ ≡ notedFrom (pos + 3) r over → Laying read at end pos over over′ l
-  lay-owner over over′ r l e m n = rw (m, n, e) (go x is-read onward)
+    (at end pos : ℕ) (onward : (o : OwnerOf Text) (q : Place) → x ≡ got o q → IsFunction o × Onward at end pos (q .at) (pos + 3 + ownerSize o)) where
+  pub lay-function : (over over′ : List ℕ) (r : Scan) (l : Laid) → r ≡ scanned ownerSize (pos + 3) x → l ≡ laidFunction r → over′ ≡ notedFrom (pos + 3) r over → Laying read at end pos over over′ l
+  lay-function over over′ r l e m n = rw (m, n, e) (go x is-read onward)
     where
       go : (x : Read (OwnerOf Text)) → ((inner : Reader (ActionsOf Text ℕ)) → read inner ≡ chain x (λ o q. chain (inner q) (λ y r. got (owner o y) r)))
-          → ((o : OwnerOf Text) (q : Place) → x ≡ got o q → Onward at end pos (q .at) (pos + 3 + ownerSize o))
-          → Laying read at end pos over (notedFrom (pos + 3) (scanned ownerSize (pos + 3) x) over) (laidAs 1 (scanned ownerSize (pos + 3) x))
+          → ((o : OwnerOf Text) (q : Place) → x ≡ got o q → IsFunction o × Onward at end pos (q .at) (pos + 3 + ownerSize o))
+          → Laying read at end pos over (notedFrom (pos + 3) (scanned ownerSize (pos + 3) x) over) (laidFunction (scanned ownerSize (pos + 3) x))
       go (got o q) h i =
-          unfold scanned laidAs pick notedFrom in
-          Laying.bodies {q = q .at} {n = 1} {w = record { 0 = pos + 3 + ownerSize o }} (omega arith) (i o q refl)
-          (λ inner tab. owner-outcome read o inner pos (pos + 3 + ownerSize o) (q .at) tab over refl (h inner)
-          ∙ ap (λ (n : ℕ). outcome (total bodyLength) bodiesEvents (pos + 3 + ownerSize o) (state tab (notedIf 8 n over)) (repeat inner 1 (placed (q .at)))) (omega arith))
-          (λ inner. owner-measured read o inner pos (pos + 3 + ownerSize o) (q .at) [] over refl (h inner))
-      go (bad f q) h i = unfold scanned laidAs notedFrom in Laying.stops {f = faultOf f} {q = q .at} (λ inner t. unfold outcome in rw (h inner))
+          unfold scanned laidFunction notedFrom in
+          Laying.function {q = q .at} {w = record { 0 = pos + 3 + ownerSize o }}
+          (owning read o q h at end pos (record { 0 = pos + 3 + ownerSize o }) refl (i o q refl .1) (λ home. pos + 3 + ownerSize o)
+          (λ home. function-home o (i o q refl .0) (position (pos + 3 + ownerSize o) home)) over _ (ap (λ (n : ℕ). notedIf 8 n over) (omega arith)))
+      go (bad f q) h i = unfold scanned laidFunction notedFrom in Laying.stops {f = faultOf f} {q = q .at} (λ inner t home. unfold outcome in rw (h inner))
 
 -- ---- as the code makes them
 
@@ -195,6 +234,15 @@ module _ (n : ℕ) (r : Scan) where
   pub laid-stops : (f : Fault) (q : ℕ) → r ≡ scan.Stops f q → laid.Stops f q ≡ laidAs n r
   unfolding laidAs
   laid-stops f q e = rw e
+
+module _ (r : Scan) where
+  pub function-ends : (q : ℕ) (w : BytePosition) → r ≡ scan.Ends q w → laid.Function q w ≡ laidFunction r
+  unfolding laidFunction
+  function-ends q w e = rw e
+
+  pub function-stops : (f : Fault) (q : ℕ) → r ≡ scan.Stops f q → laid.Stops f q ≡ laidFunction r
+  unfolding laidFunction
+  function-stops f q e = rw e
 
 module _ (from : ℕ) (r : Scan) (over : List ℕ) where
   pub noted-ends : (q : ℕ) (w : BytePosition) (over′ : List ℕ) → r ≡ scan.Ends q w → over′ ≡ notedIf 8 (w .0 - from) over → over′ ≡ notedFrom from r over

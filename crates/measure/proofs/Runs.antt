@@ -9,8 +9,8 @@ use borrow.Author.Tests.{lt-ltb, le-ltb, eq-eqb, ne-eqb}
 use Rattle.layout.specs.Lists.{pick}
 use Rattle.layout.specs.Read.{placed, Read, got}
 use Rattle.layout.specs.Write.{Position, Event, labelAt, branchAt, payloadTooLong, bodyTooLong, eventIf, payloadTest, bodyTest}
-use Rattle.labels.specs.Table.{recordAll}
-use Rattle.labels.proofs.Labels.{recordAll-append}
+use Rattle.labels.specs.Table.{Tables, recordAll, recorded}
+use Rattle.labels.proofs.Labels.{recorded-append}
 use Rattle.measure.specs.Walk.{State, state, noted, notedIf, noteAll, run, done, outcome, branches, measure, measured}
 
 noteAll-append : (xs ys : List Event) (over : List ℕ) → noteAll (xs ++ ys) over ≡ noteAll ys (noteAll xs over)
@@ -24,28 +24,28 @@ noteAll-append (bodyTooLong n s ∷ xs) ys over = noteAll-append xs ys (noted 9 
 -- one list of events after another
 pub run-append : (xs ys : List Event) (s : State) → run (xs ++ ys) s ≡ run ys (run xs s)
 unfolding run
-run-append xs ys s = ap₂ state (recordAll-append xs ys (s .table)) (noteAll-append xs ys (s .over))
+run-append xs ys s = ap₂ state (recorded-append xs ys (s .labels)) (noteAll-append xs ys (s .over))
 
 pub run-none : (s : State) → run [] s ≡ s
-unfolding run recordAll noteAll
+unfolding run recorded recordAll noteAll
 run-none s = refl
 
 -- the two tests
-pub run-payload : (n : ℕ) (p : Position) (tab over : List ℕ) → run (payloadTest n p) (state tab over) ≡ state tab (notedIf 8 n over)
+pub run-payload : (n : ℕ) (p : Position) (tab : Tables) (over : List ℕ) → run (payloadTest n p) (state tab over) ≡ state tab (notedIf 8 n over)
 unfolding payloadTest notedIf
 run-payload n p tab over = go (ltb 65535 n)
   where
     go : (t : Bool) → run (eventIf t (payloadTooLong n p)) (state tab over) ≡ state tab (pick t (noted 8 n over) over)
-    go true = unfold run eventIf recordAll noteAll pick in refl
-    go false = unfold run eventIf recordAll noteAll pick in refl
+    go true = unfold run eventIf recorded recordAll noteAll pick in refl
+    go false = unfold run eventIf recorded recordAll noteAll pick in refl
 
-pub run-body : (n : ℕ) (p : Position) (tab over : List ℕ) → run (bodyTest n p) (state tab over) ≡ state tab (notedIf 9 n over)
+pub run-body : (n : ℕ) (p : Position) (tab : Tables) (over : List ℕ) → run (bodyTest n p) (state tab over) ≡ state tab (notedIf 9 n over)
 unfolding bodyTest notedIf
 run-body n p tab over = go (ltb 65535 n)
   where
     go : (t : Bool) → run (eventIf t (bodyTooLong n p)) (state tab over) ≡ state tab (pick t (noted 9 n over) over)
-    go true = unfold run eventIf recordAll noteAll pick in refl
-    go false = unfold run eventIf recordAll noteAll pick in refl
+    go true = unfold run eventIf recorded recordAll noteAll pick in refl
+    go false = unfold run eventIf recorded recordAll noteAll pick in refl
 
 -- ---- what `note_long` leaves
 
@@ -97,12 +97,12 @@ branches-body n p = go (ltb 65535 n)
 
 -- ---- a measure and an outcome, from the reading
 
-module _ {A : Type 0} (size : A → ℕ) (trace : A → ℕ → List Event) (pos : ℕ) where
-  pub measured-got : {a : A} {q w : ℕ} {es : List Event} {x : Read A} → x ≡ got a (placed q) → w ≡ pos + size a → es ≡ branches (trace a pos) → measured size trace pos x ≡ got (measure w es) (placed q)
+module _ {A : Type 0} (size : A → ℕ) (trace : A → Position → List Event) (from : Position) where
+  pub measured-got : {a : A} {q w : ℕ} {es : List Event} {x : Read A} → x ≡ got a (placed q) → w ≡ from .at + size a → es ≡ branches (trace a from) → measured size trace from x ≡ got (measure w es) (placed q)
   unfolding measured
   measured-got e f g = rw (e, f, g)
 
-module _ {A : Type 0} (size : A → ℕ) (trace : A → ℕ → List Event) (pos : ℕ) (s : State) where
-  pub outcome-got : {a : A} {q w : ℕ} {u : State} {x : Read A} → x ≡ got a (placed q) → w ≡ pos + size a → u ≡ run (trace a pos) s → outcome size trace pos s x ≡ done q w u
+module _ {A : Type 0} (size : A → ℕ) (trace : A → Position → List Event) (from : Position) (s : State) where
+  pub outcome-got : {a : A} {q w : ℕ} {u : State} {x : Read A} → x ≡ got a (placed q) → w ≡ from .at + size a → u ≡ run (trace a from) s → outcome size trace from s x ≡ done q w u
   unfolding outcome
   outcome-got e f g = rw (e, f, g)

@@ -15,12 +15,13 @@ use Rattle.layout.specs.Tree.{CatchTargetOf, Variable, Register, ActionOf, Try,
 use Rattle.layout.specs.Read.{Text, plain, edition1, Place, placed, ahead, Read, got, bad, Reader, chain, ifWhole, repeat, tested, isShape, readU8, hasCatch, hasFinally, hasRegister, readCatchTarget, readCatch, readFinally, readTry, readFields}
 use Rattle.layout.specs.Strings.{mapTarget, mapAction, mapBody, mapCatch, mapFinally}
 use Rattle.layout.specs.Payload.{catchName}
-use Rattle.layout.specs.Write.{size, catchSize, finallySize, Position, Event, moved, payloadTest, bodyTest, trace, traceBody, traceCatch, traceFinally}
+use Rattle.layout.specs.Write.{size, catchSize, finallySize, Position, position, Event, moved, toTry, payloadTest, bodyTest, trace, traceBody, traceCatch, traceFinally}
 use Rattle.layout.specs.Lengths.{total, nameLength, stringLength, length-catchName}
 use Rattle.layout.specs.Pack.{spelling}
 use Rattle.laws.specs.Fits.{Bytes}
 use Rattle.laws.specs.ReadFits.{Good, fine, refused, good-then, good-got, u8-good, tested-good, text-good}
 use Rattle.laws.specs.Packed.{spells}
+use Rattle.labels.specs.Table.{Tables}
 use Rattle.positions.specs.declared.BytePosition.{BytePosition}
 use Rattle.positions.specs.Scanned.{faultOf, scanned}
 use Rattle.operands.specs.Operands.{stringSize}
@@ -35,11 +36,11 @@ use Rattle.measure.proofs.Runs.{run-append, run-none, run-payload, run-
 -- ---- a body's test, as a change of the state
 
 unfoldable closed : ℕ → State → State
-closed n s = state (s .table) (notedIf 9 n (s .over))
+closed n s = state (s .labels) (notedIf 9 n (s .over))
 
 run-closed : (n : ℕ) (p : Position) (s : State) → run (bodyTest n p) s ≡ closed n s
 unfolding closed
-run-closed n p s = run-body n p (s .table) (s .over)
+run-closed n p s = run-body n p (s .labels) (s .over)
 
 -- an absent body's length is 0
 closed-none : (s : State) → closed 0 s ≡ s
@@ -60,12 +61,12 @@ abbrev tryBodies : ActionsOf Text ℕ → CatchOf Text ℕ → FinallyOf Text �
 tryBodies t c f = t ∷ (catchBodies c ++ finallyBodies f)
 
 -- their events and tests, whatever the names of the positions of the tests
-module _ (t : ActionsOf Text ℕ) (w : ℕ) (p : Position) (s : State) where
+module _ (t : ActionsOf Text ℕ) (w home : ℕ) (p : Position) (s : State) where
   bodies-run : (c : CatchOf Text ℕ) (f : FinallyOf Text ℕ) →
-      run (traceBody (mapBody spelling t) (record { at = w }) ++ (traceCatch (mapCatch spelling c) (moved (bodyLength t) (record { at = w }))
-      ++ (traceFinally (mapFinally spelling f) (moved (bodyLength t + catchSize (mapCatch spelling c)) (record { at = w }))
+      run (traceBody (mapBody spelling t) (position w home) ++ (traceCatch (mapCatch spelling c) (moved (bodyLength t) (position w home))
+      ++ (traceFinally (mapFinally spelling f) (moved (bodyLength t + catchSize (mapCatch spelling c)) (position w home))
       ++ (bodyTest (bodyLength t) p ++ (bodyTest (catchSize (mapCatch spelling c)) p ++ bodyTest (finallySize (mapFinally spelling f)) p))))) s
-      ≡ run (bodiesEvents (tryBodies t c f) w) s
+      ≡ run (bodiesEvents (tryBodies t c f) (position w home)) s
   unfolding traceCatch catchSize mapCatch moved bodiesEvents inBodies bodyTests
   bodies-run noCatch noFinally = simp (run-append, run-none, run-closed, closed-none)
   bodies-run (catch u x) noFinally = simp (run-append, run-none, run-closed, closed-none)
@@ -77,12 +78,12 @@ module _ (t : ActionsOf Text ℕ) (w : ℕ) (p : Position) (s : State) where
       rw e (simp (run-append, run-none, run-closed))
 
 -- their branches
-module _ (t : ActionsOf Text ℕ) (w : ℕ) (p : Position) where
+module _ (t : ActionsOf Text ℕ) (w home : ℕ) (p : Position) where
   bodies-branches : (c : CatchOf Text ℕ) (f : FinallyOf Text ℕ) →
-      branches (traceBody (mapBody spelling t) (record { at = w }) ++ (traceCatch (mapCatch spelling c) (moved (bodyLength t) (record { at = w }))
-      ++ (traceFinally (mapFinally spelling f) (moved (bodyLength t + catchSize (mapCatch spelling c)) (record { at = w }))
+      branches (traceBody (mapBody spelling t) (position w home) ++ (traceCatch (mapCatch spelling c) (moved (bodyLength t) (position w home))
+      ++ (traceFinally (mapFinally spelling f) (moved (bodyLength t + catchSize (mapCatch spelling c)) (position w home))
       ++ (bodyTest (bodyLength t) p ++ (bodyTest (catchSize (mapCatch spelling c)) p ++ bodyTest (finallySize (mapFinally spelling f)) p)))))
-      ≡ branches (inBodies (tryBodies t c f) w)
+      ≡ branches (inBodies (tryBodies t c f) (position w home))
   unfolding traceCatch catchSize mapCatch moved inBodies
   bodies-branches noCatch noFinally = simp (branches-append, branches-none, branches-body, append-nil)
   bodies-branches (catch u x) noFinally = simp (branches-append, branches-none, branches-body, append-nil)
@@ -101,7 +102,7 @@ name-size (Variable s) x = refl
 name-size (Register r) x = refl
 
 -- m bytes stand for the name
-module _ (t : ActionsOf Text ℕ) (c : CatchOf Text ℕ) (f : FinallyOf Text ℕ) (m pos w : ℕ) (is-name : nameLength (mapCatch spelling c) ≡ m) (is-size : w ≡ pos + 3 + (7 + m)) where
+module _ (t : ActionsOf Text ℕ) (c : CatchOf Text ℕ) (f : FinallyOf Text ℕ) (m pos w home : ℕ) (is-name : nameLength (mapCatch spelling c) ≡ m) (is-size : w ≡ pos + 3 + (7 + m)) where
   body-at : pos + (10 + length (catchName (mapCatch spelling c))) ≡ w
   body-at = omega (arith, is-name, is-size, length-catchName (mapCatch spelling c))
 
@@ -118,39 +119,39 @@ module _ (t : ActionsOf Text ℕ) (c : CatchOf Text ℕ) (f : FinallyOf Text ℕ
   unfolding size mapAction
   try-size = omega (arith, is-name, length-catchName (mapCatch spelling c), bodies-total)
 
-  moved-is : moved (10 + length (catchName (mapCatch spelling c))) (record { at = pos }) ≡ record { at = w }
-  moved-is = unfold moved in ap (λ (v : ℕ). record { at = v }) body-at
+  moved-is : toTry (mapCatch spelling c) (position pos home) ≡ position w home
+  moved-is = unfold moved in ap (λ (v : ℕ). position v home) body-at
 
-  try-run : (tab over : List ℕ) → run (actionTrace (Try t c f) pos) (state tab over) ≡ run (bodiesEvents (tryBodies t c f) w) (state tab (notedIf 8 (7 + m) over))
+  try-run : (tab : Tables) (over : List ℕ) → run (actionTrace (Try t c f) (position pos home)) (state tab over) ≡ run (bodiesEvents (tryBodies t c f) (position w home)) (state tab (notedIf 8 (7 + m) over))
   unfolding trace mapAction
   try-run tab over =
       let n : ℕ = length (catchName (mapCatch spelling c)) in
-      let p : Position = record { at = pos } in
+      let p : Position = position pos home in
       let e : 7 + n ≡ 7 + m = omega (arith, is-name, length-catchName (mapCatch spelling c)) in
       run-append (payloadTest (7 + n) p) _ (state tab over)
       ∙ ap (run _) (run-payload (7 + n) p tab over ∙ ap (λ (k : ℕ). state tab (notedIf 8 k over)) e)
       ∙ ap (λ (v : Position). run (traceBody (mapBody spelling t) v ++ (traceCatch (mapCatch spelling c) (moved (bodyLength t) v)
       ++ (traceFinally (mapFinally spelling f) (moved (bodyLength t + catchSize (mapCatch spelling c)) v)
       ++ (bodyTest (bodyLength t) p ++ (bodyTest (catchSize (mapCatch spelling c)) p ++ bodyTest (finallySize (mapFinally spelling f)) p))))) (state tab (notedIf 8 (7 + m) over))) moved-is
-      ∙ bodies-run t w p (state tab (notedIf 8 (7 + m) over)) c f
+      ∙ bodies-run t w home p (state tab (notedIf 8 (7 + m) over)) c f
 
-  try-branches : branches (actionTrace (Try t c f) pos) ≡ branches (inBodies (tryBodies t c f) w)
+  try-branches : branches (actionTrace (Try t c f) (position pos home)) ≡ branches (inBodies (tryBodies t c f) (position w home))
   unfolding trace mapAction
   try-branches =
       let n : ℕ = length (catchName (mapCatch spelling c)) in
-      let p : Position = record { at = pos } in
+      let p : Position = position pos home in
       branches-after (7 + n) p _
       ∙ ap (λ (v : Position). branches (traceBody (mapBody spelling t) v ++ (traceCatch (mapCatch spelling c) (moved (bodyLength t) v)
       ++ (traceFinally (mapFinally spelling f) (moved (bodyLength t + catchSize (mapCatch spelling c)) v)
       ++ (bodyTest (bodyLength t) p ++ (bodyTest (catchSize (mapCatch spelling c)) p ++ bodyTest (finallySize (mapFinally spelling f)) p)))))) moved-is
-      ∙ bodies-branches t w p c f
+      ∙ bodies-branches t w home p c f
 
-  try-done : (tab over : List ℕ) (r : Place) → outcome actionSize actionTrace pos (state tab over) (got (Try t c f) r)
-      ≡ outcome (total bodyLength) bodiesEvents w (state tab (notedIf 8 (7 + m) over)) (got (tryBodies t c f) r)
+  try-done : (tab : Tables) (over : List ℕ) (r : Place) → outcome actionSize actionTrace (position pos home) (state tab over) (got (Try t c f) r)
+      ≡ outcome (total bodyLength) bodiesEvents (position w home) (state tab (notedIf 8 (7 + m) over)) (got (tryBodies t c f) r)
   unfolding outcome
   try-done tab over r = ap₂ (λ (n : ℕ) (s : State). done (r .at) n s) (omega (arith, try-size, is-size)) (try-run tab over)
 
-  try-measured : (r : Place) → measured actionSize actionTrace pos (got (Try t c f) r) ≡ measured (total bodyLength) inBodies w (got (tryBodies t c f) r)
+  try-measured : (r : Place) → measured actionSize actionTrace (position pos home) (got (Try t c f) r) ≡ measured (total bodyLength) inBodies (position w home) (got (tryBodies t c f) r)
   unfolding measured
   try-measured r = ap₂ (λ (n : ℕ) (es : List Event). got (measure n es) r) (omega (arith, try-size, is-size)) try-branches
 
@@ -314,7 +315,7 @@ unfolding bodiesAfter
 after-some n = omega arith
 
 -- a Try whose shape and target were read is told of as its bodies are
-module _ (b : List ℕ) (p pos : ℕ) (x : ℕ × CatchTargetOf Text) (q : Place) (is-read : readCaught b (placed p) ≡ got x q) (inner : Reader (ActionsOf Text ℕ)) (one-byte : hasCatch (x .0) ≡ false → 1 ≡ targetSize (x .1)) where
+module _ (b : List ℕ) (p pos home : ℕ) (x : ℕ × CatchTargetOf Text) (q : Place) (is-read : readCaught b (placed p) ≡ got x q) (inner : Reader (ActionsOf Text ℕ)) (one-byte : hasCatch (x .0) ≡ false → 1 ≡ targetSize (x .1)) where
   abbrev named : ℕ
   named = targetSize (x .1)
 
@@ -328,18 +329,18 @@ module _ (b : List ℕ) (p pos : ℕ) (x : ℕ × CatchTargetOf Text) (q : Place
       no-name : nameLength (mapCatch spelling noCatch) ≡ 1
       no-name = unfold nameLength mapCatch in refl
 
-  try-outcome : (over tab : List ℕ)
-      → outcome actionSize actionTrace pos (state tab over) (readFields edition1 b inner OpCode.Try (placed p))
-      ≡ outcome (total bodyLength) bodiesEvents (pos + 3 + (7 + named)) (state tab (notedIf 8 (7 + named) over)) (repeat inner (count (hasCatch (x .0)) (hasFinally (x .0))) q)
+  try-outcome : (over : List ℕ) (tab : Tables)
+      → outcome actionSize actionTrace (position pos home) (state tab over) (readFields edition1 b inner OpCode.Try (placed p))
+      ≡ outcome (total bodyLength) bodiesEvents (position (pos + 3 + (7 + named)) home) (state tab (notedIf 8 (7 + named) over)) (repeat inner (count (hasCatch (x .0)) (hasFinally (x .0))) q)
   try-outcome over tab =
-      alike (outcome actionSize actionTrace pos (state tab over)) (outcome (total bodyLength) bodiesEvents (pos + 3 + (7 + named)) (state tab (notedIf 8 (7 + named) over)))
-      (λ t c f h r. try-done t c f named pos (pos + 3 + (7 + named)) h refl tab over r) (λ f r. unfold outcome in refl)
+      alike (outcome actionSize actionTrace (position pos home) (state tab over)) (outcome (total bodyLength) bodiesEvents (position (pos + 3 + (7 + named)) home) (state tab (notedIf 8 (7 + named) over)))
+      (λ t c f h r. try-done t c f named pos (pos + 3 + (7 + named)) home h refl tab over r) (λ f r. unfold outcome in refl)
 
-  pub try-measure : measured actionSize actionTrace pos (readFields edition1 b inner OpCode.Try (placed p))
-      ≡ measured (total bodyLength) inBodies (pos + 3 + (7 + named)) (repeat inner (count (hasCatch (x .0)) (hasFinally (x .0))) q)
+  pub try-measure : measured actionSize actionTrace (position pos home) (readFields edition1 b inner OpCode.Try (placed p))
+      ≡ measured (total bodyLength) inBodies (position (pos + 3 + (7 + named)) home) (repeat inner (count (hasCatch (x .0)) (hasFinally (x .0))) q)
   try-measure =
-      alike (measured actionSize actionTrace pos) (measured (total bodyLength) inBodies (pos + 3 + (7 + named)))
-      (λ t c f h r. try-measured t c f named pos (pos + 3 + (7 + named)) h refl r) (λ f r. unfold measured in refl)
+      alike (measured actionSize actionTrace (position pos home)) (measured (total bodyLength) inBodies (position (pos + 3 + (7 + named)) home))
+      (λ t c f h r. try-measured t c f named pos (pos + 3 + (7 + named)) home h refl r) (λ f r. unfold measured in refl)
 
 module _ (b : List ℕ) (small : Bytes b) (at p pos : ℕ) (is-next : p ≡ at + 1) (inside : p ≤ length b) (over over′ : List ℕ) (l : Laid) where
   onward : (x : ℕ × CatchTargetOf Text) (q : Place) → (x .0 ≡ getD b p 0) × (hasCatch (x .0) ≡ false → targetSize (x .1) ≡ 1) × (targetSize (x .1) + p ≤ q .at + 1) × (p ≤ q .at) → q .at ≤ length b
@@ -356,17 +357,19 @@ module _ (b : List ℕ) (small : Bytes b) (at p pos : ℕ) (is-next : p ≡ at +
       let k : count (hasCatch (x .0)) (hasFinally (x .0)) ≡ bodiesAfter (getD b p 0) = count-is (x .0) ∙ ap bodiesAfter (g .0) in
       let m : 7 + targetSize (x .1) ≡ pos + 3 + (7 + targetSize (x .1)) - (pos + 3) = omega arith in
       rw (laid-some (bodiesAfter (getD b p 0)) (q .at) (record { 0 = pos + 3 + caughtSize x }) (after-some (getD b p 0)))
-      (Laying.bodies {q = q .at} {n = bodiesAfter (getD b p 0)} {w = record { 0 = pos + 3 + caughtSize x }} (after-some (getD b p 0)) (onward x q g o)
-      (λ inner tab. try-outcome b p pos x q e inner (λ c. sym (g .1 c)) over tab
-      ∙ ap₂ (λ (i j : ℕ). outcome (total bodyLength) bodiesEvents (pos + 3 + caughtSize x) (state tab (notedIf 8 i over)) (repeat inner j q)) m k)
-      (λ inner. try-measure b p pos x q e inner (λ c. sym (g .1 c))
-      ∙ ap (λ (j : ℕ). measured (total bodyLength) inBodies (pos + 3 + caughtSize x) (repeat inner j q)) k))
+      (Laying.bodies {q = q .at} {n = bodiesAfter (getD b p 0)} {w = record { 0 = pos + 3 + caughtSize x }} (after-some (getD b p 0)) (record {
+        onward = onward x q g o;
+        runs = λ inner tab home. try-outcome b p pos home x q e inner (λ c. sym (g .1 c)) over tab
+            ∙ ap₂ (λ (i j : ℕ). outcome (total bodyLength) bodiesEvents (position (pos + 3 + caughtSize x) home) (state tab (notedIf 8 i over)) (repeat inner j q)) m k;
+        measures = λ inner home. try-measure b p pos home x q e inner (λ c. sym (g .1 c))
+            ∙ ap (λ (j : ℕ). measured (total bodyLength) inBodies (position (pos + 3 + caughtSize x) home) (repeat inner j q)) k;
+      }))
 
   lay-uncaught : (f : answers.Fault) (q : Place) → readCaught b (placed p) ≡ bad f q
       → Laying (λ inner. readFields edition1 b inner OpCode.Try (placed p)) at (length b) pos over (notedFrom (pos + 3) (scanned caughtSize (pos + 3) (bad f q)) over)
       (laidAs (bodiesAfter (getD b p 0)) (scanned caughtSize (pos + 3) (bad f q)))
   unfolding scanned notedFrom laidAs outcome
-  lay-uncaught f q e = Laying.stops {f = faultOf f} {q = q .at} (λ inner t. rw (try-fields b inner (placed p), e))
+  lay-uncaught f q e = Laying.stops {f = faultOf f} {q = q .at} (λ inner t home. rw (try-fields b inner (placed p), e))
 
   pub lay-try : Tried (scanned caughtSize (pos + 3) (readCaught b (placed p))) (bodiesAfter (getD b p 0)) (pos + 3) l over over′
       → Laying (λ inner. readFields edition1 b inner OpCode.Try (placed p)) at (length b) pos over over′ l

@@ -2,16 +2,18 @@
 // it ends, and how many bodies follow.
 ghost use mathlib.Core.Path.{_≡_};
 ghost use lib.ListN.{length};
-ghost use Rattle.measure.specs.Walk.{notedIf, firstLong, laidAs, notedFrom, EndsFrom};
+ghost use Rattle.measure.specs.Walk.{notedIf, firstLong, laidAs, laidFunction, notedFrom, EndsFrom};
 use positions::BytePosition;
 use positions::Fault;
 use positions::Scan;
 
-// The place and the position after a payload, with a branch's label, or how many bodies follow; or a fault and its place.
+// The place and the position after a payload, with a branch's label, or how many bodies follow; or a fault and its place. The body
+// of a function is told apart: what stands in it has another home than the function.
 pub enum Laid {
     Flat(usize, BytePosition),
     Branch(usize, BytePosition, usize),
     Bodies(usize, BytePosition, usize),
+    Function(usize, BytePosition),
     Stops(Fault, usize),
 }
 
@@ -66,6 +68,20 @@ pub fn long_payload(r: Scan, from: BytePosition, n: usize, over: &mut [usize]) -
                 return Laid::Flat(p, w);
             }
             Laid::Bodies(p, w, n)
+        }
+    }
+}
+
+// The payload of a function, from position `from` on; 8 is noted where it is too long.
+pub fn function_payload(r: Scan, from: BytePosition, over: &mut [usize]) -> Laid
+    requires { ⌜ (length (now over) ≡ 2) × EndsFrom (from .0) r ⌝ }
+    ensures { λ l. ⌜ (l ≡ laidFunction r) × (now (over .exit) ≡ notedFrom (from .0) r (now (over .entry))) ⌝ }
+{
+    match r {
+        Scan::Stops(f, p) => Laid::Stops(f, p),
+        Scan::Ends(p, w) => {
+            note_long(over, 8, w.0 - from.0);
+            Laid::Function(p, w)
         }
     }
 }

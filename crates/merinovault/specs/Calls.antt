@@ -22,9 +22,9 @@ pub record Lent (s : List ℕ) : Type 0 where
   pub bytes : Bytes s
   pub short : length s < 9223372036854775808
 
--- the mode that the entry's flag tells
-abbrev pub modeBy : Bool → Mode
-modeBy strict = record { strict = strict }
+-- the mode that the entry's flags tell
+abbrev pub modeBy : Bool → Bool → Mode
+modeBy strict contained = record { strict = strict; contained = contained }
 
 -- merinovault_pack, in a mode, on a sheet s, with an output that held o and a value slice that held v: it returns n, and the value
 -- slice then holds v′ and the output `after`

@@ -7,21 +7,26 @@ use judge::Mode;
 use step::Stepped;
 use stores::fill_u64;
 
-// Packs a sheet, in strict mode or in plain mode, into the lent output, whose bytes past a Done length keep their values; on any
-// other answer all do.
+// Packs a sheet into the lent output, in a mode that is strict or not and contained or not. The output's bytes past a Done length
+// keep their values; on any other answer all do.
 #[no_mangle]
 pub extern "C" fn merinovault_pack(
     sheet: &[u8],
     strict: bool,
+    contained: bool,
     out: &mut [u8],
     value: &mut [u8],
 ) -> u32
-    ensures { λ r. ⌜ PackCalled (modeBy strict) (now (sheet .entry)) (now (out .entry)) (now (value .entry)) r (now (value .exit)) (now (out .exit)) ⌝ }
+    ensures { λ r. ⌜ PackCalled (modeBy strict contained) (now (sheet .entry)) (now (out .entry)) (now (value .entry)) r (now (value .exit)) (now (out .exit)) ⌝ }
 {
     if value.len() != 8 {
         return 11;
     }
-    let a = pack::pack(sheet, Mode { strict: strict }, out);
+    let mode = Mode {
+        strict: strict,
+        contained: contained,
+    };
+    let a = pack::pack(sheet, mode, out);
     fill_u64(value, value_of(a));
     number_of(a)
 }

@@ -25,7 +25,7 @@ use Rattle.scan.specs.Mains.{Holds, MainWhole}
 use Rattle.reading.specs.Readings.{said, SheetRead, read-refused}
 use Rattle.reading.specs.declared.Reading.{Reading}
 use Rattle.reading.specs.declared.Reading.the-variants as reading
-use Rattle.judge.specs.Judging.{refusalOf, Says, MainJudged}
+use Rattle.judge.specs.Judging.{refusalOf, Says, HomesLent, MainJudged}
 use Rattle.judge.specs.declared.BadBranch.{BadBranch}
 use Rattle.judge.specs.declared.Verdict.{Verdict}
 use Rattle.judge.specs.declared.Verdict.the-variants as verdict
@@ -43,16 +43,16 @@ read-tree : (mode : Mode) (b : List ℕ) (t : Actions) (start room : ℕ) → Re
 unfolding packRead
 read-tree mode b t start room r = rw (r .is-read, r .is-tree)
 
--- ---- 10 and 14
+-- ---- 10, 14 and 15
 
-module _ (mode : Mode) (b tab : List ℕ) (end : BytePosition) (m : MainShort b end tab) (v : Verdict) (j : MainJudged mode b v) where
+module _ (mode : Mode) (b tab homes : List ℕ) (end : BytePosition) (m : MainShort b end mode tab homes) (v : Verdict) (j : MainJudged mode b v) where
   -- What the verdict refuses is the answer, whatever the room.
   pub short-bad : (bad : BadBranch) → v ≡ verdict.Refused bad → (r : Answer) → TellsBranch bad r → (o : List ℕ) → MainPacked mode b o r o
   unfolding answers.number answers.value
   short-bad bad e r h o =
-      let t = m .measured .tree in
-      let f = is-bad (j .says t (m .measured .reads)) e in
-      answered-by t (m .measured .reads) (refused (refusalOf bad) o r (branch-next mode t (length o) _ (m .is-short) f) (h .is-number) (h .is-value))
+      let t = m .judgeable .measured .tree in
+      let f = is-bad (j .says t (m .judgeable .measured .reads)) e in
+      answered-by t (m .judgeable .measured .reads) (refused (refusalOf bad) o r (branch-next mode t (length o) _ (m .is-short) f) (h .is-number) (h .is-value))
     where
       is-bad : {x : Option Refusal} {v : Verdict} → Says x v → v ≡ verdict.Refused bad → x ≡ some (refusalOf bad)
       is-bad Says.passed k =
@@ -63,8 +63,8 @@ module _ (mode : Mode) (b tab : List ℕ) (end : BytePosition) (m : MainShort b 
           rw i
 
   module _ (e : v ≡ verdict.Passed) where
-    none-bad : badBranch mode (events (m .measured .tree)) (events (m .measured .tree)) ≡ none
-    none-bad = go (j .says (m .measured .tree) (m .measured .reads)) e
+    none-bad : badBranch mode (events (m .judgeable .measured .tree)) (events (m .judgeable .measured .tree)) ≡ none
+    none-bad = go (j .says (m .judgeable .measured .tree) (m .judgeable .measured .reads)) e
       where
         go : {x : Option Refusal} {v : Verdict} → Says x v → v ≡ verdict.Passed → x ≡ none
         go Says.passed k = refl
@@ -74,13 +74,13 @@ module _ (mode : Mode) (b tab : List ℕ) (end : BytePosition) (m : MainShort b 
 
     -- Where it refuses none, no branch goes too far.
     pub short-near : MainNear b end tab
-    short-near = record { measured = m .measured; is-near = none-far mode (λ l. lookup l (events (m .measured .tree))) (events (m .measured .tree)) none-bad }
+    short-near = record { measured = m .judgeable .measured; is-near = none-far mode (λ l. lookup l (events (m .judgeable .measured .tree))) (events (m .judgeable .measured .tree)) none-bad }
 
     -- Then the answer is the block's, by the room.
     pub short-room : (r : Answer) (o after : List ℕ) → MainAnswered blockIn b o r after → MainPacked mode b o r after
     short-room r o after h =
-        let t = m .measured .tree in
-        answered-by t (m .measured .reads) (rw (room-last mode t (length o) (judge-none t (m .is-short) none-bad)) (h .answered t (m .measured .reads)))
+        let t = m .judgeable .measured .tree in
+        answered-by t (m .judgeable .measured .reads) (rw (room-last mode t (length o) (judge-none t (m .is-short) none-bad)) (h .answered t (m .judgeable .measured .reads)))
       where
         judge-none : (t : Actions) → tooLong (events t) ≡ none → badBranch mode (events t) (events t) ≡ none → judge mode t ≡ none
         judge-none t a b = unfold judge orElse in rw (a, b)
@@ -102,7 +102,7 @@ long-number (bodyTooLong n s ∷ es) x e =
     let i : x ≡ BlockLenOverflow n = cc in
     inr (ap refusalNumber i)
 
-module _ (b tab over : List ℕ) (end : BytePosition) (m : MainWhole b end tab over) where
+module _ (b tab homes over : List ℕ) (end : BytePosition) (m : MainWhole b end tab homes over) where
   -- What is noted is the answer, whatever the room.
   noted-answered : (mode : Mode) (r : Answer) (o : List ℕ) → (getD over 0 0 ≡ 0 → ⊥) → number r ≡ getD over 0 0 → value r ≡ pos (getD over 1 0) → MainPacked mode b o r o
   noted-answered mode r o z i v = answered-by (m .measured .tree) (m .measured .reads) (go (tooLong (events (m .measured .tree))) refl (m .long))
@@ -120,8 +120,8 @@ module _ (b tab over : List ℕ) (end : BytePosition) (m : MainWhole b end tab o
   whole-9 e mode o = noted-answered mode (answer.BlockLenOverflow (getD over 1 0)) o (λ z. omega arith) (sym e) refl
 
   -- Where neither is noted, nothing is too long.
-  pub whole-short : (getD over 0 0 ≡ 8 → ⊥) → (getD over 0 0 ≡ 9 → ⊥) → MainShort b end tab
-  whole-short no-8 no-9 = record { measured = m .measured; is-short = go (tooLong (events (m .measured .tree))) refl (m .long) }
+  pub whole-short : (mode : Mode) → HomesLent mode homes → (getD over 0 0 ≡ 8 → ⊥) → (getD over 0 0 ≡ 9 → ⊥) → MainShort b end mode tab homes
+  whole-short mode lent no-8 no-9 = record { judgeable = record { measured = m .measured; holds = m .homed; lent = lent }; is-short = go (tooLong (events (m .measured .tree))) refl (m .long) }
     where
       go : (x : Option Refusal) → tooLong (events (m .measured .tree)) ≡ x → Holds x over → x ≡ none
       go none k h = refl
@@ -129,13 +129,13 @@ module _ (b tab over : List ℕ) (end : BytePosition) (m : MainWhole b end tab o
 
 -- ---- a sheet that was read
 
-module _ (s tab over : List ℕ) (x : Reading) (h : SheetRead s tab over x) where
+module _ (s tab homes over : List ℕ) (x : Reading) (h : SheetRead s tab homes over x) where
   -- What reading refuses is the answer, whatever the room: 1 to 7.
   refused-read : (mode : Mode) (o : List ℕ) (y : Refusal) (r : Answer) → said x ≡ some y → number r ≡ refusalNumber y → value r ≡ refusalValue y → Outcome mode s o (number r) (value r) o
   unfolding said
   refused-read mode o y r e n v = go h e
     where
-      go : {x : Reading} → SheetRead s tab over x → said x ≡ some y → Outcome mode s o (number r) (value r) o
+      go : {x : Reading} → SheetRead s tab homes over x → said x ≡ some y → Outcome mode s o (number r) (value r) o
       go (SheetRead.whole i j c m) k =
           let z : _≡_ {A = ℕ} 0 1 = cc in
           absurd (omega arith)
@@ -161,11 +161,11 @@ module _ (s tab over : List ℕ) (x : Reading) (h : SheetRead s tab over x) wher
     abbrev b : List ℕ
     b = take (end - start) (drop start s)
 
-    pub read-whole : ((start ≤ end) × (end ≤ length s)) × (cut s ≡ main start b) × MainWhole b w tab over
+    pub read-whole : ((start ≤ end) × (end ≤ length s)) × (cut s ≡ main start b) × MainWhole b w tab homes over
     unfolding said
     read-whole = go h e
       where
-        go : {x : Reading} → SheetRead s tab over x → x ≡ reading.Whole start end w → ((start ≤ end) × (end ≤ length s)) × (cut s ≡ main start b) × MainWhole b w tab over
+        go : {x : Reading} → SheetRead s tab homes over x → x ≡ reading.Whole start end w → ((start ≤ end) × (end ≤ length s)) × (cut s ≡ main start b) × MainWhole b w tab homes over
         go (SheetRead.whole {start = start′} {end = end′} {w = w′} i j c m) k =
             let p : start′ ≡ start = cc in
             let q : end′ ≡ end = cc in
@@ -173,8 +173,8 @@ module _ (s tab over : List ℕ) (x : Reading) (h : SheetRead s tab over x) wher
             same start′ end′ w′ p q r i j c m
           where
             same : (start′ end′ : ℕ) (w′ : BytePosition) → start′ ≡ start → end′ ≡ end → w′ ≡ w → start′ ≤ end′ → end′ ≤ length s
-                → cut s ≡ main start′ (take (end′ - start′) (drop start′ s)) → MainWhole (take (end′ - start′) (drop start′ s)) w′ tab over
-                → ((start ≤ end) × (end ≤ length s)) × (cut s ≡ main start b) × MainWhole b w tab over
+                → cut s ≡ main start′ (take (end′ - start′) (drop start′ s)) → MainWhole (take (end′ - start′) (drop start′ s)) w′ tab homes over
+                → ((start ≤ end) × (end ≤ length s)) × (cut s ≡ main start b) × MainWhole b w tab homes over
             same start′ end′ w′ p q r i j c m = rw (sym p, sym q, sym r) ((i, j), c, m)
         go (SheetRead.refused {r = y} {x = z} i j) k =
             let none-some : said (reading.Whole start end w) ≡ some z = sym (ap said k) ∙ i in

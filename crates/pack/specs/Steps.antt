@@ -10,9 +10,8 @@ use Rattle.layout.specs.Pack.{packTree}
 use Rattle.positions.specs.declared.BytePosition.{BytePosition}
 use Rattle.positions.specs.declared.Fault.{Fault}
 use Rattle.positions.specs.Scanned.{meant}
-use Rattle.labels.specs.Mains.{MainMeasured}
 use Rattle.judge.specs.declared.BadBranch.{BadBranch}
-use Rattle.judge.specs.Judging.{refusalOf}
+use Rattle.judge.specs.Judging.{refusalOf, MainJudgeable}
 use Rattle.if_room.specs.Near.{MainAnswered}
 use Rattle.answer.specs.declared.Answer.{Answer}
 use Rattle.answer.specs.Answered.{number, value}
@@ -25,10 +24,10 @@ TellsFault f place r = Told {A = List ℕ} lengthOf (Refused (ReadingFault (mean
 abbrev pub TellsBranch : BadBranch → Answer → Type 0
 TellsBranch bad r = Told {A = List ℕ} lengthOf (Refused (refusalOf bad)) (number r) (value r)
 
--- a main body that reads whole as far as position `end`, with its label table, and in which nothing is too long
-pub record MainShort (b : List ℕ) (end : BytePosition) (tab : List ℕ) : Type 0 where
-  pub measured : MainMeasured b end tab
-  pub is-short : tooLong (events (measured .tree)) ≡ none
+-- a main body that reads whole as far as position `end`, with its label tables, and in which nothing is too long
+pub record MainShort (b : List ℕ) (end : BytePosition) (mode : Mode) (tab homes : List ℕ) : Type 0 where
+  pub judgeable : MainJudgeable b end mode tab homes
+  pub is-short : tooLong (events (judgeable .measured .tree)) ≡ none
 
 -- what is left of a main body: the packer's answer
 abbrev pub MainPacked : Mode → List ℕ → List ℕ → Answer → List ℕ → Type 0

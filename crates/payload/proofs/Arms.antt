@@ -12,11 +12,11 @@ use borrow.Author.Tests.{eqb-true, eqb-false, ne-eqb, le-ltb}
 use Rattle.layout.specs.Lists.{each, pick, firstWith}
 use Rattle.layout.specs.OpCode.{OpCode, SmallOpCode, smallByte, byte, smallOpCodes, opcodes, opcodeOf}
 use Rattle.layout.specs.Tree.{FlatOf, Small, GotoFrame, GetUrl, StoreRegister, ConstantPool, WaitForFrame, SetTarget, GotoLabel, WaitForFrame2, Push, GetUrl2, GotoFrame2, OwnerOf, With, DefineFunction, DefineFunction2, Jump, If, PushValueOf, FunctionParamOf, ActionOf, flat, owner, ActionsOf}
-use Rattle.layout.specs.Read.{Text, edition1, Place, placed, Read, got, bad, Reader, chain, tested, repeat, readU8, readU16, readBytes, readFlag, readString, readCounted, readValue, readParam, readLabel, readFields, readFieldsIf}
+use Rattle.layout.specs.Read.{Text, edition1, Place, placed, Read, got, bad, Reader, chain, tested, readU8, readU16, readBytes, readFlag, readString, readCounted, readValue, readParam, readLabel, readFields, readFieldsIf}
 use Rattle.layout.specs.Strings.{mapFlat, mapValue, mapParam, mapOwner, mapAction}
 use Rattle.layout.specs.Payload.{opcode, payload, headed, framed}
 use Rattle.layout.specs.Numbers.{le16}
-use Rattle.layout.specs.Write.{size, trace, payloadTest, eventIf}
+use Rattle.layout.specs.Write.{size, position, homeIn, trace, payloadTest, eventIf}
 use Rattle.layout.specs.Lengths.{total, stringLength, paramLength, pushLength, payloadLength, ownerLength, gotoFrame2Length}
 use Rattle.layout.specs.Pack.{spelling}
 use Rattle.laws.specs.Fits.{Bytes, Clean, ParamFits}
@@ -30,15 +30,15 @@ use Rattle.operands.proofs.Scans.{number-as}
 use Rattle.measure.specs.declared.Laid.{Laid}
 use Rattle.measure.specs.declared.Laid.the-variants as laid
 use Rattle.action_fields.specs.Fields.{readWaitForFrame, readGotoFrame2, readGetUrl2, readGetUrl, flatSize, readFunction, readFunction2, ownerSize, readCaught, caughtSize, bodiesAfter}
-use Rattle.laws.specs.Resolved.{actionSize, actionTrace, bodyLength}
-use Rattle.measure.specs.Walk.{state, notedIf, noteAll, run, outcome, branches, measured, inBodies, bodiesEvents, Onward, Laying, laidAs, branchLaid, notedFrom, Tried}
+use Rattle.laws.specs.Resolved.{actionSize, actionTrace}
+use Rattle.measure.specs.Walk.{state, notedIf, noteAll, run, outcome, branches, Onward, Laying, laidAs, laidFunction, branchLaid, notedFrom, Tried}
 use Rattle.measure.proofs.Runs.{noted-short, outcome-got, measured-got}
-use Rattle.labels.specs.Table.{recordAll}
+use Rattle.labels.specs.Table.{recordAll, recorded}
 use Rattle.positions.specs.declared.Fault.the-variants as fault
 use Rattle.action_fields.proofs.Steps.{total-each, strings-total, scanned-list, named-plain}
 use Rattle.payload.proofs.Branches.{label-here}
 use Rattle.measure.proofs.Tries.{lay-try}
-use Rattle.measure.proofs.Layings.{Long, lay-long, lay-flat, lay-branch, owner-outcome, owner-measured, lay-owner}
+use Rattle.measure.proofs.Layings.{Long, lay-long, lay-flat, lay-branch, owning, IsFunction, lay-function}
 
 -- two chains in a row are one
 regroup : {A B C : Type 0} (x : Read A) (k : A → B) (g : B → C) → chain x (λ a q. got (g (k a)) q) ≡ chain (chain x (λ a q. got (k a) q)) (λ y r. got (g y) r)
@@ -163,6 +163,18 @@ module _ (b : List ℕ) (p : Place) where
       go (got s q) = second s (readCounted b (readParam edition1 b) q)
       go (bad f q) = refl
 
+  -- both read a function
+  function-is : (o : OwnerOf Text) (q : Place) → readFunction b p ≡ got o q → IsFunction o
+  unfolding readFunction
+  function-is o q e =
+      ends-with IsFunction (readString edition1 b p) _ (λ s q y z. gives IsFunction (readCounted b (readString edition1 b) q) (DefineFunction s) (λ ps. tt) y z) o q e
+
+  function2-is : (o : OwnerOf Text) (q : Place) → readFunction2 b p ≡ got o q → IsFunction o
+  unfolding readFunction2
+  function2-is o q e =
+      ends-with IsFunction (readString edition1 b p) _ (λ s q y z. ends-with IsFunction (readCounted b (readParam edition1 b) q) _ (λ ps q y z.
+      ends-with IsFunction (readU8 b q) _ (λ k q y z. gives IsFunction (tested (λ f. ltb f 512) (readU16 b) q) (DefineFunction2 s ps k) (λ f. tt) y z) y z) y z) o q e
+
   -- their places lie within
   function-good : (small : Bytes b) → p .at ≤ length b → Good (length b) (λ o q. (ownerSize o + p .at ≤ q .at + 4) × (p .at ≤ q .at)) (readFunction b p)
   unfolding readFunction ownerSize mapOwner ownerLength stringLength
@@ -284,13 +296,13 @@ module _ (b : List ℕ) (op at pos : ℕ) (over : List ℕ) (r : Scan) (l : Laid
       named 0x96 OpCode.Push over′ (codes .11) o (lay-long (fieldsOf OpCode.Push) Push at (length b) pos over (total valueSize) w (λ vs. omega (arith, h, values-total vs)) (readCounted b (readValue edition1 b) (placed (at + 1))) (λ inner. refl) (λ a q g. refl) over′ r l e m n)
 
   module _ (small : Bytes b) (inside : at + 1 ≤ length b) where
-    pub arm-define-function : (over′ : List ℕ) → op ≡ 0x9B → r ≡ scanned ownerSize (pos + 3) (readFunction b (placed (at + 1))) → l ≡ laidAs 1 r → over′ ≡ notedFrom (pos + 3) r over → Here over′
+    pub arm-define-function : (over′ : List ℕ) → op ≡ 0x9B → r ≡ scanned ownerSize (pos + 3) (readFunction b (placed (at + 1))) → l ≡ laidFunction r → over′ ≡ notedFrom (pos + 3) r over → Here over′
     arm-define-function over′ o e m n =
-        named 0x9B OpCode.DefineFunction over′ (codes .14) o (lay-owner (fieldsOf OpCode.DefineFunction) (readFunction b (placed (at + 1))) (function-fields b (placed (at + 1))) at (length b) pos (λ x q g. owner-onward b (placed (at + 1)) at x q (good-got x q (function-good b (placed (at + 1)) small inside) g) refl pos) over over′ r l e m n)
+        named 0x9B OpCode.DefineFunction over′ (codes .14) o (lay-function (fieldsOf OpCode.DefineFunction) (readFunction b (placed (at + 1))) (function-fields b (placed (at + 1))) at (length b) pos (λ x q g. (function-is b (placed (at + 1)) x q g, owner-onward b (placed (at + 1)) at x q (good-got x q (function-good b (placed (at + 1)) small inside) g) refl pos)) over over′ r l e m n)
 
-    pub arm-define-function-2 : (over′ : List ℕ) → op ≡ 0x8E → r ≡ scanned ownerSize (pos + 3) (readFunction2 b (placed (at + 1))) → l ≡ laidAs 1 r → over′ ≡ notedFrom (pos + 3) r over → Here over′
+    pub arm-define-function-2 : (over′ : List ℕ) → op ≡ 0x8E → r ≡ scanned ownerSize (pos + 3) (readFunction2 b (placed (at + 1))) → l ≡ laidFunction r → over′ ≡ notedFrom (pos + 3) r over → Here over′
     arm-define-function-2 over′ o e m n =
-        named 0x8E OpCode.DefineFunction2 over′ (codes .8) o (lay-owner (fieldsOf OpCode.DefineFunction2) (readFunction2 b (placed (at + 1))) (function2-fields b (placed (at + 1))) at (length b) pos (λ x q g. owner-onward b (placed (at + 1)) at x q (good-got x q (function2-good b (placed (at + 1)) small inside) g) refl pos) over over′ r l e m n)
+        named 0x8E OpCode.DefineFunction2 over′ (codes .8) o (lay-function (fieldsOf OpCode.DefineFunction2) (readFunction2 b (placed (at + 1))) (function2-fields b (placed (at + 1))) at (length b) pos (λ x q g. (function2-is b (placed (at + 1)) x q g, owner-onward b (placed (at + 1)) at x q (good-got x q (function2-good b (placed (at + 1)) small inside) g) refl pos)) over over′ r l e m n)
 
 -- ---- branches
 
@@ -320,33 +332,27 @@ module _ (b : List ℕ) (op at pos : ℕ) (over : List ℕ) where
   pub arm-with : op ≡ 0x94 → at + 1 ≤ length b
       → Laying (λ inner. readFieldsIf edition1 b inner (opcodeOf op) (placed at) (placed (at + 1))) at (length b) pos over over (laid.Bodies (at + 1) (record { 0 = pos + 3 + 2 }) 1)
   unfolding readFieldsIf
-  arm-with o h = rw (o, codes .10) (Laying.bodies {q = at + 1} {n = 1} {w = record { 0 = pos + 3 + 2 }} (omega arith) (record { beyond = omega arith; within = h; written = omega arith }) (λ inner tab. with-outcome inner tab) (λ inner. with-measured inner))
+  arm-with o h =
+      rw (o, codes .10) (Laying.bodies {q = at + 1} {n = 1} {w = record { 0 = pos + 3 + 2 }} (omega arith)
+      (owning (λ inner. readFields edition1 b inner OpCode.With (placed (at + 1))) With (placed (at + 1)) (λ inner. unfold readFields in refl) at (length b) pos (record { 0 = pos + 3 + 2 }) (ap (λ (n : ℕ). pos + 3 + n) (sym with-size))
+      (record { beyond = omega arith; within = h; written = omega arith }) (λ home. home) (λ home. unfold homeIn mapOwner in refl) over over
+      (noted-short 8 2 over (omega arith) ∙ ap (λ (n : ℕ). notedIf 8 n over) (sym with-size))))
     where
       with-size : ownerSize With ≡ 2
       with-size = unfold ownerSize mapOwner ownerLength in refl
-
-      with-outcome : (inner : Reader (ActionsOf Text ℕ)) (tab : List ℕ) → outcome actionSize actionTrace pos (state tab over) (readFields edition1 b inner OpCode.With (placed (at + 1)))
-          ≡ outcome (total bodyLength) bodiesEvents (pos + 3 + 2) (state tab over) (repeat inner 1 (placed (at + 1)))
-      with-outcome inner tab =
-          owner-outcome (λ inner. readFields edition1 b inner OpCode.With (placed (at + 1))) With inner pos (pos + 3 + 2) (at + 1) tab over (ap (λ (n : ℕ). pos + 3 + n) (sym with-size)) (unfold readFields in refl)
-          ∙ ap (λ (v : List ℕ). outcome (total bodyLength) bodiesEvents (pos + 3 + 2) (state tab v) (repeat inner 1 (placed (at + 1)))) (ap (λ (n : ℕ). notedIf 8 n over) with-size ∙ sym (noted-short 8 2 over (omega arith)))
-
-      with-measured : (inner : Reader (ActionsOf Text ℕ)) → measured actionSize actionTrace pos (readFields edition1 b inner OpCode.With (placed (at + 1))) ≡ measured (total bodyLength) inBodies (pos + 3 + 2) (repeat inner 1 (placed (at + 1)))
-      with-measured inner =
-          owner-measured (λ inner. readFields edition1 b inner OpCode.With (placed (at + 1))) With inner pos (pos + 3 + 2) (at + 1) [] over (ap (λ (n : ℕ). pos + 3 + n) (sym with-size)) (unfold readFields in refl)
 
   pub arm-call : op ≡ 0x9E
       → Laying (λ inner. readFieldsIf edition1 b inner (opcodeOf op) (placed at) (placed (at + 1))) at (length b) pos over over (laid.Flat (at + 1) (record { 0 = pos + 3 + 0 }))
   unfolding readFieldsIf readFields
   arm-call o =
-      rw (add-zero, o, codes .16) (Laying.flat {q = at + 1} {w = record { 0 = pos + 3 }} (λ inner tab. outcome-got actionSize actionTrace pos (state tab over) refl
-      (unfold size mapAction mapFlat opcode payload framed headed byte smallByte le16 in refl) (unfold trace mapAction mapFlat payload payloadTest eventIf run recordAll noteAll in refl))
-      (λ inner. measured-got actionSize actionTrace pos refl (unfold size mapAction mapFlat opcode payload framed headed byte smallByte le16 in refl) (unfold trace mapAction mapFlat payload payloadTest eventIf branches in refl)))
+      rw (add-zero, o, codes .16) (Laying.flat {q = at + 1} {w = record { 0 = pos + 3 }} (λ inner tab home. outcome-got actionSize actionTrace (position pos home) (state tab over) refl
+      (unfold size mapAction mapFlat opcode payload framed headed byte smallByte le16 in refl) (unfold trace mapAction mapFlat payload payloadTest eventIf run recorded recordAll noteAll in refl))
+      (λ inner home. measured-got actionSize actionTrace (position pos home) refl (unfold size mapAction mapFlat opcode payload framed headed byte smallByte le16 in refl) (unfold trace mapAction mapFlat payload payloadTest eventIf branches in refl)))
 
   pub arm-unknown : opcodeOf op ≡ none
       → Laying (λ inner. readFieldsIf edition1 b inner (opcodeOf op) (placed at) (placed (at + 1))) at (length b) pos over over (laid.Stops fault.UnknownCode at)
   unfolding readFieldsIf outcome faultOf
-  arm-unknown o = rw o (Laying.stops {f = fault.UnknownCode} {q = at} (λ inner t. refl))
+  arm-unknown o = rw o (Laying.stops {f = fault.UnknownCode} {q = at} (λ inner t home. refl))
 
 -- ---- which opcodes from 80 on are listed
 

@@ -20,6 +20,7 @@ use lists::scan_push;
 use lists::scan_strings;
 use measure::Laid;
 use measure::flat_payload;
+use measure::function_payload;
 use measure::long_payload;
 use opcode::OpCode;
 use operands::scan_bytes;
@@ -78,7 +79,7 @@ pub fn scan_payload(b: &[u8], op: u8, at: usize, pos: BytePosition, over: &mut [
         OpCode::SET_TARGET => long_payload(scan_string(b, p, w), w, 0, over),
         OpCode::GOTO_LABEL => long_payload(scan_string(b, p, w), w, 0, over),
         OpCode::WAIT_FOR_FRAME2 => flat_payload(scan_bytes(b, p, 1, byte)),
-        OpCode::DEFINE_FUNCTION2 => long_payload(scan_define_function_2(b, p, w), w, 1, over),
+        OpCode::DEFINE_FUNCTION2 => function_payload(scan_define_function_2(b, p, w), w, over),
         OpCode::TRY => scan_try(b, p, w, over),
         OpCode::WITH => Laid::Bodies(p, word, 1),
         OpCode::PUSH => long_payload(
@@ -89,7 +90,7 @@ pub fn scan_payload(b: &[u8], op: u8, at: usize, pos: BytePosition, over: &mut [
         ),
         OpCode::JUMP => scan_branch(b, p, w),
         OpCode::GET_URL2 => flat_payload(scan_get_url_2(b, p, w)),
-        OpCode::DEFINE_FUNCTION => long_payload(scan_define_function(b, p, w), w, 1, over),
+        OpCode::DEFINE_FUNCTION => function_payload(scan_define_function(b, p, w), w, over),
         OpCode::IF => scan_branch(b, p, w),
         OpCode::CALL => Laid::Flat(p, BytePosition(w.0 + OpCode::CALL_LEN)),
         OpCode::GOTO_FRAME2 => flat_payload(scan_goto_frame_2(b, p, w)),

@@ -1,17 +1,11 @@
 -- The labels of a tree's branches, among its events: under the bound if the tree's are. Assumes nothing.
-use mathlib.Core.Path.{_≡_, ap}
-use Prim.Native.Nat.{ℕ, _+_, _<_}
+use Prim.Native.Nat.{ℕ, _<_}
 use mathlib.Core.Bool.{Bool, true, false}
-use mathlib.Core.Option.{Option}
 use mathlib.Core.List.{List, [], _∷_, _++_}
-use lib.ListN.{length}
 use lib.Dec.{ltb, eqb}
-use Rattle.layout.specs.Answers.{Refusal}
 use Rattle.layout.specs.Tree.{ActionIndex, firstAction, nextAction, Entry, entry, Action, flat, branch, owner, Try, ActionList, empty, more, Actions, body, Catch, noCatch, catch, Finally, noFinally, finally}
-use Rattle.layout.specs.Payload.{ownerFields, catchName}
-use Rattle.layout.specs.Write.{size, bodySize, catchSize, Position, moved, Event, labelAt, payloadTooLong, bodyTooLong, eventIf, payloadTest, bodyTest, labelsAt, trace, traces, traceBody, traceCatch, traceFinally}
-use Rattle.layout.specs.Judge.{firstRefused}
-use Rattle.laws.specs.Branches.{EachBranch, each-append, each-then, refused-same}
+use Rattle.layout.specs.Write.{Position, toBody, toTry, toCatch, toFinally, past, Event, labelAt, payloadTooLong, bodyTooLong, eventIf, payloadTest, bodyTest, labelsAt, trace, traces, traceBody, traceCatch, traceFinally}
+use Rattle.laws.specs.Branches.{EachBranch, each-append}
 use Rattle.pcode.proofs.Trees.{Under, UnderActions, UnderBody, UnderCatch, UnderFinally}
 
 module _ (n : ℕ) where
@@ -49,25 +43,24 @@ module _ (n : ℕ) where
 
   -- Those of a tree whose labels are under the bound.
   mutual
-    unfolding trace moved
+    unfolding trace
 
     action-under : (a : Action) (s : Position) → Under n a → BranchesUnder (trace a s)
     action-under (flat f) s u = payload-under _ s
     action-under (branch k l) s u = (u, tt)
     action-under (owner o b) s u =
-        both (payloadTest _ s) _ (payload-under _ s) (both (traceBody b _) _ (body-under b (moved (5 + length (ownerFields o)) s) u) (length-under _ s))
+        both (payloadTest _ s) _ (payload-under _ s) (both (traceBody b _) _ (body-under b (toBody o s) u) (length-under _ s))
     action-under (Try b c f) s u =
-        let t : Position = moved (10 + length (catchName c)) s in
         both (payloadTest _ s) _ (payload-under _ s)
-        (both (traceBody b t) _ (body-under b t (u .0))
-        (both (traceCatch c (moved (bodySize b) t)) _ (catch-under c (moved (bodySize b) t) (u .1))
-        (both (traceFinally f (moved (bodySize b + catchSize c) t)) _ (finally-under f (moved (bodySize b + catchSize c) t) (u .2))
+        (both (traceBody b (toTry c s)) _ (body-under b (toTry c s) (u .0))
+        (both (traceCatch c (toCatch b c s)) _ (catch-under c (toCatch b c s) (u .1))
+        (both (traceFinally f (toFinally b c s)) _ (finally-under f (toFinally b c s) (u .2))
         (both (bodyTest _ s) _ (length-under _ s) (both (bodyTest _ s) _ (length-under _ s) (length-under _ s))))))
 
     actions-under : (xs : ActionList) (es : List Entry) (i : ActionIndex) (s : Position) → UnderActions n xs → BranchesUnder (traces xs es i s)
     actions-under empty es i s u = labels-under es i s
     actions-under (more a xs) es i s u =
-        both (labelsAt es i s) _ (labels-under es i s) (both (trace a s) _ (action-under a s (u .0)) (actions-under xs es (nextAction i) (moved (size a) s) (u .1)))
+        both (labelsAt es i s) _ (labels-under es i s) (both (trace a s) _ (action-under a s (u .0)) (actions-under xs es (nextAction i) (past a s) (u .1)))
 
     pub body-under : (b : Actions) (s : Position) → UnderBody n b → BranchesUnder (traceBody b s)
     body-under (body es xs) s u = actions-under xs es firstAction s u
@@ -79,8 +72,3 @@ module _ (n : ℕ) where
     finally-under : (f : Finally) (s : Position) → UnderFinally n f → BranchesUnder (traceFinally f s)
     finally-under noFinally s u = tt
     finally-under (finally b) s u = body-under b s u
-
-  -- Final records that agree under the bound leave the same first branch that a rule refuses.
-  pub refused-under : (rule : Option Position → Position → Option Refusal) (f g : ℕ → Option Position) → ((l : ℕ) → l < n → f l ≡ g l) → (es : List Event) → BranchesUnder es
-      → firstRefused rule f es ≡ firstRefused rule g es
-  refused-under rule f g same es h = refused-same rule rule f g es (each-then (λ l s. l < n) _ (λ l s k. ap (λ (o : Option Position). rule o s) (same l k)) es h)

@@ -11,7 +11,7 @@ use Rattle.io.specs.Counts.{Counts}
 use Rattle.layout.specs.Lists.{pick}
 use Rattle.layout.specs.Numbers.{bits64}
 use Rattle.layout.specs.Order.{signed64}
-use Rattle.layout.specs.Answers.{CutShort, UnknownCode, BadField, TooDeep, LeftOver, Refusal, SheetTooLong, BadTrailer, ReadingFault, ActionLenOverflow, BlockLenOverflow, JumpOffsetOverflow, NoRoom, InputFull, Unclean, NeverRecorded, Answer, Done, Refused, Told, number, value, lengthOf, faultNumber, refusalNumber, refusalValue}
+use Rattle.layout.specs.Answers.{CutShort, UnknownCode, BadField, TooDeep, LeftOver, Refusal, SheetTooLong, BadTrailer, ReadingFault, ActionLenOverflow, BlockLenOverflow, JumpOffsetOverflow, NoRoom, InputFull, Unclean, NeverRecorded, StrayBranch, Answer, Done, Refused, Told, number, value, lengthOf, faultNumber, refusalNumber, refusalValue}
 use Rattle.layout.specs.Judge.{plainMode}
 use Rattle.layout.specs.Pack.{pack, output, Outcome}
 use Rattle.answer.proofs.Values.{natural-bits}
@@ -61,6 +61,7 @@ refused-number (NoRoom n) e = omega (arith, e)
 refused-number InputFull e = omega (arith, e)
 refused-number (Unclean p) e = omega (arith, e)
 refused-number (NeverRecorded p) e = omega (arith, e)
+refused-number (StrayBranch p) e = omega (arith, e)
 
 -- an input that fills, and one that does not
 answered-full : (input : List ℕ) → length input ≡ 65536 → Refused InputFull ≡ answered input

@@ -49,7 +49,14 @@ pub fn block_text(input: &[u8], out: &mut [u8], text: &mut [u8]) -> usize
     if input.len() == 65536 {
         return put_line(text, 12, 65536);
     }
-    let a = pack::pack(input, Mode { strict: false }, out);
+    let a = pack::pack(
+        input,
+        Mode {
+            strict: false,
+            contained: false,
+        },
+        out,
+    );
     let number = number_of(a);
     let bits = value_of(a);
     let p = put_line(text, number, bits);

@@ -2,7 +2,8 @@
 -- value v, and what the output holds afterwards. That any two calls on one m, s and o tell and leave the same is `same-outcome`, in
 -- layout's Order. Assumes nothing.
 use mathlib.Core.Path.{_≡_, refl, sym, ap, _∙_, subst}
-use mathlib.Core.Bool.{true}
+use mathlib.Core.Bool.{true, false}
+use mathlib.Core.Option.{none}
 use mathlib.Core.Logic.{_⊎_, inl, inr}
 use Prim.Native.Nat.{ℕ, _+_, _*_, _≤_, _<_}
 use native.Mathlib.Omega.{arith}
@@ -10,7 +11,7 @@ use mathlib.Core.List.{List, _++_}
 use lib.ListN.{length, take, drop, length-append, length-drop, take-append-drop}
 use lib.Seq.{take-at, drop-at}
 use lib.IntN.{ℤ, pos}
-use Rattle.layout.specs.Answers.{Fault, CutShort, UnknownCode, BadField, TooDeep, LeftOver, Refusal, SheetTooLong, BadTrailer, ReadingFault, ActionLenOverflow, BlockLenOverflow, JumpOffsetOverflow, NoRoom, InputFull, Unclean, NeverRecorded, Answer, Done, Refused, faultNumber, refusalNumber, refusalValue, number, value, lengthOf, Told}
+use Rattle.layout.specs.Answers.{Fault, CutShort, UnknownCode, BadField, TooDeep, LeftOver, Refusal, SheetTooLong, BadTrailer, ReadingFault, ActionLenOverflow, BlockLenOverflow, JumpOffsetOverflow, NoRoom, InputFull, Unclean, NeverRecorded, StrayBranch, Answer, Done, Refused, faultNumber, refusalNumber, refusalValue, number, value, lengthOf, Told}
 use Rattle.layout.specs.Tree.{Actions}
 use Rattle.layout.specs.Judge.{Mode, plainMode}
 use Rattle.layout.specs.Pack.{pack, output, Outcome, ReadsAs}
@@ -18,7 +19,8 @@ use Rattle.layout.specs.Order.{same-outcome}
 use Rattle.layout.specs.Lengths.{length-block}
 use Rattle.laws.specs.Meaning.{meaning}
 use Rattle.laws.specs.Fits.{Bytes}
-use Rattle.laws.specs.Modes.{never-recorded, AsPlain, same, besides, as-plain, done-plain, TreeRecorded, recorded-plain, done-recorded, FirstUnrecorded, unrecorded-first}
+use Rattle.laws.specs.Modes.{OfMode, never-recorded, stray-branch, asks, Stricter, than-plain, AsWeaker, same, besides, as-weaker, done-plain}
+use Rattle.laws.specs.Barred.{Stray, TreeRecorded, TreeContained, recorded-plain, done-recorded, done-contained, FirstWrong, unrecorded-first, stray-first}
 use Rattle.laws.specs.Packed.{Written, refused-done, Packed, is-packed, sheetDistance}
 use Rattle.laws.specs.Demands.{same-meaning, length-done, noteLength, same-note, same-note-output}
 use Rattle.agreement.specs.Source.{ActionEncoder, Result, ok, err, encode}
@@ -26,7 +28,7 @@ use Rattle.agreement.specs.SourceAgrees.{Agrees, in-room, no-room, overflowed, 
 use Rattle.agreement.specs.Published.{Block, asWritten, asPublished, BodyUndisputed}
 use Rattle.agreement.specs.PublishedFollows.{follows-published, no-other-difference}
 
--- ---- 0 is Done's number alone, and 14 NeverRecorded's
+-- ---- 0 is Done's number alone, and 14 and 15 are those that a mode adds
 
 -- "3 to 7"
 fault-number : (f : Fault) → (3 ≤ faultNumber f) × (faultNumber f ≤ 7)
@@ -49,19 +51,21 @@ refusal-over (NoRoom n) = omega arith
 refusal-over InputFull = omega arith
 refusal-over (Unclean p) = omega arith
 refusal-over (NeverRecorded p) = omega arith
+refusal-over (StrayBranch p) = omega arith
 
-refusal-14 : (r : Refusal) → 14 ≡ refusalNumber r → (p : ℕ) × (r ≡ NeverRecorded p)
+refusal-own : (r : Refusal) → 14 ≤ refusalNumber r → OfMode r
 unfolding refusalNumber
-refusal-14 (NeverRecorded p) e = (p, refl)
-refusal-14 (SheetTooLong n) e = absurd (omega (arith, e))
-refusal-14 BadTrailer e = absurd (omega (arith, e))
-refusal-14 (ReadingFault f p) e = absurd (omega (arith, e, fault-number f .1))
-refusal-14 (ActionLenOverflow n) e = absurd (omega (arith, e))
-refusal-14 (BlockLenOverflow n) e = absurd (omega (arith, e))
-refusal-14 (JumpOffsetOverflow z) e = absurd (omega (arith, e))
-refusal-14 (NoRoom n) e = absurd (omega (arith, e))
-refusal-14 InputFull e = absurd (omega (arith, e))
-refusal-14 (Unclean p) e = absurd (omega (arith, e))
+refusal-own (NeverRecorded p) h = never-recorded
+refusal-own (StrayBranch p) h = stray-branch
+refusal-own (SheetTooLong n) h = absurd (omega (arith, h))
+refusal-own BadTrailer h = absurd (omega (arith, h))
+refusal-own (ReadingFault f p) h = absurd (omega (arith, h, fault-number f .1))
+refusal-own (ActionLenOverflow n) h = absurd (omega (arith, h))
+refusal-own (BlockLenOverflow n) h = absurd (omega (arith, h))
+refusal-own (JumpOffsetOverflow z) h = absurd (omega (arith, h))
+refusal-own (NoRoom n) h = absurd (omega (arith, h))
+refusal-own InputFull h = absurd (omega (arith, h))
+refusal-own (Unclean p) h = absurd (omega (arith, h))
 
 -- ---- a call that answers 0 with value k, which is `Outcome m s o 0 (pos k) after`
 
@@ -143,43 +147,97 @@ same-block-meaning m m′ s s′ o o′ k k′ after after′ t t′ small small
 
 -- ---- the mode
 
--- "All else is as in plain mode, a Done's bytes too": a call in any mode answers 14, or tells and leaves what a call in plain mode
--- does on the same sheet and output
-pub as-in-plain : (m : Mode) (s o : List ℕ) (n n′ : ℕ) (v v′ : ℤ) (after after′ : List ℕ) → Outcome m s o n v after → Outcome plainMode s o n′ v′ after′
-    → (n ≡ 14) ⊎ ((n ≡ n′) × (v ≡ v′) × (after ≡ after′))
-unfolding number refusalNumber
-as-in-plain m s o n n′ v v′ after after′ h h′ = go (as-plain m s (length o)) (h .told) (h .holds)
-  where
-    go : {a : Answer (List ℕ)} → AsPlain (pack plainMode s (length o)) a → Told lengthOf a n v → after ≡ output a o → (n ≡ 14) ⊎ ((n ≡ n′) × (v ≡ v′) × (after ≡ after′))
-    go same t e = inr (same-outcome (record { told = t; holds = e }) h′)
-    go (besides never-recorded) t e = inl (t .is-number)
+-- 14 or 15, where the mode m asks for it and m′ does not
+pub data AddedNumber (m m′ : Mode) : ℕ → Type 0 where
+  is-14 : m .strict ≡ true → m′ .strict ≡ false → AddedNumber m m′ 14
+  is-15 : m .contained ≡ true → m′ .contained ≡ false → AddedNumber m m′ 15
 
--- where the label of every branch is recorded, every mode tells and leaves what plain mode does
-pub as-if-recorded : (m : Mode) (s o : List ℕ) (t : Actions) (n n′ : ℕ) (v v′ : ℤ) (after after′ : List ℕ) → ReadsAs s t → TreeRecorded t
+-- a call in a mode answers such a number, or tells and leaves what a call in a weaker mode does on the same sheet and output
+pub as-in-weaker : (m m′ : Mode) → Stricter m m′ → (s o : List ℕ) (n n′ : ℕ) (v v′ : ℤ) (after after′ : List ℕ) → Outcome m s o n v after → Outcome m′ s o n′ v′ after′
+    → AddedNumber m m′ n ⊎ ((n ≡ n′) × (v ≡ v′) × (after ≡ after′))
+unfolding number refusalNumber
+as-in-weaker m m′ w s o n n′ v v′ after after′ h h′ = go (as-weaker m m′ w s (length o)) (h .told) (h .holds)
+  where
+    number-of : {r : Refusal} (k : OfMode r) → asks m k ≡ true → asks m′ k ≡ false → n ≡ refusalNumber r → AddedNumber m m′ n
+    number-of never-recorded e f i = rw i (is-14 e f)
+    number-of stray-branch e f i = rw i (is-15 e f)
+
+    go : {a : Answer (List ℕ)} → AsWeaker m m′ (pack m′ s (length o)) a → Told lengthOf a n v → after ≡ output a o → AddedNumber m m′ n ⊎ ((n ≡ n′) × (v ≡ v′) × (after ≡ after′))
+    go same t e = inr (same-outcome (record { told = t; holds = e }) h′)
+    go (besides a) t e = inl (number-of (a .of-mode) (a .is-asked) (a .is-unasked) (t .is-number))
+
+-- "All else is as in plain mode, a Done's bytes too"
+pub as-in-plain : (m : Mode) (s o : List ℕ) (n n′ : ℕ) (v v′ : ℤ) (after after′ : List ℕ) → Outcome m s o n v after → Outcome plainMode s o n′ v′ after′
+    → AddedNumber m plainMode n ⊎ ((n ≡ n′) × (v ≡ v′) × (after ≡ after′))
+as-in-plain m s o n n′ v v′ after after′ h h′ = as-in-weaker m plainMode (than-plain m) s o n n′ v v′ after after′ h h′
+
+-- a call that answers 0 tells and leaves what a call in a weaker mode does: the same length and the same bytes
+pub done-in-weaker : (m m′ : Mode) → Stricter m m′ → (s o : List ℕ) (n′ : ℕ) (v v′ : ℤ) (after after′ : List ℕ) → Outcome m s o 0 v after → Outcome m′ s o n′ v′ after′
+    → (0 ≡ n′) × (v ≡ v′) × (after ≡ after′)
+done-in-weaker m m′ w s o n′ v v′ after after′ h h′ = go (as-in-weaker m m′ w s o 0 n′ v v′ after after′ h h′)
+  where
+    not-0 : {n : ℕ} → AddedNumber m m′ n → n ≡ 0 → ⊥
+    not-0 (is-14 a b) e = omega (arith, e)
+    not-0 (is-15 a b) e = omega (arith, e)
+
+    go : AddedNumber m m′ 0 ⊎ ((0 ≡ n′) × (v ≡ v′) × (after ≡ after′)) → (0 ≡ n′) × (v ≡ v′) × (after ≡ after′)
+    go (inl a) = absurd (not-0 a refl)
+    go (inr e) = e
+
+-- where the label of every branch is recorded, and in the branch's own function body, every mode tells and leaves what plain mode does
+pub as-if-recorded : (m : Mode) (s o : List ℕ) (t : Actions) (n n′ : ℕ) (v v′ : ℤ) (after after′ : List ℕ) → ReadsAs s t → TreeRecorded t → TreeContained t
     → Outcome m s o n v after → Outcome plainMode s o n′ v′ after′ → (n ≡ n′) × (v ≡ v′) × (after ≡ after′)
-as-if-recorded m s o t n n′ v v′ after after′ r e h h′ =
-    let p = recorded-plain m s t (length o) r e in
+as-if-recorded m s o t n n′ v v′ after after′ r e c h h′ =
+    let p = recorded-plain m s t (length o) r e c in
     same-outcome (record { told = subst (λ (a : Answer (List ℕ)). Told lengthOf a n v) p (h .told); holds = h .holds ∙ ap (λ (a : Answer (List ℕ)). output a o) p }) h′
 
 -- a call in strict mode that answers 0 was given no branch to a label without a record
 pub done-is-recorded : (m : Mode) → m .strict ≡ true → (s o : List ℕ) (t : Actions) (k : ℕ) (after : List ℕ) → ReadsAs s t → Outcome m s o 0 (pos k) after → TreeRecorded t
 done-is-recorded m strict s o t k after r h = done-recorded m strict s t (length o) (take k after) r (filled m s o k after h .packed)
 
+-- a call in a contained mode that answers 0 was given no branch to a label whose record is in another function body
+pub done-is-contained : (m : Mode) → m .contained ≡ true → (s o : List ℕ) (t : Actions) (k : ℕ) (after : List ℕ) → ReadsAs s t → Outcome m s o 0 (pos k) after → TreeContained t
+done-is-contained m contained s o t k after r h = done-contained m contained s t (length o) (take k after) r (filled m s o k after h .packed)
+
+-- a call that answers a number from 14 on refuses by what the mode adds, with its value
+own-answer : (m : Mode) (s o : List ℕ) (n : ℕ) (v : ℤ) (after : List ℕ) → 14 ≤ n → Outcome m s o n v after
+    → (x : Refusal) × OfMode x × (pack m s (length o) ≡ Refused x) × (n ≡ refusalNumber x) × (v ≡ refusalValue x)
+unfolding number value
+own-answer m s o n v after l h = go (pack m s (length o)) refl (h .told .is-number) (h .told .is-value)
+  where
+    go : (a : Answer (List ℕ)) → pack m s (length o) ≡ a → n ≡ number a → v ≡ value lengthOf a
+        → (x : Refusal) × OfMode x × (pack m s (length o) ≡ Refused x) × (n ≡ refusalNumber x) × (v ≡ refusalValue x)
+    go (Done q) e i j = absurd (omega (arith, i))
+    go (Refused x) e i j = (x, refusal-own x (omega (arith, i)), e, i, j)
+
 -- a call that answers 14 was made in strict mode, and its value is the position of the operand of the first branch to a label
 -- without a record
-pub answers-14 : (m : Mode) (s o : List ℕ) (t : Actions) (p : ℕ) (after : List ℕ) → ReadsAs s t → Outcome m s o 14 (pos p) after → (m .strict ≡ true) × FirstUnrecorded t p
-unfolding number value refusalValue
-answers-14 m s o t p after r h = go (pack m s (length o)) refl (h .told .is-number) (h .told .is-value)
+pub answers-14 : (m : Mode) (s o : List ℕ) (t : Actions) (p : ℕ) (after : List ℕ) → ReadsAs s t → Outcome m s o 14 (pos p) after
+    → (m .strict ≡ true) × FirstWrong (λ o s. o ≡ none) m t p
+unfolding refusalNumber refusalValue
+answers-14 m s o t p after r h =
+    let a = own-answer m s o 14 (pos p) after (omega arith) h in
+    go (a .1) (a .2) (a .3) (a .4)
   where
-    of-refusal : (x : Refusal) → pack m s (length o) ≡ Refused x → pos p ≡ refusalValue x → (q : ℕ) → x ≡ NeverRecorded q → (m .strict ≡ true) × FirstUnrecorded t p
-    of-refusal x e v q i =
-        let k : pos p ≡ pos q = v ∙ ap refusalValue i in
+    go : {x : Refusal} → OfMode x → pack m s (length o) ≡ Refused x → 14 ≡ refusalNumber x → pos p ≡ refusalValue x → (m .strict ≡ true) × FirstWrong (λ o s. o ≡ none) m t p
+    go (never-recorded {p = q}) e n v =
         let same : q ≡ p = cc in
-        unrecorded-first m p s t (length o) r (e ∙ ap Refused (i ∙ ap NeverRecorded same))
+        unrecorded-first m p s t (length o) r (e ∙ ap (λ (i : ℕ). Refused (NeverRecorded i)) same)
+    go stray-branch e n v = absurd (omega (arith, n))
 
-    go : (a : Answer (List ℕ)) → pack m s (length o) ≡ a → 14 ≡ number a → pos p ≡ value lengthOf a → (m .strict ≡ true) × FirstUnrecorded t p
-    go (Done q) e n v = absurd (omega (arith, n))
-    go (Refused x) e n v = of-refusal x e v (refusal-14 x n .0) (refusal-14 x n .1)
+-- a call that answers 15 was made in a contained mode, and its value is the position of the operand of the first branch whose label
+-- is recorded in another function body
+pub answers-15 : (m : Mode) (s o : List ℕ) (t : Actions) (p : ℕ) (after : List ℕ) → ReadsAs s t → Outcome m s o 15 (pos p) after → (m .contained ≡ true) × FirstWrong Stray m t p
+unfolding refusalNumber refusalValue
+answers-15 m s o t p after r h =
+    let a = own-answer m s o 15 (pos p) after (omega arith) h in
+    go (a .1) (a .2) (a .3) (a .4)
+  where
+    go : {x : Refusal} → OfMode x → pack m s (length o) ≡ Refused x → 15 ≡ refusalNumber x → pos p ≡ refusalValue x → (m .contained ≡ true) × FirstWrong Stray m t p
+    go (stray-branch {p = q}) e n v =
+        let same : q ≡ p = cc in
+        stray-first m p s t (length o) r (e ∙ ap (λ (i : ℕ). Refused (StrayBranch i)) same)
+    go never-recorded e n v = absurd (omega (arith, n))
 
 -- ---- what a call leaves alone
 

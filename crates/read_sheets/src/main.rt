@@ -28,8 +28,9 @@ fn write_line(number: u64, value: usize) {
 
 fn answer(bytes: &[u8]) {
     let mut tab = [0; 1024];
+    let mut homes = [0; 0];
     let mut over = [0; 2];
-    match read_sheet(bytes, &mut tab, &mut over) {
+    match read_sheet(bytes, &mut tab, &mut homes, &mut over) {
         Reading::Whole(_, _, _) => write_line(0, 0),
         Reading::SheetTooLong(n) => write_line(1, n),
         Reading::BadTrailer => write_line(2, 0),

@@ -29,15 +29,15 @@ use Rattle.reading.specs.declared.Reading.the-variants as reading
 
 -- ---- the main body
 
-module _ (b tab over : List ℕ) (s : Scan) (m : MainScanned tab over (readMain edition1 b deepest) s) where
+module _ (b tab homes over : List ℕ) (s : Scan) (m : MainScanned tab homes over (readMain edition1 b deepest) s) where
   -- What the walk leaves of one that reads whole.
   pub main-whole : (start end q : ℕ) (w : BytePosition) → s ≡ scan.Ends q w → Bytes b → length b ≤ 1048576 → length over ≡ 2
-      → MainRead b start end tab over (reading.Whole start end w)
+      → MainRead b start end tab homes over (reading.Whole start end w)
   main-whole start end q w e small limited two = go (readMain edition1 b deepest) refl m e
     where
-      go : (x : Read (ActionsOf Text ℕ)) {r : Scan} → readMain edition1 b deepest ≡ x → MainScanned tab over x r → r ≡ scan.Ends q w
-          → MainRead b start end tab over (reading.Whole start end w)
-      go (got t p) k (whole {w = v} i h l) e =
+      go : (x : Read (ActionsOf Text ℕ)) {r : Scan} → readMain edition1 b deepest ≡ x → MainScanned tab homes over x r → r ≡ scan.Ends q w
+          → MainRead b start end tab homes over (reading.Whole start end w)
+      go (got t p) k (whole {w = v} i h d l) e =
           let j : v ≡ w = cc in
           MainRead.whole (record {
             measured = record {
@@ -48,6 +48,7 @@ module _ (b tab over : List ℕ) (s : Scan) (m : MainScanned tab over (readMain 
               holds = h;
               limited = limited;
             };
+            homed = d;
             two = two;
             long = l;
           })
@@ -56,12 +57,12 @@ module _ (b tab over : List ℕ) (s : Scan) (m : MainScanned tab over (readMain 
           absurd (omega arith)
 
   -- And of one that does not: the fault, at its place in the sheet.
-  pub main-stops : (start end : ℕ) (f : Fault) (p : ℕ) → s ≡ scan.Stops f p → MainRead b start end tab over (reading.Stops f (start + p))
+  pub main-stops : (start end : ℕ) (f : Fault) (p : ℕ) → s ≡ scan.Stops f p → MainRead b start end tab homes over (reading.Stops f (start + p))
   unfolding said faultIn
   main-stops start end f p e = MainRead.refused {x = ReadingFault (meant f) (start + p)} refl (go m e)
     where
-      go : {x : Read (ActionsOf Text ℕ)} {r : Scan} → MainScanned tab over x r → r ≡ scan.Stops f p → faultIn start x ≡ some (ReadingFault (meant f) (start + p))
-      go (whole i h l) e =
+      go : {x : Read (ActionsOf Text ℕ)} {r : Scan} → MainScanned tab homes over x r → r ≡ scan.Stops f p → faultIn start x ≡ some (ReadingFault (meant f) (start + p))
+      go (whole i h d l) e =
           let z : _≡_ {A = ℕ} 0 1 = cc in
           absurd (omega arith)
       go (stopped {f = g} {p = q}) e =
@@ -71,17 +72,17 @@ module _ (b tab over : List ℕ) (s : Scan) (m : MainScanned tab over (readMain 
 
 -- ---- the sheet
 
-module _ (s tab over : List ℕ) (c : CutMain) (e : cuts.said s c ≡ cut s) where
-  pub cut-long : (n : ℕ) → c ≡ cutMain.SheetTooLong n → SheetRead s tab over (reading.SheetTooLong n)
+module _ (s tab homes over : List ℕ) (c : CutMain) (e : cuts.said s c ≡ cut s) where
+  pub cut-long : (n : ℕ) → c ≡ cutMain.SheetTooLong n → SheetRead s tab homes over (reading.SheetTooLong n)
   unfolding said readSheet faultOfCut cuts.said
   cut-long n k = SheetRead.refused {x = SheetTooLong n} refl (rw (← e, k))
 
-  pub cut-bad : c ≡ cutMain.BadTrailer → SheetRead s tab over reading.BadTrailer
+  pub cut-bad : c ≡ cutMain.BadTrailer → SheetRead s tab homes over reading.BadTrailer
   unfolding said readSheet faultOfCut cuts.said
   cut-bad k = SheetRead.refused {x = BadTrailer} refl (rw (← e, k))
 
   pub cut-main : (start end : ℕ) → c ≡ cutMain.Main start end → cuts.Within s c → (r : Reading)
-      → MainRead (take (end - start) (drop start s)) start end tab over r → SheetRead s tab over r
+      → MainRead (take (end - start) (drop start s)) start end tab homes over r → SheetRead s tab homes over r
   unfolding readSheet faultOfCut
   cut-main start end k w r (MainRead.whole m) = SheetRead.whole (cut-within s c e start end k w .0) (cut-within s c e start end k w .1) (is-cut s c e start end k) m
   cut-main start end k w r (MainRead.refused h i) = SheetRead.refused h (rw (is-cut s c e start end k) i)

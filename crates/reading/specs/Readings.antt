@@ -41,15 +41,15 @@ said (reading.Stops f p) = some (ReadingFault (meant f) p)
 
 -- the answer to a main body that lies from `start` to `end` in its sheet, with what is left in the table and the two numbers where
 -- it reads whole
-pub data MainRead (b : List ℕ) (start end : ℕ) (tab over : List ℕ) : Reading → Type 0 where
-  whole : {w : BytePosition} → MainWhole b w tab over → MainRead b start end tab over (reading.Whole start end w)
-  refused : {r : Reading} {x : Refusal} → said r ≡ some x → faultIn start (readMain edition1 b deepest) ≡ some x → MainRead b start end tab over r
+pub data MainRead (b : List ℕ) (start end : ℕ) (tab homes over : List ℕ) : Reading → Type 0 where
+  whole : {w : BytePosition} → MainWhole b w tab homes over → MainRead b start end tab homes over (reading.Whole start end w)
+  refused : {r : Reading} {x : Refusal} → said r ≡ some x → faultIn start (readMain edition1 b deepest) ≡ some x → MainRead b start end tab homes over r
 
 -- the answer to a sheet
-pub data SheetRead (s tab over : List ℕ) : Reading → Type 0 where
+pub data SheetRead (s tab homes over : List ℕ) : Reading → Type 0 where
   whole : {start end : ℕ} {w : BytePosition} → start ≤ end → end ≤ length s → cut s ≡ main start (take (end - start) (drop start s))
-      → MainWhole (take (end - start) (drop start s)) w tab over → SheetRead s tab over (reading.Whole start end w)
-  refused : {r : Reading} {x : Refusal} → said r ≡ some x → readSheet s ≡ some x → SheetRead s tab over r
+      → MainWhole (take (end - start) (drop start s)) w tab homes over → SheetRead s tab homes over (reading.Whole start end w)
+  refused : {r : Reading} {x : Refusal} → said r ≡ some x → readSheet s ≡ some x → SheetRead s tab homes over r
 
 -- ---- a sheet that is refused here is refused so by the packer, whatever its mode and room
 

@@ -20,11 +20,18 @@ pub enum Reading {
 }
 
 // The main body, which lies from `start` to `end` in the sheet.
-fn read_main(b: &[u8], start: usize, end: usize, tab: &mut [usize], over: &mut [usize]) -> Reading
+fn read_main(
+    b: &[u8],
+    start: usize,
+    end: usize,
+    tab: &mut [usize],
+    homes: &mut [usize],
+    over: &mut [usize],
+) -> Reading
     requires { ⌜ (length (now b) ≤ 1048576) × (start ≤ 1048576) × Empty (now tab) (now over) ⌝ }
-    ensures { λ r. ⌜ MainRead (now (b .entry)) start end (now (tab .exit)) (now (over .exit)) r ⌝ }
+    ensures { λ r. ⌜ MainRead (now (b .entry)) start end (now (tab .exit)) (now (homes .exit)) (now (over .exit)) r ⌝ }
 {
-    match scan_main(b, tab, over) {
+    match scan_main(b, tab, homes, over) {
         Scan::Stops(f, p) => {
             let place = start + p;
             Reading::Stops(f, place)
@@ -33,14 +40,20 @@ fn read_main(b: &[u8], start: usize, end: usize, tab: &mut [usize], over: &mut [
     }
 }
 
-// Reads a sheet. The label table and the two numbers for the first of 8 and 9 are lent empty.
-pub fn read_sheet(sheet: &[u8], tab: &mut [usize], over: &mut [usize]) -> Reading
+// Reads a sheet. The label table and the two numbers for the first of 8 and 9 are lent empty; of the homes as many are kept as are
+// lent.
+pub fn read_sheet(
+    sheet: &[u8],
+    tab: &mut [usize],
+    homes: &mut [usize],
+    over: &mut [usize],
+) -> Reading
     requires { ⌜ Empty (now tab) (now over) ⌝ }
-    ensures { λ r. ⌜ SheetRead (now (sheet .entry)) (now (tab .exit)) (now (over .exit)) r ⌝ }
+    ensures { λ r. ⌜ SheetRead (now (sheet .entry)) (now (tab .exit)) (now (homes .exit)) (now (over .exit)) r ⌝ }
 {
     match cut_main(sheet) {
         CutMain::SheetTooLong(n) => Reading::SheetTooLong(n),
         CutMain::BadTrailer => Reading::BadTrailer,
-        CutMain::Main(start, end) => read_main(&sheet[start..end], start, end, tab, over),
+        CutMain::Main(start, end) => read_main(&sheet[start..end], start, end, tab, homes, over),
     }
 }

@@ -73,7 +73,7 @@ fn agrees(
 }
 
 // Whether packing the sheet gives what the head of a record says, and this block. 64 bytes behind the room are looked at too. The
-// mode is 0, plain, or 1, strict.
+// mode is 0 to 3: 1 more if it is strict, 2 more if it is contained.
 fn replay_sheet(head: &[u8], sheet: &[u8], block: &[u8], out: &mut [u8]) -> bool
     requires { ⌜ 22 ≤ length (now head) ⌝ }
 {
@@ -84,12 +84,15 @@ fn replay_sheet(head: &[u8], sheet: &[u8], block: &[u8], out: &mut [u8]) -> bool
     if out.len() < room + 64 {
         return false;
     }
-    if 1 < mode {
+    if 3 < mode {
         return false;
     }
     agrees(
         sheet,
-        Mode { strict: mode == 1 },
+        Mode {
+            strict: mode % 2 == 1,
+            contained: 2 <= mode,
+        },
         room,
         number,
         value,
@@ -117,11 +120,11 @@ fn record_length(input: &[u8]) -> usize
     22 + u32_at(input, 0) as usize + u32_at(input, 4) as usize
 }
 
-// ---- counts: 0 to 14 are those of the numbers, 15 that of the answers that differ, 16 the first of these, counted from 1
+// ---- counts: 0 to 15 are those of the numbers, 16 that of the answers that differ, 17 the first of these, counted from 1
 
 // One more of a kind.
-fn bump(counts: &mut [usize; 17], kind: usize) {
-    if 17 <= kind {
+fn bump(counts: &mut [usize; 18], kind: usize) {
+    if 18 <= kind {
         return;
     }
     if counts[kind] < 4294967295 {
@@ -130,19 +133,19 @@ fn bump(counts: &mut [usize; 17], kind: usize) {
 }
 
 // Keeps the first answer that differs.
-fn note_first(counts: &mut [usize; 17], record: usize) {
-    if counts[16] == 0 {
-        counts[16] = record;
+fn note_first(counts: &mut [usize; 18], record: usize) {
+    if counts[17] == 0 {
+        counts[17] = record;
     }
 }
 
 // Counts an answer by its number, and one that differs.
-fn count(counts: &mut [usize; 17], number: u8, agree: bool, record: usize) {
+fn count(counts: &mut [usize; 18], number: u8, agree: bool, record: usize) {
     bump(counts, number as usize);
     if agree {
         return;
     }
-    bump(counts, 15);
+    bump(counts, 16);
     note_first(counts, record);
 }
 
@@ -167,13 +170,13 @@ fn write_differ(n: usize, first: usize) {
 }
 
 // A line for each number that was met, and one for the answers that differ.
-fn write_counts(counts: &[usize; 17]) {
+fn write_counts(counts: &[usize; 18]) {
     let mut i = 0;
-    while i < 15 {
+    while i < 16 {
         write_count(i, counts[i]);
         i += 1;
     }
-    write_differ(counts[15], counts[16]);
+    write_differ(counts[16], counts[17]);
 }
 
 // ---- the list
@@ -190,7 +193,7 @@ fn replay_all(
     sheet: &mut [u8],
     block: &mut [u8],
     out: &mut [u8],
-    counts: &mut [usize; 17],
+    counts: &mut [usize; 18],
 ) {
     let mut p = 0;
     let mut record = 0;
@@ -207,8 +210,13 @@ fn replay_all(
     }
 }
 
-// The three spaces are not in `main`, which has one for the input.
-fn replay_list(input: &[u8], counts: &mut [usize; 17]) {
+// For the list itself.
+fn list_space() -> [u8; 2097152] {
+    [0; 2097152]
+}
+
+// The three spaces are not in `main`, which has one for the list.
+fn replay_list(input: &[u8], counts: &mut [usize; 18]) {
     let mut sheet = space();
     let mut block = space();
     let mut out = space();
@@ -216,8 +224,8 @@ fn replay_list(input: &[u8], counts: &mut [usize; 17]) {
 }
 
 fn main() {
-    let mut input = space();
-    let mut counts = [0; 17];
+    let mut input = list_space();
+    let mut counts = [0; 18];
     let n = io::read_full(STDIN_FILENO, &mut input);
     replay_list(&input[..n], &mut counts);
     write_counts(&counts);

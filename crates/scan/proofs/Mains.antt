@@ -12,14 +12,14 @@ use Rattle.layout.specs.Answers.{refusalNumber, refusalValue, LeftOver}
 use Rattle.layout.specs.Answers as answers
 use Rattle.layout.specs.Tree.{ActionsOf}
 use Rattle.layout.specs.Read.{Text, edition1, deepest, Place, placed, Read, got, bad, ifNothingLeft, readBody, readMain}
-use Rattle.layout.specs.Write.{Event, labelAt, branchAt, payloadTooLong, bodyTooLong, events}
+use Rattle.layout.specs.Write.{blockStart, Event, labelAt, branchAt, payloadTooLong, bodyTooLong, events}
 use Rattle.layout.specs.Judge.{tooLong}
 use Rattle.layout.specs.Pack.{spelling}
 use Rattle.laws.specs.Fits.{Bytes}
 use Rattle.laws.specs.ReadFits.{good-got, good-bad, body-good, main-good}
 use Rattle.laws.specs.Packed.{spells}
-use Rattle.labels.specs.Table.{recordAll}
-use Rattle.labels.proofs.Labels.{length-recordAll, table-holds}
+use Rattle.labels.specs.Table.{slotOf, homeOf, recordAll, tables, recorded}
+use Rattle.labels.proofs.Labels.{length-recordAll, table-holds, homes-hold}
 use Rattle.positions.specs.declared.BytePosition.{BytePosition}
 use Rattle.positions.specs.declared.Scan.{Scan}
 use Rattle.positions.specs.declared.Scan.the-variants as scan
@@ -75,57 +75,59 @@ lent-zeros = record { full = length-replicate {A = ℕ} 1024 0; zeros = λ l h. 
 
 -- ---- what scan_main answers
 
-module _ (b tab over : List ℕ) (small : Bytes b) (e : Empty tab over) where
-  pub ready : length b ≤ 1048576 → Ready b 0 (record { 0 = 0 }) tab over
-  ready h = record { roomy = record { bytes = small; inside = omega arith; room = omega arith }; full = e .full; two = e .two }
+pub ready : (b tab over : List ℕ) → Bytes b → Empty tab over → length b ≤ 1048576 → Ready b 0 (record { 0 = 0 }) tab over
+ready b tab over small e h = record { roomy = record { bytes = small; inside = omega arith; room = omega arith }; full = e .full; two = e .two }
 
-  module _ (r : Scan) (tab′ over′ : List ℕ) (o : Ran (outcome bodyLength bodyEvents 0 (state tab over) (readBody edition1 b 16 (placed 0))) r (state tab′ over′)) where
-    pub main-stops : (f : Fault) (p : ℕ) → r ≡ scan.Stops f p → MainScanned tab′ over′ (readMain edition1 b deepest) (scan.Stops f p)
+module _ (b tab homes over : List ℕ) (small : Bytes b) (e : Empty tab over) where
+  module _ (r : Scan) (tab′ homes′ over′ : List ℕ)
+      (o : Ran (outcome bodyLength bodyEvents blockStart (state (tables tab homes) over) (readBody edition1 b 16 (placed 0))) r (state (tables tab′ homes′) over′)) where
+    pub main-stops : (f : Fault) (p : ℕ) → r ≡ scan.Stops f p → MainScanned tab′ homes′ over′ (readMain edition1 b deepest) (scan.Stops f p)
     unfolding readMain outcome
     main-stops f p k = go (readBody edition1 b 16 (placed 0)) refl (ran-bad o k)
       where
-        fault-is : (g : answers.Fault) (q : Place) → fault (faultOf g) (q .at) ≡ fault f p → readBody edition1 b 16 (placed 0) ≡ bad g q → MainScanned tab′ over′ (readMain edition1 b deepest) (scan.Stops f p)
+        fault-is : (g : answers.Fault) (q : Place) → fault (faultOf g) (q .at) ≡ fault f p → readBody edition1 b 16 (placed 0) ≡ bad g q → MainScanned tab′ homes′ over′ (readMain edition1 b deepest) (scan.Stops f p)
         fault-is g q z x =
             let y : scan.Stops f p ≡ scan.Stops (faultOf g) (q .at) = cc in
             rw (x, y) stopped
 
-        go : (x : Read (ActionsOf Text ℕ)) → readBody edition1 b 16 (placed 0) ≡ x → outcome bodyLength bodyEvents 0 (state tab over) x ≡ fault f p → MainScanned tab′ over′ (readMain edition1 b deepest) (scan.Stops f p)
+        go : (x : Read (ActionsOf Text ℕ)) → readBody edition1 b 16 (placed 0) ≡ x → outcome bodyLength bodyEvents blockStart (state (tables tab homes) over) x ≡ fault f p → MainScanned tab′ homes′ over′ (readMain edition1 b deepest) (scan.Stops f p)
         go (got t q) x z =
             let y : _≡_ {A = ℕ} 0 1 = cc in
             absurd (omega arith)
         go (bad g q) x z = fault-is g q z x
 
     module _ (q : ℕ) (w : BytePosition) (k : r ≡ scan.Ends q w) where
-      pub main-left : q < length b → MainScanned tab′ over′ (readMain edition1 b deepest) (scan.Stops (faultOf LeftOver) q)
+      pub main-left : q < length b → MainScanned tab′ homes′ over′ (readMain edition1 b deepest) (scan.Stops (faultOf LeftOver) q)
       unfolding readMain ifNothingLeft
-      main-left h = let z = outcome-is bodyLength bodyEvents 0 _ (readBody edition1 b 16 (placed 0)) (ran-is o k) in go (z .0) (z .1)
+      main-left h = let z = outcome-is bodyLength bodyEvents blockStart _ (readBody edition1 b 16 (placed 0)) (ran-is o k) in go (z .0) (z .1)
         where
-          go : (t : ActionsOf Text ℕ) → readBody edition1 b 16 (placed 0) ≡ got t (placed q) → MainScanned tab′ over′ (readMain edition1 b deepest) (scan.Stops (faultOf LeftOver) q)
+          go : (t : ActionsOf Text ℕ) → readBody edition1 b 16 (placed 0) ≡ got t (placed q) → MainScanned tab′ homes′ over′ (readMain edition1 b deepest) (scan.Stops (faultOf LeftOver) q)
           go t x = rw (x, ne-eqb q (length b) (λ z. omega arith)) stopped
 
-      pub main-whole : length b ≤ q → MainScanned tab′ over′ (readMain edition1 b deepest) (scan.Ends q w)
-      unfolding readMain ifNothingLeft run events
-      main-whole h = let z = outcome-is bodyLength bodyEvents 0 _ (readBody edition1 b 16 (placed 0)) (ran-is o k) in go (z .0) (z .1) (z .2) (z .3)
+      pub main-whole : length b ≤ q → MainScanned tab′ homes′ over′ (readMain edition1 b deepest) (scan.Ends q w)
+      unfolding readMain ifNothingLeft run recorded events
+      main-whole h = let z = outcome-is bodyLength bodyEvents blockStart _ (readBody edition1 b 16 (placed 0)) (ran-is o k) in go (z .0) (z .1) (z .2) (z .3)
         where
-          go : (t : ActionsOf Text ℕ) → readBody edition1 b 16 (placed 0) ≡ got t (placed q) → w .0 ≡ 0 + bodyLength t → state tab′ over′ ≡ run (bodyEvents t 0) (state tab over)
-              → MainScanned tab′ over′ (readMain edition1 b deepest) (scan.Ends q w)
+          go : (t : ActionsOf Text ℕ) → readBody edition1 b 16 (placed 0) ≡ got t (placed q) → w .0 ≡ 0 + bodyLength t → state (tables tab′ homes′) over′ ≡ run (bodyEvents t blockStart) (state (tables tab homes) over)
+              → MainScanned tab′ homes′ over′ (readMain edition1 b deepest) (scan.Ends q w)
           go t x y s =
               let g = good-got t (placed q) (body-good edition1 b small spelling (Unit {0}) (spells b small edition1) 16 (placed 0) (omega arith)) x in
-              let a : tab′ ≡ recordAll (bodyEvents t 0) tab = ap (λ (v : State). v .table) s in
-              let c : over′ ≡ noteAll (bodyEvents t 0) over = ap (λ (v : State). v .over) s in
+              let a : tab′ ≡ recordAll slotOf (bodyEvents t blockStart) tab = ap (λ (v : State). v .labels .positions) s in
+              let d : homes′ ≡ recordAll homeOf (bodyEvents t blockStart) homes = ap (λ (v : State). v .labels .homes) s in
+              let c : over′ ≡ noteAll (bodyEvents t blockStart) over = ap (λ (v : State). v .over) s in
               rw (x, eq-eqb q (length b) (omega (arith, g .1))) (whole {x = t} {p = placed q} {w = w} (omega arith)
               (record {
-                slots = ap length a ∙ length-recordAll (bodyEvents t 0) tab ∙ e .full;
-                holds = λ l i. ap (λ v. getD v l 0) a ∙ table-holds l (bodyEvents t 0) tab (omega (arith, e .full)) (e .zeros l i);
+                slots = ap length a ∙ length-recordAll slotOf (bodyEvents t blockStart) tab ∙ e .full;
+                holds = λ l i. ap (λ v. getD v l 0) a ∙ table-holds l (bodyEvents t blockStart) tab (omega (arith, e .full)) (e .zeros l i);
               })
-              (rw c (first-held (bodyEvents t 0) over (e .two) (e .nothing))))
+              (rw d (homes-hold (bodyEvents t blockStart) homes)) (rw c (first-held (bodyEvents t blockStart) over (e .two) (e .nothing))))
 
 -- the place of a fault lies in the main body
-pub main-place : (b tab over : List ℕ) (r : Scan) → Bytes b → MainScanned tab over (readMain edition1 b deepest) r → (f : Fault) (p : ℕ) → r ≡ scan.Stops f p → p ≤ length b
-main-place b tab over r small m f p e = go (readMain edition1 b deepest) refl m e
+pub main-place : (b tab homes over : List ℕ) (r : Scan) → Bytes b → MainScanned tab homes over (readMain edition1 b deepest) r → (f : Fault) (p : ℕ) → r ≡ scan.Stops f p → p ≤ length b
+main-place b tab homes over r small m f p e = go (readMain edition1 b deepest) refl m e
   where
-    go : (x : Read (ActionsOf Text ℕ)) {r : Scan} → readMain edition1 b deepest ≡ x → MainScanned tab over x r → r ≡ scan.Stops f p → p ≤ length b
-    go (got t q) k (whole u v w) e =
+    go : (x : Read (ActionsOf Text ℕ)) {r : Scan} → readMain edition1 b deepest ≡ x → MainScanned tab homes over x r → r ≡ scan.Stops f p → p ≤ length b
+    go (got t q) k (whole u v h w) e =
         let z : _≡_ {A = ℕ} 0 1 = cc in
         absurd (omega arith)
     go (bad g q) k stopped e =

@@ -13,7 +13,7 @@ use Rattle.layout.specs.Strings.{mapBody}
 use Rattle.layout.specs.Write.{events, bodySize}
 use Rattle.layout.specs.Judge.{tooLong}
 use Rattle.layout.specs.Pack.{spelling}
-use Rattle.labels.specs.Table.{TableHolds}
+use Rattle.labels.specs.Table.{TableHolds, HomesHold}
 use Rattle.labels.specs.Mains.{MainMeasured}
 use Rattle.positions.specs.declared.BytePosition.{BytePosition}
 use Rattle.positions.specs.Scanned.{faultOf}
@@ -33,13 +33,14 @@ Holds none over = (getD over 0 0 ≡ 0) × (getD over 1 0 ≡ 0)
 Holds (some r) over = (getD over 0 0 ≡ refusalNumber r) × (pos (getD over 1 0) ≡ refusalValue r)
 
 -- the answer to a main body: where it reads whole, its size, every label's final record, and the first of 8 and 9
-pub data MainScanned (tab over : List ℕ) : Read (ActionsOf Text ℕ) → Scan → Type 0 where
+pub data MainScanned (tab homes over : List ℕ) : Read (ActionsOf Text ℕ) → Scan → Type 0 where
   whole : {x : ActionsOf Text ℕ} {p : Place} {w : BytePosition} → w .0 ≡ bodySize (mapBody spelling x) → TableHolds 1024 tab (events (mapBody spelling x))
-      → Holds (tooLong (events (mapBody spelling x))) over → MainScanned tab over (got x p) (scan.Ends (p .at) w)
-  stopped : {f : answers.Fault} {p : Place} → MainScanned tab over (bad f p) (scan.Stops (faultOf f) (p .at))
+      → HomesHold homes (events (mapBody spelling x)) → Holds (tooLong (events (mapBody spelling x))) over → MainScanned tab homes over (got x p) (scan.Ends (p .at) w)
+  stopped : {f : answers.Fault} {p : Place} → MainScanned tab homes over (bad f p) (scan.Stops (faultOf f) (p .at))
 
 -- what such an answer leaves of a main body that reads whole: all that packing goes on with
-pub record MainWhole (b : List ℕ) (end : BytePosition) (tab over : List ℕ) : Type 0 where
+pub record MainWhole (b : List ℕ) (end : BytePosition) (tab homes over : List ℕ) : Type 0 where
   pub measured : MainMeasured b end tab
+  pub homed : HomesHold homes (events (measured .tree))
   pub two : length over ≡ 2
   pub long : Holds (tooLong (events (measured .tree))) over

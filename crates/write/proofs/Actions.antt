@@ -6,11 +6,11 @@ use mathlib.Core.Bool.{Bool, true, false}
 use mathlib.Core.List.{List, _++_}
 use lib.ListN.{length}
 use lib.Seq.{sets}
-use Rattle.layout.specs.Tree.{FlatOf, Branch, OwnerOf, CatchTargetOf, ActionOf, flat, branch, owner, Try, ActionsOf, CatchOf, noCatch, catch, FinallyOf, noFinally, finally}
+use Rattle.layout.specs.Tree.{FlatOf, Branch, Owner, OwnerOf, CatchTargetOf, ActionOf, flat, branch, owner, Try, Actions, ActionsOf, Catch, CatchOf, noCatch, catch, FinallyOf, noFinally, finally}
 use Rattle.layout.specs.Read.{Text, edition1, Place, placed, Reader, got, hasCatch, hasFinally, readCatch, readFinally, readAction}
-use Rattle.layout.specs.Strings.{mapAction, mapOwner, mapCatch, mapFinally}
+use Rattle.layout.specs.Strings.{mapAction, mapBody, mapOwner, mapCatch, mapFinally}
 use Rattle.layout.specs.Payload.{ownerFields, catchName}
-use Rattle.layout.specs.Write.{bytes, size, catchSize, position, moved, Event, payloadTest, bodyTest, trace, traceCatch, traceFinally, finallySize}
+use Rattle.layout.specs.Write.{bytes, size, catchSize, Position, position, moved, toBody, toTry, toCatch, toFinally, Event, payloadTest, bodyTest, trace, traceCatch, traceFinally, finallySize}
 use Rattle.layout.specs.Lengths.{length-bytes}
 use Rattle.layout.specs.Pack.{spelling}
 use Rattle.pcode.specs.Shown.{Shown, small, gotoFrame, getUrl, storeRegister, constantPool, waitForFrame, setTarget, gotoLabel, waitForFrame2, defineFunction2, try, with, push, jump, getUrl2, defineFunction, if, gotoFrame2, ShowsAction, ActionReads}
@@ -121,47 +121,52 @@ branch-long tab k n i = ap (λ (m : ℕ). i + m) (length-bytes (tableBits tab) (
 head-near : (tab : List ℕ) (x : ActionOf Text ℕ) (p : ℕ) → nearAction tab x p → NotFar tab x p
 unfolding mapAction trace
 head-near tab (flat f) p h = tt
-head-near tab (branch k l) p h = branch-near (recordAt tab) l (position p) h
+head-near tab (branch k l) p h = branch-near (recordAt tab) l (position p (h .home)) (h .none-far)
 head-near tab (owner o x) p h = tt
 head-near tab (Try x c f) p h = tt
 
 -- The branches of a catch are those of its body, if it is there.
-catch-near : (tab : List ℕ) (c : CatchOf Text ℕ) (p : ℕ) → NoneFar (recordAt tab) (traceCatch (mapCatch spelling c) (position p)) → nearIf tab (catchBody c) p
+catch-near : (tab : List ℕ) (c : CatchOf Text ℕ) (p home : ℕ) → NoneFar (recordAt tab) (traceCatch (mapCatch spelling c) (position p home)) → nearIf tab (catchBody c) p
 unfolding mapCatch traceCatch
-catch-near tab noCatch p h = tt
-catch-near tab (catch t x) p h = h
+catch-near tab noCatch p home h = tt
+catch-near tab (catch t x) p home h = record { home = home; none-far = h }
 
 -- So are those of a finally.
-finally-near : (tab : List ℕ) (f : FinallyOf Text ℕ) (p : ℕ) → NoneFar (recordAt tab) (traceFinally (mapFinally spelling f) (position p)) → nearIf tab (finallyBody f) p
+finally-near : (tab : List ℕ) (f : FinallyOf Text ℕ) (p home : ℕ) → NoneFar (recordAt tab) (traceFinally (mapFinally spelling f) (position p home)) → nearIf tab (finallyBody f) p
 unfolding mapFinally traceFinally
-finally-near tab noFinally p h = tt
-finally-near tab (finally x) p h = h
+finally-near tab noFinally p home h = tt
+finally-near tab (finally x) p home h = record { home = home; none-far = h }
 
 -- The branches of an action that owns a body are those of the body, behind the head.
 owner-near : (tab : List ℕ) (o : OwnerOf Text) (x : ActionsOf Text ℕ) (p end : ℕ) → end ≡ p + (5 + length (ownerFields (mapOwner spelling o))) → nearAction tab (owner o x) p → nearOf tab x end
 unfolding mapAction trace moved
 owner-near tab o x p end e h =
-    let y : List Event = bodyEvents x (p + (5 + length (ownerFields (mapOwner spelling o)))) in
-    let z : List Event = bodyTest (bodyLength x) (position p) in
-    rw e (near-left (recordAt tab) y z (near-right (recordAt tab) (payloadTest (length (ownerFields (mapOwner spelling o)) + 2) (position p)) (y ++ z) h))
+    let o′ : Owner = mapOwner spelling o in
+    let s : Position = position p (h .home) in
+    let y : List Event = bodyEvents x (toBody o′ s) in
+    let z : List Event = bodyTest (bodyLength x) s in
+    let k : NoneFar (recordAt tab) (y ++ z) = near-right (recordAt tab) (payloadTest (length (ownerFields o′) + 2) s) (y ++ z) (h .none-far) in
+    rw e (record { home = toBody o′ s .home; none-far = near-left (recordAt tab) y z k })
 
 -- The branches of a Try are those of its bodies, one behind the other.
 try-near : (tab : List ℕ) (x : ActionsOf Text ℕ) (c : CatchOf Text ℕ) (f : FinallyOf Text ℕ) (p end : ℕ) → end ≡ p + (10 + length (catchName (mapCatch spelling c)))
     → nearAction tab (Try x c f) p → nearTried tab (triedOf x c f) end
 unfolding mapAction trace moved
 try-near tab x c f p end e h =
-    let q : ℕ = p + (10 + length (catchName (mapCatch spelling c))) in
-    let third : end + bodyLength x + lengthIf (catchBody c) ≡ q + (bodyLength x + catchSize (mapCatch spelling c)) = omega (arith, e, catch-length c) in
-    let y₁ : List Event = bodyEvents x q in
-    let y₂ : List Event = traceCatch (mapCatch spelling c) (position (q + bodyLength x)) in
-    let y₃ : List Event = traceFinally (mapFinally spelling f) (position (q + (bodyLength x + catchSize (mapCatch spelling c)))) in
-    let z : List Event = bodyTest (bodyLength x) (position p) ++ (bodyTest (catchSize (mapCatch spelling c)) (position p) ++ bodyTest (finallySize (mapFinally spelling f)) (position p)) in
-    let h₁ : NoneFar (recordAt tab) (y₁ ++ (y₂ ++ (y₃ ++ z))) = near-right (recordAt tab) (payloadTest (7 + length (catchName (mapCatch spelling c))) (position p)) (y₁ ++ (y₂ ++ (y₃ ++ z))) h in
+    let x′ : Actions = mapBody spelling x in
+    let c′ : Catch = mapCatch spelling c in
+    let s : Position = position p (h .home) in
+    let third : end + bodyLength x + lengthIf (catchBody c) ≡ p + (10 + length (catchName c′)) + (bodyLength x + catchSize c′) = omega (arith, e, catch-length c) in
+    let y₁ : List Event = bodyEvents x (toTry c′ s) in
+    let y₂ : List Event = traceCatch c′ (toCatch x′ c′ s) in
+    let y₃ : List Event = traceFinally (mapFinally spelling f) (toFinally x′ c′ s) in
+    let z : List Event = bodyTest (bodyLength x) s ++ (bodyTest (catchSize c′) s ++ bodyTest (finallySize (mapFinally spelling f)) s) in
+    let h₁ : NoneFar (recordAt tab) (y₁ ++ (y₂ ++ (y₃ ++ z))) = near-right (recordAt tab) (payloadTest (7 + length (catchName c′)) s) (y₁ ++ (y₂ ++ (y₃ ++ z))) (h .none-far) in
     let h₂ : NoneFar (recordAt tab) (y₂ ++ (y₃ ++ z)) = near-right (recordAt tab) y₁ (y₂ ++ (y₃ ++ z)) h₁ in
     let h₃ : NoneFar (recordAt tab) (y₃ ++ z) = near-right (recordAt tab) y₂ (y₃ ++ z) h₂ in (
-      subst (λ (n : ℕ). nearOf tab x n) (sym e) (near-left (recordAt tab) y₁ (y₂ ++ (y₃ ++ z)) h₁),
-      catch-near tab c (end + bodyLength x) (rw e (near-left (recordAt tab) y₂ (y₃ ++ z) h₂)),
-      finally-near tab f (end + bodyLength x + lengthIf (catchBody c)) (rw third (near-left (recordAt tab) y₃ z h₃)),
+      subst (λ (n : ℕ). nearOf tab x n) (sym e) (record { home = h .home; none-far = near-left (recordAt tab) y₁ (y₂ ++ (y₃ ++ z)) h₁ }),
+      catch-near tab c (end + bodyLength x) (h .home) (rw e (near-left (recordAt tab) y₂ (y₃ ++ z) h₂)),
+      finally-near tab f (end + bodyLength x + lengthIf (catchBody c)) (h .home) (rw third (near-left (recordAt tab) y₃ z h₃)),
     )
 
 -- ---- reading goes on with the bodies

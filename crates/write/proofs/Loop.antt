@@ -10,14 +10,14 @@ use Rattle.layout.specs.Numbers.{u16At}
 use Rattle.layout.specs.Tree.{Entry, ActionOf, ActionListOf, empty, more, ActionsOf, body, ActionIndex, firstAction, nextAction}
 use Rattle.layout.specs.Read.{Text, edition1, Place, placed, got, Reader, readEntries, readAction, readActions, readBodyWith, readBody}
 use Rattle.layout.specs.Strings.{mapAction, mapActions, mapBody}
-use Rattle.layout.specs.Write.{bytes, actionsBytes, bodyBytes, sizes, bodySize, position, moved, Event, labelsAt, traces, traceBody}
+use Rattle.layout.specs.Write.{bytes, actionsBytes, bodyBytes, sizes, bodySize, Position, position, moved, past, Event, labelsAt, traces, traceBody}
 use Rattle.layout.specs.Lengths.{length-bytes}
 use Rattle.layout.specs.Pack.{spelling}
 use Rattle.labels.proofs.Labels.{entries-read}
 use Rattle.pcode.proofs.Readings.{Gives, gives, refuses, given, next, then, itself, u16}
 use Rattle.encode_flat.specs.Branches.{tableBits}
 use Rattle.laws.specs.Resolved.{bodyLength, actionSize, actionTrace}
-use Rattle.write.specs.Bodies.{nearOf, nearAction, bodyOf, actionOf, Room, Wrote}
+use Rattle.write.specs.Bodies.{NearFrom, nearOf, nearAction, bodyOf, actionOf, Room, Wrote}
 use Rattle.positions.specs.declared.Ends.{Ends}
 use Rattle.laws.specs.Nears.{NoneFar, near-left, near-right}
 use Rattle.labels.specs.Table.{recordAt}
@@ -111,7 +111,7 @@ listOf tab xs p = actionsBytes (tableBits tab) (mapActions spelling xs) p
 
 -- None of their branches goes too far; the first has an index, and the body has these entries.
 abbrev pub nearList : List ℕ → List Entry → ActionIndex → ActionListOf Text ℕ → ℕ → Type 0
-nearList tab es i xs p = NoneFar (recordAt tab) (traces (mapActions spelling xs) es i (position p))
+nearList tab es i xs p = NearFrom tab (traces (mapActions spelling xs) es i) p
 
 -- The length of actions, one after the other.
 more-length : (a : ActionOf Text ℕ) (xs : ActionListOf Text ℕ) → lengthList (more a xs) ≡ actionSize a + lengthList xs
@@ -123,10 +123,11 @@ more-near : (tab : List ℕ) (es : List Entry) (i : ActionIndex) (xs : ActionLis
     → nearList tab es i xs w → nearAction tab a w × nearList tab es (nextAction i) ys (w + actionSize a)
 unfolding mapActions traces moved
 more-near tab es i xs a ys w e h =
-    let x : List Event = actionTrace a w in
-    let y : List Event = traces (mapActions spelling ys) es (nextAction i) (position (w + actionSize a)) in
-    let k : NoneFar (recordAt tab) (x ++ y) = near-right (recordAt tab) (labelsAt es i (position w)) (x ++ y) (rw e at h) in
-    (near-left (recordAt tab) x y k, near-right (recordAt tab) x y k)
+    let s : Position = position w (h .home) in
+    let x : List Event = actionTrace a s in
+    let y : List Event = traces (mapActions spelling ys) es (nextAction i) (past (mapAction spelling a) s) in
+    let k : NoneFar (recordAt tab) (x ++ y) = near-right (recordAt tab) (labelsAt es i s) (x ++ y) (rw e at (h .none-far)) in
+    (record { home = h .home; none-far = near-left (recordAt tab) x y k }, record { home = h .home; none-far = near-right (recordAt tab) x y k })
 
 -- An action is written, and then the others: all of them are.
 more-bytes : (tab l : List ℕ) (a : ActionOf Text ℕ) (xs : ActionListOf Text ℕ) (w : ℕ)
@@ -174,8 +175,8 @@ module _ (b : List ℕ) (at depth pos : ℕ) (tab old : List ℕ) where
     where
       near : (x : ActionsOf Text ℕ) (es : List Entry) (xs : ActionListOf Text ℕ) → x ≡ body es xs → nearOf tab x pos → nearList tab es firstAction xs pos
       near x es xs h k =
-          let m = rw h at k in
-          unfold mapBody traceBody in m
+          let m = rw h at (k .none-far) in
+          record { home = k .home; none-far = unfold mapBody traceBody in m }
 
       same : (x : ActionsOf Text ℕ) (es : List Entry) (xs : ActionListOf Text ℕ) → x ≡ body es xs → listOf tab xs pos ≡ bodyOf tab x pos
       same x es xs h = rw h (unfold bodyOf listOf mapBody bodyBytes in refl)

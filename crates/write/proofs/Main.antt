@@ -1,6 +1,6 @@
 -- The main body's actions by the table are the block without its End. Assumes nothing.
 use mathlib.Core.Path.{_≡_, sym, ap, _∙_, subst}
-use Prim.Native.Nat.{ℕ, _<_}
+use Prim.Native.Nat.{ℕ, _+_, _<_}
 use native.Mathlib.Omega.{arith}
 use mathlib.Core.Option.{Option, none}
 use mathlib.Core.List.{List}
@@ -9,20 +9,20 @@ use lib.Seq.{sets}
 use Rattle.layout.specs.Tree.{Actions, ActionsOf}
 use Rattle.layout.specs.Read.{Text, edition1, deepest, Place, placed, got, readBody, readMain}
 use Rattle.layout.specs.Strings.{mapBody}
-use Rattle.layout.specs.Write.{bytes, bodyBytes, bodySize, Position, events, distanceBits, branchBits, blockSize, position, traceBody, lookup}
+use Rattle.layout.specs.Write.{bytes, bodyBytes, bodySize, Position, events, distanceBits, branchBits, blockSize, blockStart, lookup}
 use Rattle.layout.specs.Lengths.{length-body}
 use Rattle.layout.specs.Pack.{spelling}
-use Rattle.layout.specs.Judge.{tooFar}
+use Rattle.layout.specs.Judge.{judged, farBy, tooFar}
 use Rattle.labels.specs.Table.{TableHolds, recordAt}
-use Rattle.labels.proofs.Labels.{table-record}
+use Rattle.labels.proofs.Labels.{table-record, homed-bits, homed-judged}
 use Rattle.pcode.proofs.Readings.{given}
 use Rattle.encode_flat.specs.Branches.{tableBits}
+use Rattle.laws.specs.Branches.{each-then, refused-same}
 use Rattle.laws.specs.Resolved.{bodyLength}
 use Rattle.write.specs.Bodies.{nearOf, bodyOf, Room, Wrote, mainBytes, MainWritable, PutMain}
 use Rattle.positions.specs.declared.Ends.{Ends}
 use Rattle.pcode.proofs.Trees.{UnderBody, main-body, body-under}
 use Rattle.pcode.proofs.Labels as labels
-use Rattle.pcode.proofs.Labels.{refused-under}
 use Rattle.write.proofs.Labels.{agree-body}
 
 -- ---- the main body
@@ -30,7 +30,16 @@ use Rattle.write.proofs.Labels.{agree-body}
 -- The bits of a branch to a label with a slot are the tree's.
 table-bits : (tab : List ℕ) (t : Actions) → TableHolds 1024 tab (events t) → (l after : ℕ) → l < 1024 → tableBits tab l after ≡ branchBits t l after
 unfolding tableBits branchBits
-table-bits tab t h l after k = ap (λ (o : Option Position). distanceBits o after) (table-record 1024 tab (events t) h l k)
+table-bits tab t h l after k =
+    ap (λ (o : Option Position). distanceBits o after) (table-record 1024 tab (events t) h l k) ∙ homed-bits 0 (lookup l (events t)) after
+
+-- The first branch that goes too far by the table is the tree's.
+table-far : (tab : List ℕ) (t : Actions) → TableHolds 1024 tab (events t) → UnderBody 1024 t → farBy (recordAt tab) (events t) ≡ tooFar (events t) (events t)
+table-far tab t h u = refused-same _ _ (recordAt tab) (λ l. lookup l (events t)) (events t) (each-then (λ l s. l < 1024) _ same (events t) (unfold events in labels.body-under 1024 t blockStart u))
+  where
+    same : (l : ℕ) (s : Position) → l < 1024 → judged (recordAt tab l) (s .at + 2) ≡ judged (lookup l (events t)) (s .at + 2)
+    same l s k =
+        ap (λ (o : Option Position). judged o (s .at + 2)) (table-record 1024 tab (events t) h l k) ∙ homed-judged 0 (lookup l (events t)) (s .at + 2)
 
 -- ---- the block
 
@@ -54,9 +63,7 @@ module _ (b tab out : List ℕ) (m : MainWritable b tab out) where
     where
       near-main : (x : ActionsOf Text ℕ) (t : Actions) → mapBody spelling x ≡ t → UnderBody 1024 (mapBody spelling x) → TableHolds 1024 tab (events t)
           → tooFar (events t) (events t) ≡ none → nearOf tab x 0
-      near-main x t i u h k =
-          rw i (refused-under 1024 _ (recordAt tab) (λ l. lookup l (events t)) (table-record 1024 tab (events t) h) (traceBody t (position 0))
-          (labels.body-under 1024 t (position 0) (subst (UnderBody 1024) i u)) ∙ (unfold events in k))
+      near-main x t i u h k = record { home = 0; none-far = rw i (unfold events in (table-far tab t h (subst (UnderBody 1024) i u) ∙ k)) }
 
   -- The same where the position is held in a number.
   pub main-room : {p : ℕ} → p ≡ 0 → Room (readBody edition1 b deepest) bodyLength nearOf b 0 p tab out

@@ -10,7 +10,7 @@ use Rattle.layout.specs.Numbers.{le16}
 use Rattle.layout.specs.Tree.{Action, ActionOf, Try, Actions, ActionsOf}
 use Rattle.layout.specs.Read.{Text, Place, placed, Reader, got, _>>=_, give, hasCatch, hasFinally}
 use Rattle.layout.specs.Strings.{mapAction, mapBody}
-use Rattle.layout.specs.Write.{bytes, bodyBytes, branchBits, events, blockBytes, blockSize}
+use Rattle.layout.specs.Write.{Position, position, Event, bytes, bodyBytes, branchBits, events, blockBytes, blockSize}
 use Rattle.layout.specs.Judge.{tooFar}
 use Rattle.layout.specs.Pack.{spelling}
 use Rattle.laws.specs.Fits.{Bytes}
@@ -93,9 +93,14 @@ actionOf tab x p = bytes (tableBits tab) (mapAction spelling x) p
 
 -- ---- branches of which none goes too far, by the label table
 
+-- among the events from a position on, in some function body: the writer does not know in which, and no byte depends on it
+pub record NearFrom (tab : List ℕ) (trace : Position → List Event) (p : ℕ) : Type 0 where
+  pub home : ℕ
+  pub none-far : NoneFar (recordAt tab) (trace (position p home))
+
 -- those of a body that was read, at a position
 abbrev pub nearOf : List ℕ → ActionsOf Text ℕ → ℕ → Type 0
-nearOf tab x p = NoneFar (recordAt tab) (bodyEvents x p)
+nearOf tab x p = NearFrom tab (bodyEvents x) p
 
 -- and of one that may be absent
 abbrev pub nearIf : List ℕ → Option (ActionsOf Text ℕ) → ℕ → Type 0
@@ -108,7 +113,7 @@ nearTried tab t p = nearOf tab (t .first) p × nearIf tab (t .second) (p + bodyL
 
 -- of an action that was read
 abbrev pub nearAction : List ℕ → ActionOf Text ℕ → ℕ → Type 0
-nearAction tab x p = NoneFar (recordAt tab) (actionTrace x p)
+nearAction tab x p = NearFrom tab (actionTrace x) p
 
 -- ---- the output
 

@@ -153,8 +153,53 @@ const UNRECORDED: &[Shape] = &[
     },
 ];
 
+/// One branch that comes to an edge, and one to label 9, which leaves its function body, in both orders.
+const STRAY: &[Shape] = &[
+    |n| {
+        let main = Body::new().label(0, n + 3).action(records_9());
+        main.action(jump(9)).action(jump(0)).times(n, pop())
+    },
+    |n| {
+        let main = Body::new().label(0, n + 1).action(jump(0));
+        main.times(n, pop()).action(jump(9)).action(records_9())
+    },
+    |n| {
+        let main = Body::new().label(0, 0).action(records_9());
+        let main = main.action(branch(0x9D, 9)).times(n, pop());
+        main.action(jump(0))
+    },
+    |n| {
+        let main = Body::new().label(0, 0).times(n, pop()).action(jump(0));
+        main.action(branch(0x9D, 9)).action(records_9())
+    },
+    // both inside a function
+    |n| {
+        let inner = Body::new().label(0, n + 2).action(jump(9));
+        let inner = inner.action(jump(0)).times(n, pop());
+        let function = define_function_2(b"f", &[], 1, 0, &inner);
+        Body::new().label(9, 0).action(function)
+    },
+    |n| {
+        let inner = Body::new().label(0, n + 1).action(jump(0));
+        let inner = inner.times(n, pop()).action(jump(9));
+        Body::new()
+            .label(9, 1)
+            .action(define_function(b"f", &[], &inner))
+    },
+];
+
+/// A function that records label 9.
+fn records_9() -> Vec<u8> {
+    define_function(b"f", &[], &Body::new().label(9, 0))
+}
+
 pub fn distances(give: &mut dyn FnMut(Vec<u8>)) {
-    for (shapes, edge) in [(FORWARD, 32_767), (BACKWARD, 32_768), (UNRECORDED, 32_767)] {
+    for (shapes, edge) in [
+        (FORWARD, 32_767),
+        (BACKWARD, 32_768),
+        (UNRECORDED, 32_767),
+        (STRAY, 32_767),
+    ] {
         for shape in shapes {
             // What a shape adds to its Pops is under 28 bytes.
             for n in edge - 28..=edge + 2 {

@@ -15,7 +15,7 @@ pub fn limits(give: &mut dyn FnMut(Vec<u8>)) {
     counts(give);
     depths(give);
     lengths(give);
-    unrecorded(give);
+    refused_by_mode(give);
 }
 
 /// An action whose payload has this length.
@@ -253,19 +253,23 @@ fn lengths(give: &mut dyn FnMut(Vec<u8>)) {
     give(vec![0; 4 * LONGEST_SHEET]);
 }
 
-/// A branch that has no record, before and behind the longest payload, one that is too long and a body that is; and far behind.
-fn unrecorded(give: &mut dyn FnMut(Vec<u8>)) {
+/// A branch that has no record, and one whose record is in a function, before and behind the longest payload, one that is too long
+/// and a body that is; and far behind.
+fn refused_by_mode(give: &mut dyn FnMut(Vec<u8>)) {
     let longest = set_target(&text(65_534));
     let too_long = set_target(&text(65_535));
     let in_body = with(&Body::new().action(longest.clone()));
-    for action in [longest.clone(), too_long, in_body] {
-        let before = Body::new().action(jump(9)).action(action.clone());
-        let behind = Body::new().action(action).action(jump(9));
-        give(sheet(&[], &before.bytes()));
-        give(sheet(&[], &behind.bytes()));
+    let records = define_function(b"f", &[], &Body::new().label(9, 0));
+    for main in [Body::new(), Body::new().action(records)] {
+        for action in [&longest, &too_long, &in_body] {
+            let before = main.clone().action(jump(9)).action(action.clone());
+            let behind = main.clone().action(action.clone()).action(jump(9));
+            give(sheet(&[], &before.bytes()));
+            give(sheet(&[], &behind.bytes()));
+        }
+        let far_behind = main.times(15, longest.clone()).action(jump(9));
+        give(sheet(&[], &far_behind.bytes()));
     }
-    let far_behind = Body::new().times(15, longest).action(jump(9));
-    give(sheet(&[], &far_behind.bytes()));
 }
 
 fn text(length: usize) -> Vec<u8> {

@@ -1,7 +1,8 @@
 use super::*;
 use crate::answer::{Fault, number, value};
 use crate::generate::write::{
-    Body, Catch, branch, call, define_function, jump, pop, set_target, sheet, try_, with,
+    Body, Catch, branch, call, define_function, define_function_2, jump, pop, set_target, sheet,
+    try_, with,
 };
 
 const AMPLE: usize = 1 << 22;
@@ -17,17 +18,29 @@ fn answer_in(mode: Mode, main: &Body) -> (u8, i64) {
     (number(&answer), value(&answer))
 }
 
-/// The answer in both modes, which must be the same.
-fn answer_to(main: &Body) -> (u8, i64) {
-    let answer = answer_in(Mode::PLAIN, main);
-    assert_eq!(answer_in(Mode::STRICT, main), answer);
-    answer
+fn answers_to(main: &Body) -> [(u8, i64); 4] {
+    Mode::ALL.map(|mode| answer_in(mode, main))
 }
 
-/// The answer in strict mode, of a main body whose answer in plain mode is Done.
+/// The answer in every mode, which must be the same.
+fn answer_to(main: &Body) -> (u8, i64) {
+    let answers = answers_to(main);
+    assert_eq!(answers, [answers[0]; 4]);
+    answers[0]
+}
+
+/// The answer in strict mode, contained or not, of a main body whose answer in the other modes is Done.
 fn strict_answer_to(main: &Body) -> (u8, i64) {
-    assert_eq!(answer_in(Mode::PLAIN, main).0, 0);
-    answer_in(Mode::STRICT, main)
+    let [plain, strict, contained, both] = answers_to(main);
+    assert_eq!((plain.0, contained, both), (0, plain, strict));
+    strict
+}
+
+/// The answer in contained mode, strict or not, of a main body whose answer in the other modes is Done.
+fn contained_answer_to(main: &Body) -> (u8, i64) {
+    let [plain, strict, contained, both] = answers_to(main);
+    assert_eq!((plain.0, strict, both), (0, plain, contained));
+    contained
 }
 
 /// Its label is never recorded.
@@ -65,7 +78,7 @@ fn sums_worked_by_hand() {
     for (main, block) in sums {
         let sheet = sheet(&[], &hex(main));
         let (block, room) = (hex(block), hex(block).len());
-        for mode in [Mode::PLAIN, Mode::STRICT] {
+        for mode in Mode::ALL {
             if mode.strict && main == P7 {
                 assert_eq!(pack(&sheet, mode, room), Err(Refusal::NeverRecorded(3)));
                 continue;
@@ -143,14 +156,114 @@ fn never_recorded_among_the_answers() {
     let far = far.times(40_000, pop()).action(jump(1));
     assert_eq!(answer_to(&far), (10, 40_000));
     let lost_first = lost.label(0, 40_002).action(jump(0)).times(40_000, pop());
-    assert_eq!(answer_in(Mode::PLAIN, &lost_first), (10, 40_000));
-    assert_eq!(answer_in(Mode::STRICT, &lost_first), (14, 3));
+    let (far, lost) = ((10, 40_000), (14, 3));
+    assert_eq!(answers_to(&lost_first), [far, lost, far, lost]);
 
     let sheet = sheet(&[], &hex(P7));
     assert_eq!(pack(&sheet, Mode::PLAIN, 0), Err(Refusal::NoRoom(6)));
     assert_eq!(
         pack(&sheet, Mode::STRICT, 0),
         Err(Refusal::NeverRecorded(3))
+    );
+}
+
+/// The function f with this body, which begins 9 bytes behind it.
+fn function(body: &Body) -> Vec<u8> {
+    define_function(b"f", &[], body)
+}
+
+/// Document 02, item 9: the operand's position of the first branch whose label's last record is in another function body.
+#[test]
+fn branches_that_leave_their_function() {
+    let records = Body::new().label(0, 0).action(pop());
+    let branches = Body::new().action(branch(0x9D, 0));
+    let into = Body::new().action(function(&records)).action(jump(0));
+    assert_eq!(contained_answer_to(&into), (15, 13));
+    let out = Body::new().label(0, 0).action(function(&branches));
+    assert_eq!(contained_answer_to(&out), (15, 12));
+    let function_2 = |body| define_function_2(b"f", &[], 0, 0, body);
+    let into = Body::new().action(function_2(&records)).action(jump(0));
+    assert_eq!(contained_answer_to(&into), (15, 16));
+    let out = Body::new().label(0, 0).action(function_2(&branches));
+    assert_eq!(contained_answer_to(&out), (15, 15));
+
+    let from_one_to_another = Body::new().action(function(&records));
+    let from_one_to_another = from_one_to_another.action(function(&branches));
+    assert_eq!(contained_answer_to(&from_one_to_another), (15, 22));
+    let outer = records.clone().action(function(&branches));
+    let from_inside = Body::new().action(function(&outer));
+    assert_eq!(contained_answer_to(&from_inside), (15, 22));
+    let outer = branches.clone().action(function(&records));
+    let to_inside = Body::new().action(function(&outer));
+    assert_eq!(contained_answer_to(&to_inside), (15, 12));
+
+    // At the end of a function stands what follows it: the position is the same.
+    let at_end = Body::new().label(0, 1).action(pop());
+    let from_behind = Body::new().action(function(&at_end)).action(jump(0));
+    assert_eq!(contained_answer_to(&from_behind), (15, 13));
+    let recorded_later = Body::new().label(0, 0).action(jump(0));
+    let recorded_later = recorded_later.action(function(&records));
+    assert_eq!(contained_answer_to(&recorded_later), (15, 3));
+}
+
+/// With and Try bodies belong to the function around them; and the last record counts.
+#[test]
+fn branches_that_stay_in_their_function() {
+    let records = Body::new().label(0, 0).action(pop());
+    let branches = Body::new().action(branch(0x9D, 0));
+    let with_and_try = |first: &Body, second: &Body| {
+        let catch = Some(Catch::Name(b"e", second));
+        let main = Body::new().action(with(first));
+        main.action(try_(second, catch, Some(second)))
+            .action(with(second))
+    };
+    for main in [
+        with_and_try(&records, &branches),
+        with_and_try(&branches, &records),
+    ] {
+        assert_eq!(answer_to(&main).0, 0);
+        assert_eq!(answer_to(&Body::new().action(function(&main))).0, 0);
+    }
+    let behind = Body::new().label(0, 1).action(function(&records));
+    assert_eq!(answer_to(&behind.action(jump(0))), (0, 16));
+    let recorded_again = records.clone().action(jump(0));
+    let recorded_again = Body::new().label(0, 0).action(function(&recorded_again));
+    assert_eq!(answer_to(&recorded_again), (0, 16));
+}
+
+/// 8 and 9, then 10, 14 and 15 by writing order, for one branch 15 before 10, then 11.
+#[test]
+fn stray_among_the_answers() {
+    let records = Body::new().action(function(&Body::new().label(0, 0)));
+    let stray = records.clone().action(jump(0));
+    let too_long = set_target(&[b'a'; 65_535]);
+    assert_eq!(answer_to(&stray.clone().action(too_long)), (8, 65_536));
+    let too_wide = with(&Body::new().action(call()).times(65_533, pop()));
+    assert_eq!(answer_to(&stray.clone().action(too_wide)), (9, 65_536));
+
+    let (done, lost, left) = ((0, 20), (14, 17), (15, 12));
+    let lost_behind = stray.clone().action(jump(1));
+    assert_eq!(answers_to(&lost_behind), [done, lost, left, left]);
+    let (done, lost, left) = ((0, 25), (14, 3), (15, 22));
+    let lost_first = Body::new().action(jump(1)).action(with(&stray));
+    assert_eq!(answers_to(&lost_first), [done, lost, left, lost]);
+
+    let (far, left) = ((10, -40_005), (15, 40_012));
+    let far_and_stray = records.times(40_000, pop()).action(jump(0));
+    assert_eq!(answers_to(&far_and_stray), [far, far, left, left]);
+    let (far, left) = ((10, -40_019), (15, 12));
+    let far_behind = stray.clone().label(1, 0).times(40_000, pop());
+    let far_behind = far_behind.action(jump(1));
+    assert_eq!(answers_to(&far_behind), [far, far, left, left]);
+    let far_first = Body::new().label(1, 0).times(40_000, pop());
+    let far_first = far_first.action(jump(1)).action(with(&stray));
+    assert_eq!(answer_to(&far_first), (10, -40_005));
+
+    let sheet = sheet(&[], &stray.bytes());
+    assert_eq!(pack(&sheet, Mode::STRICT, 0), Err(Refusal::NoRoom(15)));
+    assert_eq!(
+        pack(&sheet, Mode::CONTAINED, 0),
+        Err(Refusal::StrayBranch(12))
     );
 }
 

@@ -2,7 +2,13 @@
 #![allow(dead_code)]
 use merinovault::{Mode, Refusal, pack};
 
-pub const MODES: [Mode; 2] = [Mode::PLAIN, Mode::STRICT];
+/// By the bits of a mode in the list of crates/replay: bit 0 is strict, bit 1 contained.
+pub const MODES: [Mode; 4] = [
+    Mode::PLAIN,
+    Mode::STRICT,
+    Mode::CONTAINED,
+    Mode::STRICT_CONTAINED,
+];
 
 pub const POP: &[u8] = &[0x17];
 pub const PLAY: &[u8] = &[0x06];
@@ -48,6 +54,21 @@ pub fn jump(label: usize) -> Vec<u8> {
 
 pub fn with(inside: &[u8]) -> Vec<u8> {
     [&[0x94], inside].concat()
+}
+
+/// DefineFunction, whose body begins 9 bytes behind it in the block.
+pub fn function(inside: &[u8]) -> Vec<u8> {
+    [&[0x9B, 1, 0, b'f', 0, 0], inside].concat()
+}
+
+/// DefineFunction2, whose body begins 12 bytes behind it.
+pub fn function2(inside: &[u8]) -> Vec<u8> {
+    [&[0x8E, 1, 0, b'f', 0, 0, 0, 0, 0], inside].concat()
+}
+
+/// Try with three bodies, of which the first begins 12 bytes behind it.
+pub fn attempt(first: &[u8], catch: &[u8], last: &[u8]) -> Vec<u8> {
+    [&[0x8F, 3, 1, 0, b'e'], first, catch, last].concat()
 }
 
 pub fn set_target(letters: usize) -> Vec<u8> {

@@ -1,12 +1,19 @@
 //! Ratios in one run: the packer's C entry against the Rust's reading and encoding, and against its encoding alone; and strict
-//! mode against plain.
+//! and contained mode against plain.
 //! No buffer is cleared between rounds; the Rust grows a new Vec each time, as it does in service.
 
 mod sheets;
 
 use merinovault::{Mode, pack};
+use oracle::answer;
 use std::hint::black_box;
 use std::time::Instant;
+
+/// The modes that are timed against plain: their names, ours and the oracle's.
+const OTHERS: [(&str, Mode, answer::Mode); 2] = [
+    ("strict", Mode::STRICT, answer::Mode::STRICT),
+    ("contained", Mode::CONTAINED, answer::Mode::CONTAINED),
+];
 
 /// The least seconds of a call, over batches that each take about a hundredth of a second.
 struct Timer {
@@ -40,21 +47,24 @@ impl Timer {
 /// Seconds of a call, and the block's length.
 struct Times {
     ours: f64,
-    /// None where strict mode refuses the sheet.
-    strict: Option<f64>,
+    /// In the other modes; none where one refuses the sheet.
+    others: [Option<f64>; OTHERS.len()],
     both: f64,
     encoding: f64,
     block: usize,
 }
 
-/// Times our entry in both modes, the Rust's reading and encoding, and its encoding alone.
+/// Times our entry in plain mode and the others, the Rust's reading and encoding, and its encoding alone.
 fn time(sheet: &[u8], rounds: u32) -> Times {
     let mut out = vec![0; 4 * sheet.len() + 64];
     let whole = oracle::sheet::read(sheet, b'y').expect("a sheet that reads");
     let block = oracle::pack::encode(&whole).expect("a block");
     let n = pack(sheet, Mode::PLAIN, &mut out).expect("a block");
     assert_eq!(&out[..n], &block[..], "the two blocks differ");
-    let taken = oracle::pack::pack(sheet, oracle::answer::Mode::STRICT, out.len()).is_ok();
+    let taken = OTHERS.map(|(_, mode, theirs)| {
+        let taken = oracle::pack::pack(sheet, theirs, out.len()).is_ok();
+        taken.then_some(mode)
+    });
 
     let mut ours = |mode| {
         black_box(pack(black_box(sheet), mode, &mut out).unwrap());
@@ -71,18 +81,18 @@ fn time(sheet: &[u8], rounds: u32) -> Times {
         Timer::new(&mut both),
         Timer::new(&mut encoding),
     ];
-    let mut strict = taken.then(|| Timer::new(&mut || ours(Mode::STRICT)));
+    let mut others = taken.map(|taken| taken.map(|mode| (mode, Timer::new(&mut || ours(mode)))));
     for _ in 0..rounds {
         timers[0].round(&mut || ours(Mode::PLAIN));
-        if let Some(timer) = &mut strict {
-            timer.round(&mut || ours(Mode::STRICT));
+        for (mode, timer) in others.iter_mut().flatten() {
+            timer.round(&mut || ours(*mode));
         }
         timers[1].round(&mut both);
         timers[2].round(&mut encoding);
     }
     Times {
         ours: timers[0].least,
-        strict: strict.map(|timer| timer.least),
+        others: others.map(|other| other.map(|(_, timer)| timer.least)),
         both: timers[1].least,
         encoding: timers[2].least,
         block: n,
@@ -135,25 +145,27 @@ fn run(case: &str, side: &str, times: u32) {
 
 fn ratios(rounds: u32) {
     println!("how many times as fast as the Rust's (i) reading and encoding, (ii) encoding alone;");
-    println!("and strict mode's time against plain, unless it refuses the sheet");
+    println!("and the time of other modes against plain, unless they refuse the sheet");
+    let [strict, contained] = OTHERS.map(|(name, ..)| name);
     println!(
-        "{:<10} {:>9} {:>9} {:>7} {:>7} {:>7}",
-        "case", "sheet", "block", "(i)", "(ii)", "strict"
+        "{:<10} {:>9} {:>9} {:>7} {:>7} {strict:>9} {contained:>9}",
+        "case", "sheet", "block", "(i)", "(ii)"
     );
     for (name, made) in CASES {
         let sheet = made();
         let times = time(&sheet, rounds);
-        let strict = times
-            .strict
-            .map(|strict| format!("{:.2}", strict / times.ours));
+        let [strict, contained] = times.others.map(|other| {
+            other.map_or("refused".into(), |other| {
+                format!("{:.2}", other / times.ours)
+            })
+        });
         println!(
-            "{:<10} {:>9} {:>9} {:>7.2} {:>7.2} {:>7}",
+            "{:<10} {:>9} {:>9} {:>7.2} {:>7.2} {strict:>9} {contained:>9}",
             name,
             sheet.len(),
             times.block,
             times.both / times.ours,
-            times.encoding / times.ours,
-            strict.as_deref().unwrap_or("refused")
+            times.encoding / times.ours
         );
     }
     println!("\ntime for each byte of the block, against the first");

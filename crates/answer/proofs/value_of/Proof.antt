@@ -47,6 +47,9 @@ enum-known-a-11 c = search needs
 enum-known-a-12 : tie.Need-enum-known-a-12
 enum-known-a-12 c = search needs
 
+enum-known-a-13 : tie.Need-enum-known-a-13
+enum-known-a-13 c = search needs
+
 returns : tie.Need-returns
 unfolding value number valueBy pick
 returns c = rw (c .before .a .given .1) (natural-bits _ (omega arith), refl)
@@ -99,6 +102,10 @@ returns-13 : tie.Need-returns-13
 unfolding value number valueBy pick
 returns-13 c = rw (c .before .a12 .given .1) (natural-bits _ (omega arith), refl)
 
+returns-14 : tie.Need-returns-14
+unfolding value number valueBy pick
+returns-14 c = rw (c .before .a13 .given .1) (natural-bits _ (omega arith), refl)
+
 pub value-of-spec : {M : Type 1} → statement M
 value-of-spec =
     tie.close
@@ -116,6 +123,7 @@ value-of-spec =
     enum-known-a-10
     enum-known-a-11
     enum-known-a-12
+    enum-known-a-13
     returns
     returns-2
     returns-3
@@ -128,4 +136,5 @@ value-of-spec =
     returns-10
     returns-11
     returns-12
-    returns-13)
+    returns-13
+    returns-14)

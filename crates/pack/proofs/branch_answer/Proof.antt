@@ -1,4 +1,4 @@
--- `pack::branch_answer` meets its contract: 10 with its distance, 14 with its operand's position. Assumes nothing.
+-- `pack::branch_answer` meets its contract: 10 with its distance, 14 and 15 with the operand's position. Assumes nothing.
 use mathlib.Core.Path.{refl}
 use Rattle.layout.specs.Answers.{refusalNumber, refusalValue}
 use Rattle.layout.specs.Answers as answers
@@ -14,6 +14,9 @@ enum-known-bad c = search needs
 enum-known-bad-2 : tie.Need-enum-known-bad-2
 enum-known-bad-2 c = search needs
 
+enum-known-bad-3 : tie.Need-enum-known-bad-3
+enum-known-bad-3 c = search needs
+
 returns : tie.Need-returns
 unfolding number value refusalOf answers.number answers.value refusalNumber refusalValue
 returns c = rw (c .before .bad .given .1) (record { is-number = refl; is-value = refl })
@@ -22,5 +25,9 @@ returns-2 : tie.Need-returns-2
 unfolding number value refusalOf answers.number answers.value refusalNumber refusalValue
 returns-2 c = rw (c .before .bad2 .given .1) (record { is-number = refl; is-value = refl })
 
+returns-3 : tie.Need-returns-3
+unfolding number value refusalOf answers.number answers.value refusalNumber refusalValue
+returns-3 c = rw (c .before .bad3 .given .1) (record { is-number = refl; is-value = refl })
+
 pub branch-answer-spec : {M : Type 1} → statement M
-branch-answer-spec = tie.close (tie.spec enum-known-bad enum-known-bad-2 returns returns-2)
+branch-answer-spec = tie.close (tie.spec enum-known-bad enum-known-bad-2 enum-known-bad-3 returns returns-2 returns-3)

@@ -1,103 +1,45 @@
--- `pack::pack` meets its contract: what reading refuses, or what the steps make of a sheet that reads whole. Assumes nothing.
-use mathlib.Core.Path.{_≡_}
-use Prim.Native.Nat.{_-_, _≤_}
-use native.Mathlib.Omega.{arith}
-use lib.ListN.{length, take, drop}
-use Rattle.layout.specs.Cut.{main, cut}
-use Rattle.scan.specs.Mains.{MainWhole}
-use Rattle.pack.proofs.Packs as packs
-use Rattle.scan.proofs.Mains.{lent-zeros}
+-- `pack::pack` meets its contract: a table of homes is lent where the mode is contained. Assumes nothing.
+use mathlib.Core.Path.{sym, _∙_}
+use mathlib.Core.Bool.{false≢true}
+use Prim.Native.Nat.{ℕ}
+use lib.ListN.{length-replicate}
 use borrow.Author.Needs.{needs}
 use Rattle.pack.proofs.pack.Statement.{statement}
 use Rattle.pack.proofs.pack.Tie as tie
 
-slice-aggregate-read-sheet : tie.Need-slice-aggregate-read-sheet
-slice-aggregate-read-sheet c = search needs
+slice-aggregate-pack-with-homes : tie.Need-slice-aggregate-pack-with-homes
+slice-aggregate-pack-with-homes c = search needs
 
-slice-aggregate-read-sheet-2 : tie.Need-slice-aggregate-read-sheet-2
-slice-aggregate-read-sheet-2 c = search needs
-
-read-sheet-requires : tie.Need-read-sheet-requires
-read-sheet-requires c κs = lent-zeros
-
-enum-known-n : tie.Need-enum-known-n
-enum-known-n c = search needs
-
-enum-told : tie.Need-enum-told
-enum-told c = search needs
-
-enum-known-f : tie.Need-enum-known-f
-enum-known-f c = search needs
-
-fault-answer-requires : tie.Need-fault-answer-requires
-fault-answer-requires c κs = search needs
-
-enum-known-start : tie.Need-enum-known-start
-enum-known-start c = search needs
-
--- what reading leaves of a sheet that reads whole
-here : (c : tie.After-known-told3)
-    → let m = c .before .before .before .before .before in
-    let sheet = m .before .before .before .before .before .args .sheet .now in
-    let start = c .before .start .given .0 .0 in
-    let end = c .before .start .given .0 .1 .0 in
-    ((start ≤ end) × (end ≤ length sheet)) × (cut sheet ≡ main start (take (end - start) (drop start sheet)))
-    × MainWhole (take (end - start) (drop start sheet)) (c .before .start .given .0 .1 .1 .0) (m .read-sheet .last .1 .0) (m .read-sheet .last .1 .1 .0)
-here c = packs.read-whole _ _ _ _ (c .before .before .before .before .before .read-sheet .ensures) _ _ _ (c .before .start .given .1)
-
-sub-pack-whole : tie.Need-sub-pack-whole
-sub-pack-whole c = omega (arith, here c .0 .0, here c .0 .1)
-
-part-pack-whole-start : tie.Need-part-pack-whole-start
-part-pack-whole-start c = omega (arith, here c .0 .0, here c .0 .1)
-
-part-pack-whole-end : tie.Need-part-pack-whole-end
-part-pack-whole-end c = omega (arith, here c .0 .0, here c .0 .1)
-
-slice-aggregate-pack-whole : tie.Need-slice-aggregate-pack-whole
-slice-aggregate-pack-whole c = search needs
-
-slice-aggregate-pack-whole-2 : tie.Need-slice-aggregate-pack-whole-2
-slice-aggregate-pack-whole-2 c = search needs
-
-pack-whole-requires : tie.Need-pack-whole-requires
-pack-whole-requires c κs = here (c .before .before .before .before) .2
-
-returns : tie.Need-returns
-returns c = packs.read-long _ _ _ _ (c .before .before .before .before .before .read-sheet .ensures) _ _ _ (c .before .n .given .1)
-
-returns-2 : tie.Need-returns-2
-returns-2 c = packs.read-bad _ _ _ _ (c .before .before .before .before .read-sheet .ensures) _ _ (c .enum-told .given .1)
-
-returns-3 : tie.Need-returns-3
-returns-3 c = packs.read-stops _ _ _ _ (c .before .before .before .before .before .before .read-sheet .ensures) _ _ _ _ (c .before .before .f .given .1) _ (c .fault-answer .ensures)
+pack-with-homes-requires : tie.Need-pack-with-homes-requires
+pack-with-homes-requires c κs = λ e. length-replicate {A = ℕ} 1024 0
 
 same-length : tie.Need-same-length
 same-length c = search needs
 
-returns-4 : tie.Need-returns-4
-returns-4 c = packs.whole-outcome _ _ _ _ (c .before .before .before .before .before .before .before .before .before .before .before .before .read-sheet .ensures) _ _ _ (c .before .before .before .before .before .before .before .before .start .given .1) _ _ _ _ (c .before .before .pack-whole .ensures)
+returns : tie.Need-returns
+returns c = search needs
+
+slice-aggregate-pack-with-homes-2 : tie.Need-slice-aggregate-pack-with-homes-2
+slice-aggregate-pack-with-homes-2 c = search needs
+
+pack-with-homes-requires-2 : tie.Need-pack-with-homes-requires-2
+pack-with-homes-requires-2 c κs = λ e. absurd (false≢true (sym (c .before .before .if1 .left) ∙ e))
+
+same-length-2 : tie.Need-same-length-2
+same-length-2 c = search needs
+
+returns-2 : tie.Need-returns-2
+returns-2 c = search needs
 
 pub pack-spec : {M : Type 1} → statement M
 pack-spec =
     tie.close
     (tie.spec
-    slice-aggregate-read-sheet
-    slice-aggregate-read-sheet-2
-    read-sheet-requires
-    enum-known-n
-    enum-told
-    enum-known-f
-    fault-answer-requires
-    enum-known-start
-    sub-pack-whole
-    part-pack-whole-start
-    part-pack-whole-end
-    slice-aggregate-pack-whole
-    slice-aggregate-pack-whole-2
-    pack-whole-requires
-    returns
-    returns-2
-    returns-3
+    slice-aggregate-pack-with-homes
+    pack-with-homes-requires
     same-length
-    returns-4)
+    returns
+    slice-aggregate-pack-with-homes-2
+    pack-with-homes-requires-2
+    same-length-2
+    returns-2)

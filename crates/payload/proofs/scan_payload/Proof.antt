@@ -76,8 +76,8 @@ flat-payload-requires-4 c κs = search needs
 scan-define-function-2-requires : tie.Need-scan-define-function-2-requires
 scan-define-function-2-requires c κs = search needs
 
-long-payload-requires-5 : tie.Need-long-payload-requires-5
-long-payload-requires-5 c κs = (c .before .before .before .before .before .before .before .before .pre .2, lay.scanned-from-start _ _ _ _ _ (c .before .scan-define-function-2 .ensures) (omega arith))
+function-payload-requires : tie.Need-function-payload-requires
+function-payload-requires c κs = (c .before .before .before .before .before .before .before .before .pre .2, lay.scanned-from-start _ _ _ _ _ (c .before .scan-define-function-2 .ensures) (omega arith))
 
 scan-try-requires : tie.Need-scan-try-requires
 scan-try-requires c κs =
@@ -93,8 +93,8 @@ add-t38 c = search needs
 scan-push-requires : tie.Need-scan-push-requires
 scan-push-requires c κs = search needs
 
-long-payload-requires-6 : tie.Need-long-payload-requires-6
-long-payload-requires-6 c κs = (c .before .before .before .before .before .before .before .before .before .before .pre .2, lay.scanned-from-start _ _ _ _ _ (c .before .scan-push .ensures) (omega arith))
+long-payload-requires-5 : tie.Need-long-payload-requires-5
+long-payload-requires-5 c κs = (c .before .before .before .before .before .before .before .before .before .before .pre .2, lay.scanned-from-start _ _ _ _ _ (c .before .scan-push .ensures) (omega arith))
 
 scan-branch-requires : tie.Need-scan-branch-requires
 scan-branch-requires c κs = search needs
@@ -108,8 +108,8 @@ flat-payload-requires-5 c κs = search needs
 scan-define-function-requires : tie.Need-scan-define-function-requires
 scan-define-function-requires c κs = search needs
 
-long-payload-requires-7 : tie.Need-long-payload-requires-7
-long-payload-requires-7 c κs = (c .before .before .before .before .before .before .before .before .pre .2, lay.scanned-from-start _ _ _ _ _ (c .before .scan-define-function .ensures) (omega arith))
+function-payload-requires-2 : tie.Need-function-payload-requires-2
+function-payload-requires-2 c κs = (c .before .before .before .before .before .before .before .before .pre .2, lay.scanned-from-start _ _ _ _ _ (c .before .scan-define-function .ensures) (omega arith))
 
 scan-branch-requires-2 : tie.Need-scan-branch-requires-2
 scan-branch-requires-2 c κs = search needs
@@ -163,7 +163,7 @@ same-length-5 : tie.Need-same-length-5
 same-length-5 c = search needs
 
 returns-9 : tie.Need-returns-9
-returns-9 c = arms.arm-define-function-2 _ _ _ _ _ _ _ (c .before .before .before .before .before .before .before .before .before .before .before .pre .3 .bytes) (omega arith) _ (c .before .before .before .before .before .match .keys9) (c .before .before .before .before .scan-define-function-2 .ensures) (c .before .before .long-payload5 .ensures .0) (c .before .before .long-payload5 .ensures .1)
+returns-9 c = arms.arm-define-function-2 _ _ _ _ _ _ _ (c .before .before .before .before .before .before .before .before .before .before .before .pre .3 .bytes) (omega arith) _ (c .before .before .before .before .before .match .keys9) (c .before .before .before .before .scan-define-function-2 .ensures) (c .before .before .function-payload .ensures .0) (c .before .before .function-payload .ensures .1)
 
 same-length-6 : tie.Need-same-length-6
 same-length-6 c = search needs
@@ -178,7 +178,7 @@ same-length-7 : tie.Need-same-length-7
 same-length-7 c = search needs
 
 returns-12 : tie.Need-returns-12
-returns-12 c = arms.arm-push _ _ _ _ _ _ _ _ _ (c .before .before .before .before .before .before .before .match .keys12) (omega (arith, c .before .before .before .before .before .before .push-len .ensures)) (c .before .before .before .before .scan-push .ensures) (c .before .before .long-payload6 .ensures .0) (c .before .before .long-payload6 .ensures .1)
+returns-12 c = arms.arm-push _ _ _ _ _ _ _ _ _ (c .before .before .before .before .before .before .before .match .keys12) (omega (arith, c .before .before .before .before .before .before .push-len .ensures)) (c .before .before .before .before .scan-push .ensures) (c .before .before .long-payload5 .ensures .0) (c .before .before .long-payload5 .ensures .1)
 
 returns-13 : tie.Need-returns-13
 returns-13 c = arms.arm-jump _ _ _ _ _ _ (omega arith) (c .before .match .keys13) (c .scan-branch .ensures)
@@ -190,7 +190,7 @@ same-length-8 : tie.Need-same-length-8
 same-length-8 c = search needs
 
 returns-15 : tie.Need-returns-15
-returns-15 c = arms.arm-define-function _ _ _ _ _ _ _ (c .before .before .before .before .before .before .before .before .before .before .before .pre .3 .bytes) (omega arith) _ (c .before .before .before .before .before .match .keys15) (c .before .before .before .before .scan-define-function .ensures) (c .before .before .long-payload7 .ensures .0) (c .before .before .long-payload7 .ensures .1)
+returns-15 c = arms.arm-define-function _ _ _ _ _ _ _ (c .before .before .before .before .before .before .before .before .before .before .before .pre .3 .bytes) (omega arith) _ (c .before .before .before .before .before .match .keys15) (c .before .before .before .before .scan-define-function .ensures) (c .before .before .function-payload2 .ensures .0) (c .before .before .function-payload2 .ensures .1)
 
 returns-16 : tie.Need-returns-16
 returns-16 c = arms.arm-if _ _ _ _ _ _ (omega arith) (c .before .match .keys16) (c .scan-branch2 .ensures)
@@ -231,17 +231,17 @@ scan-payload-spec =
     scan-bytes-requires-3
     flat-payload-requires-4
     scan-define-function-2-requires
-    long-payload-requires-5
+    function-payload-requires
     scan-try-requires
     push-len-requires
     add-t38
     scan-push-requires
-    long-payload-requires-6
+    long-payload-requires-5
     scan-branch-requires
     scan-get-url-2-requires
     flat-payload-requires-5
     scan-define-function-requires
-    long-payload-requires-7
+    function-payload-requires-2
     scan-branch-requires-2
     add-t46
     scan-goto-frame-2-requires

@@ -9,6 +9,9 @@ slice-aggregate-read-sheet c = search needs
 slice-aggregate-read-sheet-2 : tie.Need-slice-aggregate-read-sheet-2
 slice-aggregate-read-sheet-2 c = search needs
 
+slice-aggregate-read-sheet-3 : tie.Need-slice-aggregate-read-sheet-3
+slice-aggregate-read-sheet-3 c = search needs
+
 read-sheet-requires : tie.Need-read-sheet-requires
 read-sheet-requires c κs = lent-zeros
 
@@ -57,6 +60,7 @@ answer-spec =
     (tie.spec
     slice-aggregate-read-sheet
     slice-aggregate-read-sheet-2
+    slice-aggregate-read-sheet-3
     read-sheet-requires
     enum-told
     write-line-requires
