@@ -20,7 +20,7 @@ use Rattle.laws.specs.Modes.{plain-if, plain-far}
 use Rattle.laws.specs.ReadFits.{good-got, body-good}
 use Rattle.laws.specs.Packed.{spells, same-tree}
 use Rattle.laws.specs.Within.{AllWithin, body-within, Recorded, lookup-within}
-use Rattle.labels.specs.Table.{slot, homed, recordIn, TableHolds}
+use Rattle.labels.specs.Table.{slotOf, kept, homed, recordIn, TableHolds}
 use Rattle.positions.specs.declared.BytePosition.{BytePosition}
 use Rattle.labels.proofs.Labels.{table-record, both-record}
 use Rattle.laws.specs.Resolved.{bodyLength, bodyEvents}
@@ -71,9 +71,9 @@ only-branches rule final (bodyTooLong n s ∷ es) = only-branches rule final es
 slots-small : (end : ℕ) (tab : List ℕ) (es : List Event) → end ≤ 1099511627776 → TableHolds 1024 tab es → AllWithin end es → (l : ℕ) → getD tab l 0 ≤ 1099511627777
 slots-small end tab es m h k l = go (ltb l 1024) refl
   where
-    slot-within : (o : Option Position) → Recorded end o → slot o ≤ end + 1
-    slot-within none h = unfold slot in omega arith
-    slot-within (some s) h = unfold slot in omega (arith, h)
+    slot-within : (o : Option Position) → Recorded end o → kept slotOf o ≤ end + 1
+    slot-within none h = unfold kept in omega arith
+    slot-within (some s) h = unfold kept in omega (arith, h)
 
     go : (t : Bool) → ltb l 1024 ≡ t → getD tab l 0 ≤ 1099511627777
     go true e = omega (arith, m, h .holds l (ltb-true l 1024 e), slot-within (lookup l es) (lookup-within end l es k))

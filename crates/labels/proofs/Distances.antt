@@ -1,12 +1,14 @@
 -- Laws of a label's record, and of a branch's distance and its bits. Assumes nothing.
-use mathlib.Core.Path.{_≡_, refl}
-use mathlib.Core.Bool.{Bool, true, false, not, _&&_}
+use mathlib.Core.Path.{_≡_, refl, sym}
+use mathlib.Core.Bool.{Bool, true, false, false≢true, not, _&&_}
+use mathlib.Core.Option.{Option, none, some}
 use Prim.Native.Nat.{ℕ, zero, suc, _+_, _-_, _%_, _≤_, _<_}
 use native.Mathlib.Omega.{arith}
 use borrow.Author.Tests.{lt-ltb, le-ltb, ltb-true, ltb-false, le-leb, lt-leb}
 use lib.Dec.{ltb, leb, eqb}
 use lib.IntN.{subℕ}
 use Rattle.layout.specs.Numbers.{bits64}
+use Rattle.layout.specs.Write.{Position}
 use Rattle.layout.specs.Judge.{distance, isNear}
 use Rattle.labels.specs.Table.{recordOf, isRecorded, homed, isAtHome, isFar}
 
@@ -34,16 +36,17 @@ unfolding isRecorded recordOf
 slot-full zero h = absurd (h refl)
 slot-full (suc n) h = refl
 
--- ---- a slot's home
+-- ---- a record's home
 
-pub home-none : (slot home here : ℕ) → slot ≡ 0 → true ≡ isAtHome here (homed home (recordOf slot))
-unfolding isAtHome homed recordOf
-home-none slot home here h = rw h
+pub home-none : (home here : ℕ) (o : Option Position) → not (isRecorded o) ≡ true → true ≡ isAtHome here (homed home o)
+unfolding isRecorded isAtHome homed
+home-none home here none e = refl
+home-none home here (some s) e = absurd (false≢true e)
 
-pub home-some : (slot home here : ℕ) → (slot ≡ 0 → ⊥) → eqb home here ≡ isAtHome here (homed home (recordOf slot))
-unfolding isAtHome homed recordOf
-home-some zero home here h = absurd (h refl)
-home-some (suc n) home here h = refl
+pub home-some : (home here : ℕ) (o : Option Position) → not (isRecorded o) ≡ false → eqb home here ≡ isAtHome here (homed home o)
+unfolding isRecorded isAtHome homed
+home-some home here none e = absurd (false≢true (sym e))
+home-some home here (some s) e = refl
 
 -- ---- a slot's distance
 

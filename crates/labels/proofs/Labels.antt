@@ -1,5 +1,5 @@
 -- What the label table holds, and what reading says of a body's entries. Assumes nothing.
-use mathlib.Core.Path.{_≡_, refl, sym, ap, ap₂, _∙_}
+use mathlib.Core.Path.{_≡_, refl, ap, ap₂, _∙_}
 use Prim.Native.Nat.{ℕ, zero, suc, _+_, _*_, _≤_, _<_}
 use native.Mathlib.Numerals.{add-one}
 use native.Mathlib.Omega.{arith}
@@ -16,7 +16,7 @@ use Rattle.layout.specs.Read.{Terms, Place, ahead, got, ifWhole, ifWithin, test
 use Rattle.layout.specs.Write.{Position, Event, labelAt, branchAt, payloadTooLong, bodyTooLong, later, recordIf, lookup, distanceBits}
 use Rattle.layout.specs.Judge.{distance, isNear, farUnless, judged}
 use Rattle.laws.specs.ReadFits.{Good, fine, refused, good-then, good-got}
-use Rattle.labels.specs.Table.{slotOf, slot, recordOf, recordAt, homeOf, homed, recordIn, recordAll, Tables, tables, recorded, TableHolds, HomesHold, isFar, entriesAt, Rising, end, next}
+use Rattle.labels.specs.Table.{slotOf, recordOf, recordAt, homeOf, homed, recordIn, recordAll, Tables, tables, recorded, Cleared, kept, Keeps, TableHolds, HomesHold, isFar, entriesAt, Rising, end, next}
 use Rattle.labels.proofs.Distances.{far-unless-near}
 
 -- ---- the table
@@ -65,24 +65,19 @@ pub recorded-append : (xs ys : List Event) (t : Tables) → recorded (xs ++ ys) 
 unfolding recorded
 recorded-append xs ys t = ap₂ tables (recordAll-append slotOf xs ys (t .positions)) (recordAll-append homeOf xs ys (t .homes))
 
--- the slot of a label without a record at first holds its last record in the end
-pub table-holds : (l : ℕ) (es : List Event) (tab : List ℕ) → l < length tab → getD tab l 0 ≡ 0 → getD (recordAll slotOf es tab) l 0 ≡ slot (lookup l es)
-unfolding slot slotAfter
-table-holds l es tab h z = slot-holds slotOf l es tab h ∙ go (lookup l es)
+-- a table that held nothing holds what it keeps of each label's last record in the end
+pub keeps : (keep : Position → ℕ) (es : List Event) (tab new : List ℕ) (bound : ℕ) → Cleared tab → bound ≡ length tab → new ≡ recordAll keep es tab → Keeps keep bound new es
+unfolding kept slotAfter
+keeps keep es tab new bound z b e =
+    rw (b, e) (record { slots = length-recordAll keep es tab; holds = λ l h. slot-holds keep l es tab h ∙ go (lookup l es) (z l h) })
   where
-    go : (o : Option Position) → slotAfter slotOf (getD tab l 0) o ≡ slot o
-    go none = z
-    go (some s) = refl
-
--- and a table of homes, whatever it held, its home
-pub homes-hold : (es : List Event) (homes : List ℕ) → HomesHold (recordAll homeOf es homes) es
-unfolding slotAfter
-homes-hold es homes =
-    record { holds = λ l s h e. slot-holds homeOf l es homes (rw (sym (length-recordAll homeOf es homes)) h) ∙ ap (slotAfter homeOf (getD homes l 0)) e }
+    go : (o : Option Position) {n : ℕ} → n ≡ 0 → slotAfter keep n o ≡ kept keep o
+    go none h = h
+    go (some s) h = refl
 
 -- a slot gives its record back, but for its home
-pub record-of-slot : (o : Option Position) → recordOf (slot o) ≡ homed 0 o
-unfolding recordOf slot homed
+pub record-of-slot : (o : Option Position) → recordOf (kept slotOf o) ≡ homed 0 o
+unfolding recordOf kept homed
 record-of-slot none = refl
 record-of-slot (some s) = rw add-one
 
@@ -93,12 +88,12 @@ table-record bound tab es h l k = ap recordOf (h .holds l k) ∙ record-of-slot 
 -- with the table of homes it is the events' record
 pub both-record : (bound : ℕ) (tab homes : List ℕ) (es : List Event) → TableHolds bound tab es → HomesHold homes es → (l : ℕ) → l < bound → l < length homes
     → recordIn tab homes l ≡ lookup l es
-unfolding homed
+unfolding homed kept
 both-record bound tab homes es h g l k m = ap (homed (getD homes l 0)) (table-record bound tab es h l k) ∙ go (lookup l es) refl
   where
     go : (o : Option Position) → lookup l es ≡ o → homed (getD homes l 0) (homed 0 o) ≡ o
     go none e = refl
-    go (some s) e = rw (g .holds l s m e)
+    go (some s) e = rw (g .holds l m ∙ ap (kept homeOf) e)
 
 -- ---- what does not ask for a record's home
 

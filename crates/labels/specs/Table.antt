@@ -13,14 +13,9 @@ use Rattle.layout.specs.Write.{Position, position, Event, labelAt, branchAt, pa
 
 -- ---- the table of positions
 
--- what it keeps of a label's record: its position + 1
+-- what it keeps of a label's record: its position + 1, since 0 stands for none
 abbrev pub slotOf : Position → ℕ
 slotOf s = s .at + 1
-
--- what it holds for a label number, 0 without a record
-unfoldable pub slot : Option Position → ℕ
-slot none = 0
-slot (some s) = slotOf s
 
 -- the record that a slot holds, but for its home, which this table does not keep: 0 stands there
 unfoldable pub recordOf : ℕ → Option Position
@@ -78,14 +73,27 @@ tables tab homes = record { positions = tab; homes = homes }
 unfoldable pub recorded : List Event → Tables → Tables
 recorded es t = tables (recordAll slotOf es (t .positions)) (recordAll homeOf es (t .homes))
 
--- a table of `bound` slots holds each label's final record among these events
-pub record TableHolds (bound : ℕ) (tab : List ℕ) (es : List Event) : Type 0 where
-  pub slots : length tab ≡ bound
-  pub holds : (l : ℕ) → l < bound → getD tab l 0 ≡ slot (lookup l es)
+-- a table that holds nothing yet
+abbrev pub Cleared : List ℕ → Type 0
+Cleared tab = (l : ℕ) → l < length tab → getD tab l 0 ≡ 0
 
--- and a table of homes the home of each one's
-pub record HomesHold (homes : List ℕ) (es : List Event) : Type 0 where
-  pub holds : (l : ℕ) (s : Position) → l < length homes → lookup l es ≡ some s → getD homes l 0 ≡ s .home
+-- what a slot holds of a label's final record: what the table keeps of it, 0 without one
+unfoldable pub kept : (Position → ℕ) → Option Position → ℕ
+kept keep none = 0
+kept keep (some s) = keep s
+
+-- a table of `bound` slots holds this of each label's final record among these events
+pub record Keeps (keep : Position → ℕ) (bound : ℕ) (tab : List ℕ) (es : List Event) : Type 0 where
+  pub slots : length tab ≡ bound
+  pub holds : (l : ℕ) → l < bound → getD tab l 0 ≡ kept keep (lookup l es)
+
+-- the table of positions does
+abbrev pub TableHolds : ℕ → List ℕ → List Event → Type 0
+TableHolds bound tab es = Keeps slotOf bound tab es
+
+-- and that of homes, for as many labels as it has slots
+abbrev pub HomesHold : List ℕ → List Event → Type 0
+HomesHold homes es = Keeps homeOf (length homes) homes es
 
 -- ---- the entries
 

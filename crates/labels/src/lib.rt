@@ -108,7 +108,7 @@ pub fn is_at_home(tab: &[usize], homes: &[usize], label: usize, home: BytePositi
     requires { ⌜ (label < length (now tab)) × (label < length (now homes)) ⌝ }
     ensures { λ r. ⌜ r ≡ isAtHome (home .0) (recordIn (now (tab .entry)) (now (homes .entry)) label) ⌝ }
 {
-    if tab[label] == 0 {
+    if !is_recorded(tab, label) {
         return true;
     }
     homes[label] == home.0

@@ -124,35 +124,35 @@ distinct t h k xs ys zs e same = omega (arith, rises-two 0 (blockSize t) h k xs 
 -- ---- whatever is written has one of them
 
 -- where an event stands
-unfoldable pub positionOf : Event → Position
-positionOf (labelAt l s) = s
-positionOf (branchAt l s) = s
-positionOf (payloadTooLong n s) = s
-positionOf (bodyTooLong n s) = s
+unfoldable pub eventPosition : Event → Position
+eventPosition (labelAt l s) = s
+eventPosition (branchAt l s) = s
+eventPosition (payloadTooLong n s) = s
+eventPosition (bodyTooLong n s) = s
 
 -- what holds of the home around a part of the tree and of the homes made in it holds of the home of each event
 module _ (P : ℕ → Type 0) where
   abbrev Housed : List Event → Type 0
-  Housed es = All (λ e. P (positionOf e .home)) es
+  Housed es = All (λ e. P (eventPosition e .home)) es
 
   join : (xs ys : List Event) → Housed xs → Housed ys → Housed (xs ++ ys)
-  join xs ys h k = all-append (λ e. P (positionOf e .home)) xs ys h k
+  join xs ys h k = all-append (λ e. P (eventPosition e .home)) xs ys h k
 
-  if-housed : (z : Bool) (e : Event) → P (positionOf e .home) → Housed (eventIf z e)
+  if-housed : (z : Bool) (e : Event) → P (eventPosition e .home) → Housed (eventIf z e)
   unfolding eventIf
   if-housed true e h = (h, tt)
   if-housed false e h = tt
 
   payload-housed : (n : ℕ) (s : Position) → P (s .home) → Housed (payloadTest n s)
-  unfolding payloadTest positionOf
+  unfolding payloadTest eventPosition
   payload-housed n s h = if-housed (ltb 65535 n) (payloadTooLong n s) h
 
   length-housed : (n : ℕ) (s : Position) → P (s .home) → Housed (bodyTest n s)
-  unfolding bodyTest positionOf
+  unfolding bodyTest eventPosition
   length-housed n s h = if-housed (ltb 65535 n) (bodyTooLong n s) h
 
   labels-housed : (es : List Entry) (i : ActionIndex) (s : Position) → P (s .home) → Housed (labelsAt es i s)
-  unfolding labelsAt positionOf
+  unfolding labelsAt eventPosition
   labels-housed [] i s h = tt
   labels-housed (entry l j ∷ es) i s h = join (eventIf (eqb (i .index) (j .index)) (labelAt l s)) _ (if-housed (eqb (i .index) (j .index)) (labelAt l s) h) (labels-housed es i s h)
 
@@ -165,7 +165,7 @@ module _ (P : ℕ → Type 0) where
       go (x ∷ xs) i = i .0
 
   mutual
-    unfolding trace homes moved positionOf
+    unfolding trace homes moved eventPosition
 
     action-housed : (a : Action) (s : Position) → P (s .home) → All P (homes a s) → Housed (trace a s)
     action-housed (flat f) s h k = payload-housed _ s h
@@ -204,6 +204,6 @@ all-of P [] f = tt
 all-of P (x ∷ xs) f = (f x (first refl), all-of P xs (λ y m. f y (further m)))
 
 -- so the home of every label and of every branch is that of a function body, "the main block being one"
-pub events-housed : (t : Actions) → All (λ e. Among (positionOf e .home) (homesOf t)) (events t)
+pub events-housed : (t : Actions) → All (λ e. Among (eventPosition e .home) (homesOf t)) (events t)
 unfolding events
 events-housed t = body-housed (λ h. Among h (homesOf t)) t blockStart (first refl) (all-of _ (homesBody t blockStart) (λ x m. further m))

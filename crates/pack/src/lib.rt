@@ -2,6 +2,7 @@
 ghost use Rattle.layout.specs.Pack.{Outcome};
 ghost use Rattle.answer.specs.Answered.{number, value};
 ghost use Rattle.scan.specs.Mains.{MainWhole};
+ghost use Rattle.labels.specs.Table.{Cleared};
 ghost use Rattle.judge.specs.Judging.{modeOf, HomesLent};
 ghost use Rattle.pack.specs.Steps.{TellsFault, TellsBranch, MainShort, MainPacked};
 use answer::Answer;
@@ -81,9 +82,9 @@ fn pack_whole(
     pack_short(b, end, mode, tab, homes, out)
 }
 
-// Packs a sheet by a table of homes: one for each label where the mode is contained, else none.
+// Packs a sheet by an empty table of homes, with a slot for each label where the mode is contained.
 fn pack_with_homes(sheet: &[u8], mode: Mode, homes: &mut [usize], out: &mut [u8]) -> Answer
-    requires { ⌜ HomesLent (modeOf mode) (now homes) ⌝ }
+    requires { ⌜ HomesLent (modeOf mode) (now homes) × Cleared (now homes) ⌝ }
     ensures { λ r. ⌜ Outcome (modeOf mode) (now (sheet .entry)) (now (out .entry)) (number r) (value r) (now (out .exit)) ⌝ }
 {
     let mut tab = [0; 1024];
@@ -98,7 +99,8 @@ fn pack_with_homes(sheet: &[u8], mode: Mode, homes: &mut [usize], out: &mut [u8]
     }
 }
 
-// Packs a sheet into the lent output, whose bytes past a Done length keep their values. Only a contained mode pays for the homes.
+// Packs a sheet into the lent output, whose bytes past a Done length keep their values. Only in a contained mode has the table of
+// homes any slot, and takes time to clear.
 pub fn pack(sheet: &[u8], mode: Mode, out: &mut [u8]) -> Answer
     ensures { λ r. ⌜ Outcome (modeOf mode) (now (sheet .entry)) (now (out .entry)) (number r) (value r) (now (out .exit)) ⌝ }
 {

@@ -28,7 +28,7 @@ fn read_main(
     homes: &mut [usize],
     over: &mut [usize],
 ) -> Reading
-    requires { ⌜ (length (now b) ≤ 1048576) × (start ≤ 1048576) × Empty (now tab) (now over) ⌝ }
+    requires { ⌜ (length (now b) ≤ 1048576) × (start ≤ 1048576) × Empty (now tab) (now homes) (now over) ⌝ }
     ensures { λ r. ⌜ MainRead (now (b .entry)) start end (now (tab .exit)) (now (homes .exit)) (now (over .exit)) r ⌝ }
 {
     match scan_main(b, tab, homes, over) {
@@ -40,15 +40,15 @@ fn read_main(
     }
 }
 
-// Reads a sheet. The label table and the two numbers for the first of 8 and 9 are lent empty; of the homes as many are kept as are
-// lent.
+// Reads a sheet. The label tables and the two numbers for the first of 8 and 9 are lent empty; of the homes as many are kept as there
+// are slots.
 pub fn read_sheet(
     sheet: &[u8],
     tab: &mut [usize],
     homes: &mut [usize],
     over: &mut [usize],
 ) -> Reading
-    requires { ⌜ Empty (now tab) (now over) ⌝ }
+    requires { ⌜ Empty (now tab) (now homes) (now over) ⌝ }
     ensures { λ r. ⌜ SheetRead (now (sheet .entry)) (now (tab .exit)) (now (homes .exit)) (now (over .exit)) r ⌝ }
 {
     match cut_main(sheet) {

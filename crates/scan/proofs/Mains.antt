@@ -1,5 +1,5 @@
 -- Laws of a whole main body: from what the walk leaves to the final table and the first overflow. Assumes nothing.
-use mathlib.Core.Path.{_≡_, refl, ap, _∙_}
+use mathlib.Core.Path.{_≡_, refl, sym, ap, _∙_}
 use Prim.Native.Nat.{ℕ, _+_, _≤_, _<_}
 use native.Mathlib.Omega.{arith}
 use mathlib.Core.List.{List, [], _∷_}
@@ -18,8 +18,8 @@ use Rattle.layout.specs.Pack.{spelling}
 use Rattle.laws.specs.Fits.{Bytes}
 use Rattle.laws.specs.ReadFits.{good-got, good-bad, body-good, main-good}
 use Rattle.laws.specs.Packed.{spells}
-use Rattle.labels.specs.Table.{slotOf, homeOf, recordAll, tables, recorded}
-use Rattle.labels.proofs.Labels.{length-recordAll, table-holds, homes-hold}
+use Rattle.labels.specs.Table.{slotOf, homeOf, recordAll, tables, recorded, Cleared}
+use Rattle.labels.proofs.Labels.{length-recordAll, keeps}
 use Rattle.positions.specs.declared.BytePosition.{BytePosition}
 use Rattle.positions.specs.declared.Scan.{Scan}
 use Rattle.positions.specs.declared.Scan.the-variants as scan
@@ -70,15 +70,18 @@ first-held (bodyTooLong n s ∷ es) over l e = rw (kept-first over l 9 n es (ome
 
 -- ---- what a caller lends: zeros
 
-pub lent-zeros : Empty (replicate 1024 0) (replicate 2 0)
-lent-zeros = record { full = length-replicate {A = ℕ} 1024 0; zeros = λ l h. getD-replicate {A = ℕ} 1024 l 0 0 h; two = refl; nothing = (refl, refl) }
+pub zeros-cleared : (n : ℕ) → Cleared (replicate n 0)
+zeros-cleared n l h = getD-replicate {A = ℕ} n l 0 0 (omega (arith, length-replicate {A = ℕ} n 0))
+
+pub lent-zeros : (homes : List ℕ) → Cleared homes → Empty (replicate 1024 0) homes (replicate 2 0)
+lent-zeros homes h = record { full = length-replicate {A = ℕ} 1024 0; no-records = zeros-cleared 1024; no-homes = h; two = refl; nothing = (refl, refl) }
 
 -- ---- what scan_main answers
 
-pub ready : (b tab over : List ℕ) → Bytes b → Empty tab over → length b ≤ 1048576 → Ready b 0 (record { 0 = 0 }) tab over
-ready b tab over small e h = record { roomy = record { bytes = small; inside = omega arith; room = omega arith }; full = e .full; two = e .two }
+pub ready : (b tab homes over : List ℕ) → Bytes b → Empty tab homes over → length b ≤ 1048576 → Ready b 0 (record { 0 = 0 }) tab over
+ready b tab homes over small e h = record { roomy = record { bytes = small; inside = omega arith; room = omega arith }; full = e .full; two = e .two }
 
-module _ (b tab homes over : List ℕ) (small : Bytes b) (e : Empty tab over) where
+module _ (b tab homes over : List ℕ) (small : Bytes b) (e : Empty tab homes over) where
   module _ (r : Scan) (tab′ homes′ over′ : List ℕ)
       (o : Ran (outcome bodyLength bodyEvents blockStart (state (tables tab homes) over) (readBody edition1 b 16 (placed 0))) r (state (tables tab′ homes′) over′)) where
     pub main-stops : (f : Fault) (p : ℕ) → r ≡ scan.Stops f p → MainScanned tab′ homes′ over′ (readMain edition1 b deepest) (scan.Stops f p)
@@ -116,11 +119,9 @@ module _ (b tab homes over : List ℕ) (small : Bytes b) (e : Empty tab over) wh
               let d : homes′ ≡ recordAll homeOf (bodyEvents t blockStart) homes = ap (λ (v : State). v .labels .homes) s in
               let c : over′ ≡ noteAll (bodyEvents t blockStart) over = ap (λ (v : State). v .over) s in
               rw (x, eq-eqb q (length b) (omega (arith, g .1))) (whole {x = t} {p = placed q} {w = w} (omega arith)
-              (record {
-                slots = ap length a ∙ length-recordAll slotOf (bodyEvents t blockStart) tab ∙ e .full;
-                holds = λ l i. ap (λ v. getD v l 0) a ∙ table-holds l (bodyEvents t blockStart) tab (omega (arith, e .full)) (e .zeros l i);
-              })
-              (rw d (homes-hold (bodyEvents t blockStart) homes)) (rw c (first-held (bodyEvents t blockStart) over (e .two) (e .nothing))))
+              (keeps slotOf (bodyEvents t blockStart) tab tab′ 1024 (e .no-records) (sym (e .full)) a)
+              (keeps homeOf (bodyEvents t blockStart) homes homes′ (length homes′) (e .no-homes) (ap length d ∙ length-recordAll homeOf (bodyEvents t blockStart) homes) d)
+              (rw c (first-held (bodyEvents t blockStart) over (e .two) (e .nothing))))
 
 -- the place of a fault lies in the main body
 pub main-place : (b tab homes over : List ℕ) (r : Scan) → Bytes b → MainScanned tab homes over (readMain edition1 b deepest) r → (f : Fault) (p : ℕ) → r ≡ scan.Stops f p → p ≤ length b

@@ -1,6 +1,6 @@
 -- What the walk of a whole main body asks and promises. Assumes nothing.
 use mathlib.Core.Path.{_≡_}
-use Prim.Native.Nat.{ℕ, _<_}
+use Prim.Native.Nat.{ℕ}
 use mathlib.Core.Option.{Option, none, some}
 use mathlib.Core.List.{List}
 use lib.ListN.{length, getD}
@@ -13,17 +13,18 @@ use Rattle.layout.specs.Strings.{mapBody}
 use Rattle.layout.specs.Write.{events, bodySize}
 use Rattle.layout.specs.Judge.{tooLong}
 use Rattle.layout.specs.Pack.{spelling}
-use Rattle.labels.specs.Table.{TableHolds, HomesHold}
+use Rattle.labels.specs.Table.{Cleared, TableHolds, HomesHold}
 use Rattle.labels.specs.Mains.{MainMeasured}
 use Rattle.positions.specs.declared.BytePosition.{BytePosition}
 use Rattle.positions.specs.Scanned.{faultOf}
 use Rattle.positions.specs.declared.Scan.{Scan}
 use Rattle.positions.specs.declared.Scan.the-variants as scan
 
--- what the caller lends: an empty table, and nothing noted
-pub record Empty (tab over : List ℕ) : Type 0 where
+-- what the caller lends: empty tables, a slot for each label in the first, and nothing noted
+pub record Empty (tab homes over : List ℕ) : Type 0 where
   pub full : length tab ≡ 1024
-  pub zeros : (l : ℕ) → l < 1024 → getD tab l 0 ≡ 0
+  pub no-records : Cleared tab
+  pub no-homes : Cleared homes
   pub two : length over ≡ 2
   pub nothing : (getD over 0 0 ≡ 0) × (getD over 1 0 ≡ 0)
 

@@ -10,7 +10,7 @@ use positions::Scan;
 
 // A whole main body: no byte of it is left over.
 pub fn scan_main(b: &[u8], tab: &mut [usize], homes: &mut [usize], over: &mut [usize]) -> Scan
-    requires { ⌜ (length (now b) ≤ 1048576) × Empty (now tab) (now over) ⌝ }
+    requires { ⌜ (length (now b) ≤ 1048576) × Empty (now tab) (now homes) (now over) ⌝ }
     ensures { λ r. ⌜ MainScanned (now (tab .exit)) (now (homes .exit)) (now (over .exit)) (readMain edition1 (now (b .entry)) deepest) r ⌝ }
 {
     match scan_body(b, 0, 16, BytePosition(0), BytePosition(0), tab, homes, over) {

@@ -18,7 +18,7 @@ slice-aggregate-read-sheet-2 : tie.Need-slice-aggregate-read-sheet-2
 slice-aggregate-read-sheet-2 c = search needs
 
 read-sheet-requires : tie.Need-read-sheet-requires
-read-sheet-requires c κs = lent-zeros
+read-sheet-requires c κs = lent-zeros _ (c .before .before .before .before .before .before .pre .1)
 
 enum-known-n : tie.Need-enum-known-n
 enum-known-n c = search needs
@@ -61,7 +61,7 @@ slice-aggregate-pack-whole-2 : tie.Need-slice-aggregate-pack-whole-2
 slice-aggregate-pack-whole-2 c = search needs
 
 pack-whole-requires : tie.Need-pack-whole-requires
-pack-whole-requires c κs = (here (c .before .before .before .before .before) .2, λ e. c .before .before .before .before .before .before .before .before .before .before .before .before .read-sheet .kept .1 .1 .0 ∙ c .before .before .before .before .before .before .before .before .before .before .before .before .before .before .before .before .before .before .before .pre e)
+pack-whole-requires c κs = (here (c .before .before .before .before .before) .2, λ e. c .before .before .before .before .before .before .before .before .before .before .before .before .read-sheet .kept .1 .1 .0 ∙ c .before .before .before .before .before .before .before .before .before .before .before .before .before .before .before .before .before .before .before .pre .0 e)
 
 same-length : tie.Need-same-length
 same-length c = search needs

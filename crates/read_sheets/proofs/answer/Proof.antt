@@ -1,4 +1,4 @@
-use Rattle.scan.proofs.Mains.{lent-zeros}
+use Rattle.scan.proofs.Mains.{zeros-cleared, lent-zeros}
 use borrow.Author.Needs.{needs}
 use Rattle.read_sheets.proofs.answer.Statement.{statement}
 use Rattle.read_sheets.proofs.answer.Tie as tie
@@ -13,7 +13,7 @@ slice-aggregate-read-sheet-3 : tie.Need-slice-aggregate-read-sheet-3
 slice-aggregate-read-sheet-3 c = search needs
 
 read-sheet-requires : tie.Need-read-sheet-requires
-read-sheet-requires c κs = lent-zeros
+read-sheet-requires c κs = lent-zeros _ (zeros-cleared 0)
 
 enum-told : tie.Need-enum-told
 enum-told c = search needs

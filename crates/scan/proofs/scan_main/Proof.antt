@@ -7,7 +7,7 @@ use Rattle.scan.proofs.scan_main.Statement.{statement}
 use Rattle.scan.proofs.scan_main.Tie as tie
 
 scan-body-requires : tie.Need-scan-body-requires
-scan-body-requires c κs = ready _ _ _ (all-bytes (c .before .before .before .before .before .before .before .args .b .now) (λ i l. omega (arith, c .before .before .before .before .before .before .shared-slice-known .given i))) (c .before .before .before .before .before .before .before .pre .1) (c .before .before .before .before .before .before .before .pre .0)
+scan-body-requires c κs = ready _ _ _ _ (all-bytes (c .before .before .before .before .before .before .before .args .b .now) (λ i l. omega (arith, c .before .before .before .before .before .before .shared-slice-known .given i))) (c .before .before .before .before .before .before .before .pre .1) (c .before .before .before .before .before .before .before .pre .0)
 
 enum-known-f : tie.Need-enum-known-f
 enum-known-f c = search needs
