@@ -55,6 +55,20 @@ int main(void)
     sheet[8] = 0x98;                        /* no opcode: UnknownCode at byte 8 of the sheet */
     show(sheet, sizeof sheet, true, false);
 
+    uint8_t form[] = {
+        0x01, 0x00,             /* one label entry: */
+        0x00, 0x04, 0x00, 0x00, /* label 1,024 stands before action 0 */
+        0x01, 0x00,             /* one action: */
+        0x99, 0x00, 0x04,       /* Jump to label 1,024 */
+        0x0B, 0x00, 0x00, 0x00, /* trailer: the main body begins 11 bytes before it, */
+        0x02, 0x00, 0x41, 0x31, /* edition 2, which has label numbers up to 4,095, and the mark */
+    };
+    show(form, sizeof form, false, false);
+    form[15] = 1; /* edition 1: BadField at byte 2 of the sheet, since its label numbers are up to 1,023 */
+    show(form, sizeof form, false, false);
+    form[15] = 3; /* no edition: BadTrailer */
+    show(form, sizeof form, false, false);
+
     const uint8_t into[] = {
         0x00, 0x00,                         /* no label entry */
         0x02, 0x00,                         /* two actions: */

@@ -52,6 +52,9 @@ extern "C" {
  * Packs sheet into the front of out: 0 to 11, 14 or 15. Bytes of out past a Done length keep their values, and on any other
  * answer all do. A block is never longer than 3 x sheet_len. With out_len 0, NO_ROOM tells the length that a good sheet needs.
  *
+ * The trailer of a sheet tells its edition, 1 or 2; any other is BAD_TRAILER. Label numbers are 0 to 1,023 in edition 1 and 0 to
+ * 4,095 in edition 2, and any other is BAD_FIELD. All else is the same in both.
+ *
  * In plain mode, strict and contained false, a branch (If or Jump) whose label no body records has distance 0, so it goes on with
  * what stands after it. In strict mode it is refused: NEVER_RECORDED, with the byte position in the block at which its operand
  * would begin. In contained mode, strict or not, a branch is refused whose label is last recorded in another function body:

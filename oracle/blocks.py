@@ -6,8 +6,8 @@ Run in the checkout after the oracle is built: python3 oracle/blocks.py
 import struct
 import subprocess
 
-from packings import CALL, HAND, POP, jump, pattern, push, string
-from readings import ORACLE, body, nested, sheet
+from packings import CALL, HAND, HAND_2, POP, jump, pattern, push, string
+from readings import LABELS, ORACLE, OTHER_EDITIONS, body, nested, sheet, u16
 
 # What document 01 says of the program: an input, and its text.
 SAMPLE = bytes.fromhex("01 00 00 00 00 00 01 00 99 00 00 0B 00 00 00 01 00 41 31")
@@ -27,16 +27,26 @@ def as_long_as(n, main, distance=None):
     return sheet(main, note=b"n" * (n - len(main) - 8), distance=distance)
 
 
+def in_edition(edition):
+    """The sample in another edition."""
+    return SAMPLE[:-4] + u16(edition) + SAMPLE[-2:]
+
+
 def refusals():
     """2 to 7 and 9 to 11, each with the line that it must give. A sheet so short has no payload for 8."""
-    for bad in (b"", b"\x01", SAMPLE[:7], SAMPLE[:-1], SAMPLE[:-4] + b"\x02\x00A1", SAMPLE[:-1] + b"2", sheet(body(), distance=5)):
+    for bad in (b"", b"\x01", SAMPLE[:7], SAMPLE[:-1], SAMPLE[:-1] + b"2", sheet(body(), distance=5)):
         yield bad, "2 0"
+    for edition in OTHER_EDITIONS:
+        yield in_edition(edition), "2 0"
     yield sheet(body(), distance=0), "3 4"
     yield sheet(body(jump(0))[:-1]), "3 5"
     yield as_long_as(65535, body(POP) + b"\x17", distance=6), "7 65526"
     yield sheet(body(b"\xff")), "4 4"
     yield sheet(body(push(b"\x01"))), "4 7"
-    yield sheet(body(jump(1024))), "5 5"
+    for edition, bound in LABELS.items():
+        yield sheet(body(jump(bound)), edition=edition), "5 5"
+        yield sheet(body(labels=[(bound, 0)]), edition=edition), "5 2"
+    yield sheet(body(jump(4095), labels=[(4095, 0)])), "5 2"
     yield sheet(body(b"\x8b" + string(b"a\0b"))), "5 8"
     yield sheet(nested(17)), "6 80"
     yield sheet(body() + b"\x00"), "7 4"
@@ -49,9 +59,12 @@ def refusals():
 
 
 def blocks():
-    """Blocks that end before a line's end, at it and behind it; every byte; and the longest."""
+    """Blocks that end before a line's end, at it and behind it; of both editions; every byte; and the longest."""
     for main, _ in HAND:
         yield sheet(main)
+    for main, _ in HAND_2:
+        yield sheet(main, edition=2)
+    yield sheet(body(jump(4095), labels=[(n, 0) for n in range(4096)]), edition=2)
     for n in (1, 2, 15, 16, 17, 31, 32, 33, 48, 255, 256, 257, 999, 1000, 1001):
         yield of_size(n)
     yield sheet(body(b"\x8b" + string(bytes(range(1, 256)))))
@@ -77,7 +90,7 @@ def write(crate, stdin, stdout):
 
 
 def main():
-    assert text(SAMPLE) == SAMPLE_TEXT
+    assert text(SAMPLE) == text(in_edition(2)) == SAMPLE_TEXT
     write("block", SAMPLE, text(SAMPLE))
     full = as_long_as(SPACE, HAND[5][0])
     assert text(full) == "12 65536\n"
@@ -87,7 +100,7 @@ def main():
     for s, line in refusals():
         assert text(s) == line + "\n", (line, text(s))
         cases.append(s)
-    cases.append(SAMPLE)
+    cases += [in_edition(2), SAMPLE]
     write("block_cases", records(cases), "".join(map(text, cases)))
 
 

@@ -9,7 +9,7 @@ import subprocess
 from collections import Counter
 
 import readings
-from readings import ORACLE, body, function2, nested, sheet, string, u16
+from readings import LABELS, ORACLE, OTHER_EDITIONS, body, function2, nested, sheet, string, u16
 
 GENERATE = "oracle/target/release/generate"
 # The rooms that are called ample: of small sheets, and of long ones all that the program can lend.
@@ -75,6 +75,26 @@ HAND = [
     (body(attempt(body(PLAY), last=body(STOP))), "8F 08 00 02 01 00 00 00 01 00 00 06 07 00"),
     (body(b"\x9a\x01\x00\x07"), "9A 01 00 83 00"),
     (body(jump(0), with_(PLAY, labels=[(0, 0)]), labels=[(0, 0)]), "99 02 00 05 00 94 02 00 01 00 06 00"),
+]
+
+# Label numbers of edition 2 that have their low bits in common: all 0, and all 1.
+ZEROS, ONES = (0, 1024, 2048, 3072), (255, 1023, 2047, 4095)
+# Main bodies of edition 2 that name label numbers from 1,024 on, and their blocks, worked by hand.
+HAND_2 = [
+    (body(jump(4095), labels=[(4095, 0)]), "99 02 00 FB FF 00"),
+    (body(branch(1024), labels=[(1024, 1)]), "9D 02 00 00 00 00"),
+    (body(jump(1024)), "99 02 00 00 00 00"),
+    (body(jump(4095), labels=[(1023, 0), (4095, 2)]), "99 02 00 00 00 00"),
+    (
+        body(*map(jump, ZEROS), labels=zip(ZEROS, (3, 2, 1, 0))),
+        "99 02 00 0A 00 99 02 00 00 00 99 02 00 F6 FF 99 02 00 EC FF 00",
+    ),
+    (
+        body(*map(branch, ONES), labels=zip(ONES, (4, 0, 1, 2))),
+        "9D 02 00 0F 00 9D 02 00 F6 FF 9D 02 00 F6 FF 9D 02 00 F6 FF 00",
+    ),
+    (body(jump(4095), with_(PLAY, labels=[(4095, 0)]), labels=[(4095, 0)]), "99 02 00 05 00 94 02 00 01 00 06 00"),
+    (body(function(b"f", [], body(jump(1024), labels=[(1024, 0)]))), "9B 06 00 66 00 00 00 05 00 99 02 00 FB FF 00"),
 ]
 
 
@@ -148,20 +168,24 @@ def small_questions():
     """Of each sheet that plain mode takes: ample room, the exact one, one less and none."""
     mains = [main for main, _ in HAND] + [*labels_and_branches(), *strings_and_values()]
     sheets = [sheet(main) for main in mains] + [sheet(mains[11], note=b"a note"), sheet(mains[11], note=bytes(9))]
+    sheets += [sheet(main, edition=2) for main, _ in HAND + HAND_2] + [sheet(HAND_2[0][0], note=b"a note", edition=2)]
     for s, (number, n, _) in zip(sheets, answers((s, SHEETS_SPACE, PLAIN) for s in sheets)):
         yield s, SHEETS_SPACE
         if number == 0:
             yield from ((s, room) for room in (n, n - 1, 0))
     for main in every_opcode():
         yield sheet(main), SHEETS_SPACE
+    # edition 2 with small label numbers
+    for main in labels_and_branches():
+        yield sheet(main, edition=2), SHEETS_SPACE
     # 2 to 7 come before 11
-    for i, s in enumerate(readings.sheets()):
+    for i, s in enumerate([*readings.sheets(), *(s for s, _ in readings.editions())]):
         if i % 9 == 0:
             yield s, i % 2 * 7
     # a block of 64 bytes and of 65, and a sheet that takes all the room there is
     for n in (63, 64):
         yield from ((sheet(body(*[POP] * n)), room) for room in (n, n + 1, n + 2))
-    for kind in (("mixed", 300, 1, 1), ("mixed", 300, 1, 2), ("damaged", 90, 20, 3), ("small", 60, 700, 1)):
+    for kind in (("mixed", 300, 1, 1), ("mixed", 300, 1, 2), ("damaged", 90, 20, 3), ("small", 60, 701, 1)):
         yield from generated(*kind, SHEETS_SPACE)
 
 
@@ -234,57 +258,64 @@ def orders():
     yield body(*[POP] * 40000, jump(0), jump(1), labels=[(0, 0), (1, 0)]), 10, -40005
 
 
-def unrecorded():
+# By the edition: three label numbers for the sheets below, and the last that there is. The three of edition 2 have their low bits
+# in common.
+NUMBERS = {1: (0, 1, 2, 1023), 2: (*ZEROS[1:], 4095)}
+
+
+def unrecorded(edition):
     """Document 02's item 1: a main body, and the answer's number and value in plain mode and in strict mode."""
+    a, b, c, last = NUMBERS[edition]
     # P7 and P6; no entry at all; a record right behind the branch, in main and in a body
-    yield HAND[6][0], (0, 6), (14, 3)
-    yield HAND[5][0], (0, 6), (0, 6)
-    yield body(POP, branch(1023)), (0, 7), (14, 4)
-    yield body(jump(0), labels=[(0, 1)]), (0, 6), (0, 6)
-    yield body(branch(0), branch(0), labels=[(0, 1)]), (0, 11), (0, 11)
-    yield body(with_(jump(0), labels=[(0, 1)])), (0, 11), (0, 11)
+    yield body(jump(a), labels=[(a, 2)]), (0, 6), (14, 3)
+    yield body(jump(a), labels=[(a, 0)]), (0, 6), (0, 6)
+    yield body(POP, branch(last)), (0, 7), (14, 4)
+    yield body(jump(a), labels=[(a, 1)]), (0, 6), (0, 6)
+    yield body(branch(a), branch(a), labels=[(a, 1)]), (0, 11), (0, 11)
+    yield body(with_(jump(a), labels=[(a, 1)])), (0, 11), (0, 11)
     # a record only later, in another body; beside it, before or behind, an entry past its body's count
-    past, records = with_(labels=[(0, 1)]), with_(POP, labels=[(0, 1)])
-    yield body(jump(0), records), (0, 12), (0, 12)
-    yield body(jump(0), past), (0, 11), (14, 3)
-    yield body(jump(0), past, records), (0, 17), (0, 17)
-    yield body(jump(0), records, past), (0, 17), (0, 17)
-    yield body(jump(0), records, labels=[(0, 3)]), (0, 12), (0, 12)
-    yield body(jump(0), past, labels=[(0, 3), (1, 0)]), (0, 11), (14, 3)
+    past, records = with_(labels=[(a, 1)]), with_(POP, labels=[(a, 1)])
+    yield body(jump(a), records), (0, 12), (0, 12)
+    yield body(jump(a), past), (0, 11), (14, 3)
+    yield body(jump(a), past, records), (0, 17), (0, 17)
+    yield body(jump(a), records, past), (0, 17), (0, 17)
+    yield body(jump(a), records, labels=[(a, 3)]), (0, 12), (0, 12)
+    yield body(jump(a), past, labels=[(a, 3), (b, 0)]), (0, 11), (14, 3)
     # the first in writing order: inside a body before main, behind a recorded one, in each body of a Try
-    yield body(with_(branch(0)), jump(1)), (0, 16), (14, 8)
-    yield body(jump(0), with_(branch(1), jump(2)), labels=[(0, 0), (2, 0)]), (0, 21), (14, 13)
-    yield body(branch(0), jump(0), with_(jump(1)), labels=[(0, 3)]), (0, 21), (14, 18)
+    yield body(with_(branch(a)), jump(b)), (0, 16), (14, 8)
+    yield body(jump(a), with_(branch(b), jump(c)), labels=[(a, 0), (c, 0)]), (0, 21), (14, 13)
+    yield body(branch(a), jump(a), with_(jump(b)), labels=[(a, 3)]), (0, 21), (14, 18)
     for k in range(3):
-        bodies = [body(POP, jump(0 if i == k else 1), labels=[(1, 0)]) for i in range(3)]
+        bodies = [body(POP, jump(a if i == k else b), labels=[(b, 0)]) for i in range(3)]
         yield body(attempt(*bodies)), (0, 31), (14, 16 + 6 * k)
-    yield body(function(b"f", [b"xy"], body(jump(0)))), (0, 18), (14, 15)
-    yield body(function2(1)[:-4] + body(jump(0))), (0, 21), (14, 18)
-    yield at_depth_16(body(jump(0), labels=[(0, 2)])), (0, 81), (14, 78)
+    yield body(function(b"f", [b"xy"], body(jump(a)))), (0, 18), (14, 15)
+    yield body(function2(1)[:-4] + body(jump(a))), (0, 21), (14, 18)
+    yield at_depth_16(body(jump(a), labels=[(a, 2)])), (0, 81), (14, 78)
     # before 10 and behind it, forward and backward, in one body and in two
     far = [POP] * 32768
-    yield body(jump(1), jump(0), *far, labels=[(0, 32770)]), (10, 32768), (14, 3)
-    yield body(jump(0), *far, jump(1), labels=[(0, 32769)]), (10, 32768), (10, 32768)
-    yield body(branch(1), *far, jump(0), labels=[(0, 0)]), (10, -32778), (14, 3)
-    yield body(*far, jump(0), branch(1), labels=[(0, 0)]), (10, -32773), (10, -32773)
-    yield body(with_(branch(1), jump(0)), *far, labels=[(0, 32769)]), (10, 32768), (14, 8)
-    yield body(with_(jump(0), branch(1)), *far, labels=[(0, 32769)]), (10, 32773), (10, 32773)
-    yield body(with_(branch(1)), jump(0), *far, labels=[(0, 32770)]), (10, 32768), (14, 8)
-    yield body(with_(jump(0)), jump(1), *far, labels=[(0, 32770)]), (10, 32773), (10, 32773)
+    yield body(jump(b), jump(a), *far, labels=[(a, 32770)]), (10, 32768), (14, 3)
+    yield body(jump(a), *far, jump(b), labels=[(a, 32769)]), (10, 32768), (10, 32768)
+    yield body(branch(b), *far, jump(a), labels=[(a, 0)]), (10, -32778), (14, 3)
+    yield body(*far, jump(a), branch(b), labels=[(a, 0)]), (10, -32773), (10, -32773)
+    yield body(with_(branch(b), jump(a)), *far, labels=[(a, 32769)]), (10, 32768), (14, 8)
+    yield body(with_(jump(a), branch(b)), *far, labels=[(a, 32769)]), (10, 32773), (10, 32773)
+    yield body(with_(branch(b)), jump(a), *far, labels=[(a, 32770)]), (10, 32768), (14, 8)
+    yield body(with_(jump(a)), jump(b), *far, labels=[(a, 32770)]), (10, 32773), (10, 32773)
     # behind a branch that just reaches, and far into the block
-    yield body(jump(0), *far[1:], branch(1), labels=[(0, 32768)]), (0, 32778), (14, 32775)
-    yield body(*[target(65534)] * 15, jump(0)), (0, 983076), (14, 983073)
+    yield body(jump(a), *far[1:], branch(b), labels=[(a, 32768)]), (0, 32778), (14, 32775)
+    yield body(*[target(65534)] * 15, jump(a)), (0, 983076), (14, 983073)
     # 8 and 9 come first, wherever they stand
     for long, answer in ((target(65535), (8, 65536)), (b"\x94" + of_length(65536), (9, 65536))):
-        yield body(jump(0), long), answer, answer
-        yield body(long, jump(0)), answer, answer
-    yield body(with_(jump(0), *[POP] * 65531)), (9, 65536), (9, 65536)
+        yield body(jump(a), long), answer, answer
+        yield body(long, jump(a)), answer, answer
+    yield body(with_(jump(a), *[POP] * 65531)), (9, 65536), (9, 65536)
 
 
-def contained():
+def contained(edition):
     """Document 02's item 9: a main body, and the answers' numbers and values in each mode."""
+    a, b, c, _ = NUMBERS[edition]
     f = lambda inside: function(b"f", [], inside)
-    records, branches = body(PLAY, labels=[(0, 0)]), body(branch(0))
+    records, branches = body(PLAY, labels=[(a, 0)]), body(branch(a))
     # A body of each kind: its action, the bytes before it, and whether it is a function's.
     owners = [
         (f, 9, True),
@@ -297,72 +328,134 @@ def contained():
     for owner, n, apart in owners:
         strays = lambda length, operand: by_contained((0, length), (15, operand)) if apart else alike((0, length))
         # into it and out of it
-        yield body(owner(records), jump(0)), strays(n + 7, n + 4)
-        yield body(owner(branches), labels=[(0, 0)]), strays(n + 6, n + 3)
+        yield body(owner(records), jump(a)), strays(n + 7, n + 4)
+        yield body(owner(branches), labels=[(a, 0)]), strays(n + 6, n + 3)
         # to its end and to what follows it, which is the same position, from outside and from inside
-        yield body(owner(body(PLAY, labels=[(0, 1)])), branch(0)), strays(n + 7, n + 4)
-        yield body(owner(body(PLAY)), branch(0), labels=[(0, 1)]), alike((0, n + 7))
-        yield body(owner(branches), labels=[(0, 1)]), strays(n + 6, n + 3)
-        yield body(owner(body(branch(0), labels=[(0, 1)]))), alike((0, n + 6))
+        yield body(owner(body(PLAY, labels=[(a, 1)])), branch(a)), strays(n + 7, n + 4)
+        yield body(owner(body(PLAY)), branch(a), labels=[(a, 1)]), alike((0, n + 7))
+        yield body(owner(branches), labels=[(a, 1)]), strays(n + 6, n + 3)
+        yield body(owner(body(branch(a), labels=[(a, 1)]))), alike((0, n + 6))
         # recorded before it and in it, in it and behind it: the last counts
-        yield body(jump(0), owner(records), labels=[(0, 0)]), strays(n + 7, 3)
-        yield body(owner(body(jump(0), labels=[(0, 0)])), labels=[(0, 0)]), alike((0, n + 6))
-        yield body(jump(0), owner(records), labels=[(0, 2)]), alike((0, n + 7))
-        yield body(owner(body(jump(0), labels=[(0, 0)])), labels=[(0, 1)]), strays(n + 6, n + 3)
+        yield body(jump(a), owner(records), labels=[(a, 0)]), strays(n + 7, 3)
+        yield body(owner(body(jump(a), labels=[(a, 0)])), labels=[(a, 0)]), alike((0, n + 6))
+        yield body(jump(a), owner(records), labels=[(a, 2)]), alike((0, n + 7))
+        yield body(owner(body(jump(a), labels=[(a, 0)])), labels=[(a, 1)]), strays(n + 6, n + 3)
         # in a function, to its label and from it
-        yield body(f(body(owner(branches), labels=[(0, 0)]))), strays(n + 15, n + 12)
-        yield body(f(body(owner(records), branch(0)))), strays(n + 16, n + 13)
+        yield body(f(body(owner(branches), labels=[(a, 0)]))), strays(n + 15, n + 12)
+        yield body(f(body(owner(records), branch(a)))), strays(n + 16, n + 13)
         # behind it, in the function around it
-        yield body(f(body(owner(body(PLAY)), jump(0), labels=[(0, 0)]))), alike((0, n + 16))
+        yield body(f(body(owner(body(PLAY)), jump(a), labels=[(a, 0)]))), alike((0, n + 16))
         # in a function, to main's label and from main; a function in it
-        yield body(f(body(owner(branches))), labels=[(0, 0)]), by_contained((0, n + 15), (15, n + 12))
-        yield body(f(body(owner(records))), jump(0)), by_contained((0, n + 16), (15, n + 13))
-        yield body(owner(body(f(branches), labels=[(0, 0)]))), by_contained((0, n + 15), (15, n + 12))
-        yield body(owner(body(f(records))), jump(0)), by_contained((0, n + 16), (15, n + 13))
+        yield body(f(body(owner(branches))), labels=[(a, 0)]), by_contained((0, n + 15), (15, n + 12))
+        yield body(f(body(owner(records))), jump(a)), by_contained((0, n + 16), (15, n + 13))
+        yield body(owner(body(f(branches), labels=[(a, 0)]))), by_contained((0, n + 15), (15, n + 12))
+        yield body(owner(body(f(records))), jump(a)), by_contained((0, n + 16), (15, n + 13))
     # from one function to another, forward and back; each with a label of the same number; an empty one
     yield body(f(branches), f(records)), by_contained((0, 25), (15, 12))
     yield body(f(records), f(branches)), by_contained((0, 25), (15, 22))
-    yield body(*[f(body(jump(0), labels=[(0, 0)]))] * 2), by_contained((0, 29), (15, 12))
-    yield body(f(body(labels=[(0, 0)])), jump(0)), by_contained((0, 15), (15, 12))
+    yield body(*[f(body(jump(a), labels=[(a, 0)]))] * 2), by_contained((0, 29), (15, 12))
+    yield body(f(body(labels=[(a, 0)])), jump(a)), by_contained((0, 15), (15, 12))
     # from the deepest function to the one around it and to main
     for index in (0, 14):
         inside = branches
         for depth in range(15):
-            inside = body(f(inside), labels=[(0, 0)] if depth == index else [])
+            inside = body(f(inside), labels=[(a, 0)] if depth == index else [])
         yield inside, by_contained((0, 141), (15, 138))
     # the first in writing order: in a body before main, behind one that stays, in each body of a Try
-    yield body(f(records), with_(branch(0)), jump(0)), by_contained((0, 26), (15, 18))
-    yield body(jump(1), f(records), jump(1), jump(0), labels=[(1, 0)]), by_contained((0, 26), (15, 23))
+    yield body(f(records), with_(branch(a)), jump(a)), by_contained((0, 26), (15, 18))
+    yield body(jump(b), f(records), jump(b), jump(a), labels=[(b, 0)]), by_contained((0, 26), (15, 23))
     for k in range(3):
-        bodies = [body(POP, jump(0 if i == k else 1), labels=[(1, 0)]) for i in range(3)]
+        bodies = [body(POP, jump(a if i == k else b), labels=[(b, 0)]) for i in range(3)]
         yield body(f(records), attempt(*bodies)), by_contained((0, 41), (15, 26 + 6 * k))
     # a label without a record is left to strict mode; before one that strays and behind it
     yield body(f(branches)), by_strict((0, 15), (14, 12))
-    yield body(f(branches), labels=[(0, 2)]), by_strict((0, 15), (14, 12))
-    yield body(f(body(labels=[(0, 1)])), jump(0)), by_strict((0, 15), (14, 12))
-    yield body(jump(1), f(records), jump(0)), ((0, 21), (14, 3), (15, 18), (14, 3))
-    yield body(f(records), jump(0), jump(1)), ((0, 21), (14, 18), (15, 13), (15, 13))
+    yield body(f(branches), labels=[(a, 2)]), by_strict((0, 15), (14, 12))
+    yield body(f(body(labels=[(a, 1)])), jump(a)), by_strict((0, 15), (14, 12))
+    yield body(jump(b), f(records), jump(a)), ((0, 21), (14, 3), (15, 18), (14, 3))
+    yield body(f(records), jump(a), jump(b)), ((0, 21), (14, 18), (15, 13), (15, 13))
     # a branch that strays and goes too far, back and forward, out of a function and into it
     far = [POP] * 32768
-    yield body(f(records), *far, jump(0)), by_contained((10, -32774), (15, 32781))
-    yield body(jump(0), *far, f(records)), by_contained((10, 32777), (15, 3))
-    yield body(f(branches), *far, labels=[(0, 32769)]), by_contained((10, 32768), (15, 12))
-    yield body(*far, f(branches), labels=[(0, 0)]), by_contained((10, -32782), (15, 32780))
+    yield body(f(records), *far, jump(a)), by_contained((10, -32774), (15, 32781))
+    yield body(jump(a), *far, f(records)), by_contained((10, 32777), (15, 3))
+    yield body(f(branches), *far, labels=[(a, 32769)]), by_contained((10, 32768), (15, 12))
+    yield body(*far, f(branches), labels=[(a, 0)]), by_contained((10, -32782), (15, 32780))
     # one that strays before one that goes too far and behind it; before both, one without a record
-    yield body(f(records), jump(0), jump(1), *far, labels=[(1, 32771)]), by_contained((10, 32768), (15, 13))
-    yield body(jump(1), f(records), jump(0), *far, labels=[(1, 32771)]), alike((10, 32783))
-    yield body(jump(2), f(records), jump(0), jump(1), *far, labels=[(1, 32772)]), ((10, 32768), (14, 3), (15, 18), (14, 3))
+    yield body(f(records), jump(a), jump(b), *far, labels=[(b, 32771)]), by_contained((10, 32768), (15, 13))
+    yield body(jump(b), f(records), jump(a), *far, labels=[(b, 32771)]), alike((10, 32783))
+    yield body(jump(c), f(records), jump(a), jump(b), *far, labels=[(b, 32772)]), ((10, 32768), (14, 3), (15, 18), (14, 3))
     # functions whose first bytes are a power of two from that of another
-    yield body(target(243), f(records), jump(0)), by_contained((0, 263), (15, 260))
-    yield body(target(65523), f(records), jump(0)), by_contained((0, 65543), (15, 65540))
+    yield body(target(243), f(records), jump(a)), by_contained((0, 263), (15, 260))
+    yield body(target(65523), f(records), jump(a)), by_contained((0, 65543), (15, 65540))
     yield body(f(branches), target(65518), f(records)), by_contained((10, 65531), (15, 12))
     calls = with_(*[CALL] * 21845)
-    yield body(*[calls] * 31, target(65399), f(records), jump(0)), by_contained((11, 2097159), (15, 2097156))
+    yield body(*[calls] * 31, target(65399), f(records), jump(a)), by_contained((11, 2097159), (15, 2097156))
     # 8 and 9 come first, wherever they stand
     for long, answer in ((target(65535), (8, 65536)), (b"\x94" + of_length(65536), (9, 65536))):
-        yield body(f(records), jump(0), long), alike(answer)
-        yield body(long, f(records), jump(0)), alike(answer)
-    yield body(f(body(branch(0), *[POP] * 65531)), labels=[(0, 0)]), alike((9, 65536))
+        yield body(f(records), jump(a), long), alike(answer)
+        yield body(long, f(records), jump(a)), alike(answer)
+    yield body(f(body(branch(a), *[POP] * 65531)), labels=[(a, 0)]), alike((9, 65536))
+
+
+def editions():
+    """Document 02's item 6: a sheet, and the answers' numbers and values in each mode."""
+    f = lambda inside: function(b"f", [], inside)
+    for edition, bound in LABELS.items():
+        of = lambda *actions, labels=(): sheet(body(*actions, labels=labels), edition=edition)
+        # at the bounds of both editions; a label that is out of bounds is refused where it is met first
+        for label in (1, 1022, 1023, 1024, 1025, 2048, 4094, 4095, 4096, 4097, 65535):
+            unless = lambda place, answers: answers if label < bound else alike((5, place))
+            # an entry, and one behind another; a branch, and one behind another; both
+            yield of(POP, labels=[(label, 0)]), unless(2, alike((0, 2)))
+            yield of(POP, labels=[(0, 1), (label, 1)]), unless(6, alike((0, 2)))
+            yield of(jump(label)), unless(5, by_strict((0, 6), (14, 3)))
+            yield of(jump(0), branch(label), labels=[(0, 0)]), unless(12, by_strict((0, 11), (14, 8)))
+            yield of(jump(label), labels=[(label, 0)]), unless(2, alike((0, 6)))
+            yield of(branch(label), labels=[(label, 2)]), unless(2, by_strict((0, 6), (14, 3)))
+            # in a function, in a catch body, and into a function
+            yield of(f(body(jump(label)))), unless(15, by_strict((0, 15), (14, 12)))
+            yield of(attempt(body(), body(branch(label)))), unless(18, by_strict((0, 18), (14, 15)))
+            yield of(f(body(PLAY, labels=[(label, 0)])), jump(label)), unless(12, by_contained((0, 16), (15, 13)))
+        # entries of all numbers up to 1,024
+        yield of(jump(1024), labels=[(n, 0) for n in range(1025)]), alike((0, 6) if 1024 < bound else (5, 4098))
+    # edition 2 with small label numbers: what document 01 runs
+    for main, number, value in RUN:
+        yield sheet(main, edition=2), alike((number, value))
+    # the same with large ones: as far as a branch reaches, and one further
+    for label in (1024, 4095):
+        for pops, answer in ((32767, (0, 32773)), (32768, (10, 32768))):
+            yield sheet(body(jump(label), *[POP] * pops, labels=[(label, pops + 1)]), edition=2), alike(answer)
+        for pops, answer in ((32763, (0, 32769)), (32764, (10, -32769))):
+            yield sheet(body(*[POP] * pops, branch(label), labels=[(label, 0)]), edition=2), alike(answer)
+    # numbers that have their low bits in common are four labels: all recorded; one without a record; one recorded in a function
+    for numbers in (ZEROS, ONES):
+        jumps = [jump(label) for label in numbers]
+        yield sheet(body(*jumps, labels=[(label, 4) for label in numbers]), edition=2), alike((0, 21))
+        for k, label in enumerate(numbers):
+            rest = [(other, 0) for other in numbers if other != label]
+            yield sheet(body(*jumps, labels=rest), edition=2), by_strict((0, 21), (14, 3 + 5 * k))
+            inside = f(body(labels=[(label, 0)]))
+            yield sheet(body(inside, *jumps, labels=rest), edition=2), by_contained((0, 30), (15, 12 + 5 * k))
+    # no other edition is taken: 2 comes behind 1 and before all else
+    for edition in OTHER_EDITIONS:
+        for main in (HAND[5][0], HAND_2[0][0], body(jump(4096))):
+            yield sheet(main, edition=edition), alike((2, 0))
+    for edition in (2, 3):
+        for n in (1048576, 1048577):
+            s = sheet(HAND_2[0][0], note=b"n" * (n - 8 - len(HAND_2[0][0])), edition=edition)
+            yield s, alike((1, n) if n > 1048576 else (0, 6) if edition == 2 else (2, 0))
+    yield sheet(HAND_2[0][0], distance=12, edition=2), alike((2, 0))
+    yield sheet(HAND_2[0][0], edition=2)[:-1] + b"2", alike((2, 0))
+
+
+def tables_2():
+    """4,096 label entries in edition 2, and a jump to every 65th label: a sheet, and the answers in each mode."""
+    actions = [POP if n % 64 else jump(n // 64 * 65) for n in range(4096)]
+    done = (0, 64 * 5 + 63 * 64 + 1)
+    # at rising indices, at falling ones, all at one, and at the count
+    for index in (lambda n: n, lambda n: 4095 - n, lambda n: 7, lambda n: 4096):
+        yield sheet(body(*actions, labels=[(n, index(n)) for n in range(4096)]), edition=2), alike(done)
+    # at the count and past it in turn: the second jump's label has no record
+    yield sheet(body(*actions, labels=[(n, 4096 + n % 2) for n in range(4096)]), edition=2), by_strict(done, (14, 71))
 
 
 def payloads():
@@ -384,19 +477,20 @@ def payloads():
     yield 65537, body(b"\x88" + u16(65535) + bytes(2 * 65535))
 
 
-def longest_branches():
+def longest_branches(edition):
     """Blocks of 32,768 bytes and a few more, with branches from end to end: to the very start, to the very end, and both."""
+    a, b, _, last = NUMBERS[edition]
     for n in (32768, 32769, 32770, 32773, 32774):
         pops = [POP] * (n - 6)
-        yield body(*pops, jump(0), labels=[(0, 0)])
-        yield body(branch(1023), *pops, labels=[(1023, n - 5)])
-        yield body(jump(1), *pops[5:], branch(0), labels=[(0, 0), (1, n - 9)])
-        yield body(with_(jump(0)), *pops[5:], labels=[(0, n - 10)])
-        yield body(*pops[5:], with_(jump(0)), labels=[(0, 0)])
+        yield body(*pops, jump(a), labels=[(a, 0)])
+        yield body(branch(last), *pops, labels=[(last, n - 5)])
+        yield body(jump(b), *pops[5:], branch(a), labels=[(a, 0), (b, n - 9)])
+        yield body(with_(jump(a)), *pops[5:], labels=[(a, n - 10)])
+        yield body(*pops[5:], with_(jump(a)), labels=[(a, 0)])
 
 
 def tables():
-    """1,024 label entries: at rising indices, at falling ones, all at one, at the count and past it."""
+    """1,024 label entries in edition 1: at rising indices, at falling ones, all at one, at the count and past it."""
     jumps = [jump(label) for label in range(1024)]
     for index in (lambda n: n, lambda n: 1023 - n, lambda n: 1024, lambda n: 1025):
         yield body(*jumps, labels=[(n, index(n)) for n in range(1024)])
@@ -418,16 +512,23 @@ def long_sheets():
 
 def long_questions():
     """Sheets with rooms, and the answers in each mode where documents 01 and 02 give them."""
-    dues = [(main, alike((number, value))) for main, number, value in [*RUN, *orders()]]
-    dues += [(main, by_strict(plain, strict)) for main, plain, strict in unrecorded()]
-    for main, due in [*dues, *contained()]:
-        yield sheet(main), LONG_SPACE if len(main) > 1000 else SHEETS_SPACE, due
+    dues = [(sheet(main), alike((number, value))) for main, number, value in [*RUN, *orders()]]
+    for edition in LABELS:
+        dues += [(sheet(main, edition=edition), by_strict(plain, strict)) for main, plain, strict in unrecorded(edition)]
+        dues += [(sheet(main, edition=edition), due) for main, due in contained(edition)]
+    for s, due in [*dues, *editions()]:
+        yield s, LONG_SPACE if len(s) > 1000 else SHEETS_SPACE, due
         # 8 to 10, 14 and 15 come before 11
-        if any(number != 0 for number, _ in due):
-            yield sheet(main), 0, tuple(map(without_room, due))
+        if any(number in (8, 9, 10, 14, 15) for number, _ in due):
+            yield s, 0, tuple(map(without_room, due))
+    for s, due in tables_2():
+        yield s, LONG_SPACE, due
     for n, main in payloads():
         yield sheet(main), LONG_SPACE, alike((0, None) if n < 65536 else (8, n))
-    for main in [*longest_branches(), *tables()]:
+    for edition in LABELS:
+        for main in longest_branches(edition):
+            yield sheet(main, edition=edition), LONG_SPACE, alike(None)
+    for main in tables():
         yield sheet(main), LONG_SPACE, alike(None)
     sheets = [sheet(main) for main, number, _ in RUN if number == 0] + list(long_sheets())
     for s, (number, n, _) in zip(sheets, answers((s, LONG_SPACE, PLAIN) for s in sheets)):
@@ -436,7 +537,9 @@ def long_questions():
             yield from ((s, room, ((0, n) if room == n else (11, n), None, None, None)) for room in (n, n - 1, 0))
     for family, step in (("distances", 11), ("limits", 13)):
         for s, room in generated(family, LONG_SPACE, step, 1, LONG_SPACE):
-            yield s, room, alike(None)
+            # of label entries, which no pattern shortens, there are enough above
+            if len(pattern(s)) < 5000:
+                yield s, room, alike(None)
 
 
 def without_room(due):
@@ -502,7 +605,9 @@ def check(due, answer):
 
 
 def main():
-    for (_, text), answer in zip(HAND, answers((sheet(main), 16, PLAIN) for main, _ in HAND)):
+    by_hand = [(1, *hand) for hand in HAND] + [(2, *hand) for hand in HAND + HAND_2]
+    told = answers((sheet(main, edition=edition), 32, PLAIN) for edition, main, _ in by_hand)
+    for (*_, text), answer in zip(by_hand, told):
         block = bytes.fromhex(text)
         assert answer == (0, len(block), block), answer
 
@@ -518,12 +623,13 @@ def main():
             assert answer == plain or answer[0] == number and plain[0] in (0, 10, 11), (plain, answer)
         assert both in (strict, contained), (strict, contained, both)
     stdin = b"".join(record(*question, *answer) for question, answer in zip(asked, told))
-    assert len(stdin) < 2097152, len(stdin)
+    assert len(stdin) < 3145728, len(stdin)
     numbers = Counter(number for number, _, _ in told)
     lines = [f"{number} {count}\n" for number, count in sorted(numbers.items())] + ["differ 0, first 0\n"]
     open("crates/replay/stdin", "wb").write(stdin)
     open("crates/replay/stdout", "w").write("".join(lines))
-    print(len(sheets), "sheets, each in every mode,", len(stdin), "bytes")
+    of_edition_2 = sum(s.endswith(b"\x02\x00A1") for s, *_ in sheets)
+    print(len(sheets), "sheets,", of_edition_2, "of them of edition 2, each in every mode,", len(stdin), "bytes")
     for mode, found in zip(MODES, by_mode):
         print(mode, dict(sorted(Counter(number for number, _, _ in found).items())))
 

@@ -5,9 +5,14 @@ Run in the checkout after the oracle is built: python3 oracle/readings.py
 """
 import struct
 import subprocess
+from collections import Counter
 
 CRATE = "crates/read_sheets"
 ORACLE = "oracle/target/release/oracle"
+# By the edition: the number that its label numbers are under.
+LABELS = {1: 1024, 2: 4096}
+# Editions that there are not.
+OTHER_EDITIONS = (0, 3, 4, 255, 256, 257, 258, 512, 65535)
 
 
 def u16(n):
@@ -19,11 +24,12 @@ def string(s):
 
 
 def body(*actions, labels=()):
+    labels = list(labels)
     return u16(len(labels)) + b"".join(u16(l) + u16(i) for l, i in labels) + u16(len(actions)) + b"".join(actions)
 
 
-def sheet(main, note=b"", distance=None):
-    return note + main + struct.pack("<IH", len(main) if distance is None else distance, 1) + b"A1"
+def sheet(main, note=b"", distance=None, edition=1):
+    return note + main + struct.pack("<IH", len(main) if distance is None else distance, edition) + b"A1"
 
 
 def function2(flags):
@@ -48,6 +54,13 @@ GOOD = body(
     b"\x9a\x01\x00\xff",
     labels=[(3, 1), (1023, 5)],
 )
+# One of edition 2, with label numbers that it adds.
+GOOD_2 = body(
+    b"\x9d" + u16(4095),
+    b"\x94" + body(b"\x99" + u16(1024), labels=[(0, 0), (1024, 1), (4095, 9)]),
+    function2(511),
+    labels=[(3, 1), (1023, 3), (1024, 0), (4095, 65535)],
+)
 
 
 def sheets():
@@ -57,10 +70,9 @@ def sheets():
     whole = sheet(GOOD)
     for n in range(1, 9):
         yield whole[:-n]
-    # D too large, 0 and too small; another edition; another mark
+    # D too large, 0 and too small; another mark
     for d in (len(GOOD) + 1, 4294967295, 0, 1, len(GOOD) - 1):
         yield sheet(GOOD, distance=d)
-    yield whole[:-4] + b"\x02\x00A1"
     yield whole[:-2] + b"A2"
     yield whole[:-2] + b"B1"
     # left over
@@ -105,21 +117,72 @@ def sheets():
         yield sheet(body(function2(flags)))
 
 
+def editions():
+    """Document 02's item 6: a sheet, and the number and value of its reading; a sheet that reads whole is 0 0."""
+    whole, refused = (0, 0), (2, 0)
+    for edition, labels in LABELS.items():
+        of = lambda main, note=b"": sheet(main, note=note, edition=edition)
+        # the same sheets, with small label numbers, in both editions
+        yield of(body()), whole
+        yield of(GOOD, note=b"note"), whole
+        yield of(GOOD + b"\x00"), (7, len(GOOD))
+        yield of(nested(16)), whole
+        yield of(nested(17)), (6, 80)
+        # at the bounds of both, as an entry, behind another entry, as branches, in a body and behind a note
+        for label in (0, 1023, 1024, 1025, 2048, 4094, 4095, 4096, 4097, 8192, 65535):
+            at = lambda place: whole if label < labels else (5, place)
+            yield of(body(b"\x17", labels=[(label, 0)])), at(2)
+            if label > 0:
+                yield of(body(b"\x17", labels=[(label - 1, 0), (label, 0)])), at(6) if label <= labels else (5, 2)
+            yield of(body(b"\x99" + u16(label))), at(5)
+            yield of(body(b"\x17", b"\x9d" + u16(label), labels=[(0, 0)])), at(10)
+            yield of(body(b"\x94" + body(b"\x99" + u16(label)))), at(10)
+            yield of(body(b"\x94" + body(labels=[(label, 65535)])), note=b"note"), at(11)
+            # a field that is cut comes before its value, and behind the value of the field before it
+            yield of(body(b"\x99" + u16(label))[:-1]), (3, 5)
+            yield of(u16(1) + u16(label)[:-1]), (3, 2)
+            yield of(u16(1) + u16(label)), (3, 4) if label < labels else (5, 2)
+        # equal and falling ones, with small numbers and with large ones
+        for first, second in ((5, 5), (5, 4), (1023, 1023), (1024, 1024), (1024, 1023), (4095, 1024), (4095, 0), (4095, 4095)):
+            yield of(body(labels=[(first, 0), (second, 0)])), (5, 6 if first < labels else 2)
+        # D too large; another mark
+        yield sheet(GOOD, distance=len(GOOD) + 1, edition=edition), refused
+        yield of(GOOD)[:-1] + b"2", refused
+    # no other edition is taken, and 2 comes before what is wrong with a main body
+    for edition in OTHER_EDITIONS:
+        for main in (body(), GOOD_2, body(b"\x99" + u16(4096)), b"\xff"):
+            yield sheet(main, edition=edition), refused
+    # a good one, cut at every byte of its main body
+    for n in range(len(GOOD_2)):
+        yield sheet(GOOD_2[:n], edition=2), None
+    yield sheet(GOOD_2, edition=2), whole
+    yield sheet(GOOD_2), (5, 10)
+
+
+def entries():
+    """As many label entries as edition 2 has label numbers: a sheet, and the number and value of its reading."""
+    yield sheet(body(b"\x99" + u16(4095), labels=[(n, n % 3) for n in range(4096)]), edition=2), (0, 0)
+
+
 def main():
-    questions = [struct.pack("<I", len(s)) + s + struct.pack("<I", 1 << 20) for s in sheets()]
+    dues = [(s, None) for s in sheets()] + [*editions(), *entries()]
+    questions = [struct.pack("<I", len(s)) + s + struct.pack("<I", 1 << 20) for s, _ in dues]
     stream = b"".join(questions)
     assert len(stream) <= 65536, len(stream)
     # a question to the oracle ends in the mode, which has no part in reading
     asked = b"".join(question + b"\x00" for question in questions)
     answers = subprocess.run([ORACLE, "stream"], input=asked, stdout=subprocess.PIPE, check=True).stdout
-    lines, at = [], 0
+    told, at = [], 0
     while at < len(answers):
         number, value, length = struct.unpack_from("<BqI", answers, at)
         at += 13 + length
-        lines.append(f"{number} {value}\n" if 1 <= number <= 7 else "0 0\n")
-    assert len(lines) == len(questions)
+        told.append((number, value) if 1 <= number <= 7 else (0, 0))
+    assert len(told) == len(dues)
+    for (s, due), answer in zip(dues, told):
+        assert due in (None, answer), (s.hex(), due, answer)
     open(f"{CRATE}/stdin", "wb").write(stream)
-    open(f"{CRATE}/stdout", "w").write("".join(lines))
+    open(f"{CRATE}/stdout", "w").write("".join(f"{number} {value}\n" for number, value in told))
+    print(len(told), "sheets,", len(stream), "bytes,", dict(sorted(Counter(number for number, _ in told).items())))
 
 
 if __name__ == "__main__":

@@ -42,7 +42,7 @@ tells() { # TEXT STATUS EXAMPLE [WORD ..]
   cmp "$made/told" "$1"
   [ "$status" -eq "$2" ] || { say "the Rust example ends with status $status, not $2: ${*:3}"; exit 1; }
 }
-for name in reject_falls_into_accept reject_is_rejected accept_leaves_its_function end_in_the_middle; do
+for name in reject_falls_into_accept reject_is_rejected accept_leaves_its_function end_in_the_middle form_with_many_labels; do
   samples/hex.sh "samples/$name.hex" >"$made/$name.sheet"
   sed '1s/^0 \(.*\)/Done: a block of \1 bytes/' "samples/$name.out" >"$made/$name"
   tells "$made/$name" 0 pack <"$made/$name.sheet"
@@ -53,8 +53,9 @@ tells "$made/reject_falls_into_accept" 0 pack --contained <"$made/reject_falls_i
 tells "$made/accept_leaves_its_function" 0 pack --strict <"$made/accept_leaves_its_function.sheet"
 tells samples/accept_leaves_its_function.contained.out 1 pack --contained <"$made/accept_leaves_its_function.sheet"
 tells samples/accept_leaves_its_function.contained.out 1 pack --strict --contained <"$made/accept_leaves_its_function.sheet"
+tells "$made/form_with_many_labels" 0 pack --strict --contained <"$made/form_with_many_labels.sheet"
 tells /dev/null 2 pack --other </dev/null 2>/dev/null
-say "the Rust example pack tells of four samples what it must, of three in strict mode and of two in contained mode too"
+say "the Rust example pack tells of five samples what it must, of four in strict mode and of three in contained mode too"
 
 # The block of a sample, whole and without its last byte.
 sed 1d samples/end_in_the_middle.out | xxd -r -p >"$made/block"

@@ -1,11 +1,12 @@
-//! `compare [SHEETS]` packs generated sheets by the C entry and by the oracle, a million unless told otherwise, each in every
-//! mode: number, value, block, and every byte that must keep its value. It steps through each sheet and each block by the C
-//! entry and by the oracle's plain stepper; a block must be clean. It prints counts by answer and mode, and the smallest sheet
-//! that is answered differently.
+//! `compare [SHEETS]` packs generated sheets of both editions by the C entry and by the oracle, a million unless told otherwise,
+//! each in every mode: number, value, block, and every byte that must keep its value. It steps through each sheet and each block
+//! by the C entry and by the oracle's plain stepper; a block must be clean. It prints counts by answer and mode, by edition, and
+//! the smallest sheet that is answered differently.
 
 use merinovault::{Mode, pack, step};
 use oracle::answer::{self, Answer, number, value};
 use oracle::generate::{Family, questions};
+use oracle::sheet::{Edition, cut};
 use oracle::steps::{self, Stepped};
 use oracle::stream::Question;
 use std::process::ExitCode;
@@ -32,6 +33,8 @@ const SEED: u64 = 20_261_115;
 #[derive(Default)]
 struct Counts {
     sheets: u64,
+    /// Sheets whose trailer is good, by its edition.
+    editions: [u64; Edition::ALL.len()],
     /// By number, in each of the modes.
     answers: [[u64; MODES.len()]; 16],
     /// Sheets and blocks that were stepped through, and those of them that are clean.
@@ -50,6 +53,9 @@ impl Counts {
         let sheet = &question.sheet;
         let room = (question.room as usize).min(3 * sheet.len() + 64);
         self.sheets += 1;
+        if let Ok((_, edition)) = cut(sheet) {
+            self.editions[usize::from(edition.number()) - 1] += 1;
+        }
         self.compare_steps(sheet, room, None);
         for (column, (name, ours, theirs)) in MODES.into_iter().enumerate() {
             let theirs = oracle::pack::pack(sheet, theirs, room);
@@ -144,6 +150,8 @@ fn main() -> ExitCode {
     println!("random families: seeds {SEED} to {}", seed - 1);
     print_answers(&counts.answers);
     println!("each sheet was packed in every mode");
+    let [one, two] = counts.editions;
+    println!("{one} sheets have a good trailer of edition 1, {two} of edition 2");
     println!(
         "{} sheets and blocks stepped through, {} of them clean",
         counts.stepped, counts.clean

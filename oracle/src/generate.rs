@@ -1,4 +1,4 @@
-//! A seeded generator of sheets, by families; each sheet comes with a room for its block, and in plain mode.
+//! A seeded generator of sheets, by families, each of both editions; a sheet comes with a room for its block, and in plain mode.
 
 pub mod write;
 
@@ -23,7 +23,7 @@ pub enum Family {
     Mixed,
     /// `count` random small sheets, and all damaged copies of each.
     Damaged,
-    /// Sizes, counts, labels, depths and lengths at their limits.
+    /// Sizes, counts, labels, editions, depths and lengths at their limits.
     Limits,
     /// Branches at both edges.
     Distances,
@@ -100,20 +100,40 @@ fn room_for(sheet: &[u8], random: &mut Random) -> u32 {
 mod tests {
     use super::*;
     use crate::answer::number;
+    use crate::sheet::{Edition, cut, read};
     use std::collections::BTreeSet;
 
-    /// The numbers that a family meets, in each of the modes.
-    fn numbers(family: Family) -> BTreeSet<[u8; 4]> {
-        let mut numbers = BTreeSet::new();
+    /// What a family meets.
+    #[derive(Default)]
+    struct Met {
+        /// Numbers, in each of the modes.
+        numbers: BTreeSet<[u8; 4]>,
+        /// Whether sheets of edition 1, and of edition 2, read whole.
+        editions: [bool; 2],
+        /// Whether a sheet of edition 2 does that would be 5 in edition 1.
+        beyond_edition_1: bool,
+    }
+
+    fn met(family: Family) -> Met {
+        let mut met = Met::default();
         questions(family, 1, 40, &mut |question| {
-            let number = |mode| number(&pack(&question.sheet, mode, question.room as usize));
-            numbers.insert(Mode::ALL.map(number));
+            let mut sheet = question.sheet;
+            let number = |mode| number(&pack(&sheet, mode, question.room as usize));
+            met.numbers.insert(Mode::ALL.map(number));
+            let (Ok((_, edition)), Ok(_)) = (cut(&sheet), read(&sheet, b'y')) else {
+                return;
+            };
+            met.editions[usize::from(edition.number() - 1)] = true;
+            let at = sheet.len() - 4;
+            sheet[at..at + 2].copy_from_slice(&Edition::One.number().to_le_bytes());
+            let in_edition_1 = read(&sheet, b'y').err();
+            met.beyond_edition_1 |= in_edition_1.is_some_and(|refusal| refusal.number() == 5);
         });
-        numbers
+        met
     }
 
     /// What each family is made to meet: in all modes; in plain mode, where strict mode answers 14; there, where contained mode
-    /// answers 15.
+    /// answers 15. And sheets of both editions, with label numbers that edition 1 does not have.
     #[test]
     fn families_meet_their_answers() {
         type Due = &'static [u8];
@@ -130,7 +150,8 @@ mod tests {
             (Family::Small, &[0, 2, 3, 4, 5, 7, 11], &[0, 11], &[0, 11]),
         ];
         for (family, same, unrecorded, stray) in due {
-            let numbers = numbers(family);
+            let met = met(family);
+            let numbers = met.numbers;
             let meets = |mode: usize, plain: u8, number: u8| {
                 let mut all = numbers.iter();
                 all.any(|numbers| (numbers[0], numbers[mode]) == (plain, number))
@@ -144,6 +165,8 @@ mod tests {
             for n in stray {
                 assert!(meets(2, *n, 15), "{family:?} {n} and 15: {numbers:?}");
             }
+            assert_eq!(met.editions, [true; 2], "{family:?}");
+            assert!(met.beyond_edition_1, "{family:?}");
         }
     }
 

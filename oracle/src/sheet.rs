@@ -1,12 +1,44 @@
-//! The oracle's reader of sheets, written from document 01: answers 1 to 7, or the source's tree of actions.
+//! The oracle's reader of sheets, written from documents 01 and 02: answers 1 to 7, or the source's tree of actions.
 
 use crate::answer::{Fault, Refusal};
 use crate::internal::as2_pcode::{Action, Actions, CatchTarget, FunctionParam, PushValue};
 
 pub const LONGEST_SHEET: usize = 1_048_576;
-pub const LABELS: u16 = 1_024;
 pub const DEEPEST: u32 = 16;
 pub const TRAILER: usize = 8;
+
+/// The editions that a trailer may name. They differ in the label numbers that a sheet may name, and in nothing else.
+#[derive(Clone, Copy, Debug, Eq, PartialEq)]
+pub enum Edition {
+    One,
+    Two,
+}
+
+impl Edition {
+    pub const ALL: [Edition; 2] = [Edition::One, Edition::Two];
+
+    /// The edition of a trailer's number, unless there is none.
+    pub fn from_number(number: u16) -> Option<Edition> {
+        Edition::ALL
+            .into_iter()
+            .find(|edition| edition.number() == number)
+    }
+
+    pub const fn number(self) -> u16 {
+        match self {
+            Edition::One => 1,
+            Edition::Two => 2,
+        }
+    }
+
+    /// Label numbers are under this.
+    pub const fn labels(self) -> u16 {
+        match self {
+            Edition::One => 1_024,
+            Edition::Two => 4_096,
+        }
+    }
+}
 
 /// A sheet that reads whole.
 pub struct Whole {
@@ -17,10 +49,11 @@ pub struct Whole {
 
 /// Reads a sheet. The source's strings are UTF-8; `letter`, an ASCII letter, stands for each byte of any other.
 pub fn read(sheet: &[u8], letter: u8) -> Result<Whole, Refusal> {
-    let start = main_start(sheet)?;
+    let (at, edition) = cut(sheet)?;
     let mut reader = Reader {
         bytes: &sheet[..sheet.len() - TRAILER],
-        at: start,
+        at,
+        edition,
         letter: char::from(letter),
         foreign: Vec::new(),
     };
@@ -34,19 +67,21 @@ pub fn read(sheet: &[u8], letter: u8) -> Result<Whole, Refusal> {
     })
 }
 
-/// 1 and 2, or the place of the main body's first byte.
-fn main_start(sheet: &[u8]) -> Result<usize, Refusal> {
+/// 1 and 2, or the place of the main body's first byte and the edition.
+pub fn cut(sheet: &[u8]) -> Result<(usize, Edition), Refusal> {
     if sheet.len() > LONGEST_SHEET {
         return Err(Refusal::SheetTooLong(sheet.len()));
     }
     let Some((front, trailer)) = sheet.split_last_chunk::<TRAILER>() else {
         return Err(Refusal::BadTrailer);
     };
-    let [d0, d1, d2, d3, 0x01, 0x00, 0x41, 0x31] = *trailer else {
+    let [d0, d1, d2, d3, e0, e1, 0x41, 0x31] = *trailer else {
         return Err(Refusal::BadTrailer);
     };
     let distance = u32::from_le_bytes([d0, d1, d2, d3]) as usize;
-    front.len().checked_sub(distance).ok_or(Refusal::BadTrailer)
+    let start = front.len().checked_sub(distance);
+    let edition = Edition::from_number(u16::from_le_bytes([e0, e1]));
+    start.zip(edition).ok_or(Refusal::BadTrailer)
 }
 
 /// Stands at a place before the trailer. Each method reads one thing and moves on, or gives the first fault met.
@@ -54,6 +89,7 @@ struct Reader<'a> {
     /// The sheet without its trailer.
     bytes: &'a [u8],
     at: usize,
+    edition: Edition,
     letter: char,
     foreign: Vec<u8>,
 }
@@ -122,8 +158,15 @@ impl Reader<'_> {
         (0..count).map(|_| one(self)).collect()
     }
 
-    fn label(&mut self) -> Read<String> {
-        Ok(name(self.tested(Self::u16, |label| label < LABELS)?))
+    /// A label number: `least` or over, and under the edition's bound.
+    fn label(&mut self, least: u16) -> Read<u16> {
+        let labels = self.edition.labels();
+        self.tested(Self::u16, |label| least <= label && label < labels)
+    }
+
+    /// A branch's label: any number that the edition allows.
+    fn branch(&mut self) -> Read<String> {
+        Ok(name(self.label(0)?))
     }
 
     fn body(&mut self, depth: u32) -> Read<Actions> {
@@ -133,7 +176,7 @@ impl Reader<'_> {
         let mut body = Actions::empty();
         let mut least = 0;
         for _ in 0..self.u16()? {
-            let label = self.tested(Self::u16, |label| least <= label && label < LABELS)?;
+            let label = self.label(least)?;
             let index = self.u16()?;
             body.label_positions.insert(name(label), usize::from(index));
             least = label + 1;
@@ -169,7 +212,7 @@ impl Reader<'_> {
             0x8F => self.try_(depth)?,
             0x94 => Action::With(self.body(depth + 1)?),
             0x96 => Action::Push(self.counted(Self::push_value)?),
-            0x99 => Action::Jump(self.label()?),
+            0x99 => Action::Jump(self.branch()?),
             0x9A => Action::GetUrl2 {
                 load_variables: self.flag()?,
                 load_target: self.flag()?,
@@ -180,7 +223,7 @@ impl Reader<'_> {
                 params: self.counted(Self::string)?,
                 actions: self.body(depth + 1)?,
             },
-            0x9D => Action::If(self.label()?),
+            0x9D => Action::If(self.branch()?),
             0x9F => Action::GotoFrame2 {
                 scene_bias: self.u16()?,
                 play: self.flag()?,

@@ -73,6 +73,22 @@ impl Mode {
 /// Packs a sheet into the front of `out` and returns the length of the block.
 ///
 /// Bytes of `out` past that length keep their values; on a refusal all do. A block is never longer than three times the sheet.
+///
+/// The sheet's trailer tells its edition, 1 or 2. Label numbers are 0 to 1,023 in edition 1 and 0 to 4,095 in edition 2; all else
+/// is the same in both.
+///
+/// ```
+/// use merinovault::{Mode, Refusal, pack};
+///
+/// // Label 4,095 before action 0; one action, Jump to label 4,095; the trailer, of edition 2.
+/// let mut sheet = *b"\x01\0\xFF\x0F\0\0\x01\0\x99\xFF\x0F\x0B\0\0\0\x02\0A1";
+/// assert_eq!(pack(&sheet, Mode::PLAIN, &mut [0; 64]), Ok(6));
+/// // In edition 1 the label's number is out of range, and there is no edition 3.
+/// sheet[15] = 1;
+/// assert_eq!(pack(&sheet, Mode::PLAIN, &mut [0; 64]), Err(Refusal::BadField { place: 2 }));
+/// sheet[15] = 3;
+/// assert_eq!(pack(&sheet, Mode::PLAIN, &mut [0; 64]), Err(Refusal::BadTrailer));
+/// ```
 pub fn pack(sheet: &[u8], mode: Mode, out: &mut [u8]) -> Result<usize, Refusal> {
     let mut value = [0; VALUE_LEN];
     let number = raw::pack(sheet, mode.strict, mode.contained, out, &mut value);

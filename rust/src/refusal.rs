@@ -13,7 +13,7 @@ pub enum Refusal {
         /// The sheet's length.
         length: usize,
     },
-    /// 2: under 8 bytes, wrong edition or mark, or a main body that would begin before the sheet.
+    /// 2: under 8 bytes, an edition that is not 1 or 2, a wrong mark, or a main body that would begin before the sheet.
     BadTrailer,
     /// 3: a field would reach into the trailer.
     CutShort {
@@ -25,7 +25,7 @@ pub enum Refusal {
         /// Where it stands.
         place: usize,
     },
-    /// 5: a field is outside its range or order, or a string holds a zero byte.
+    /// 5: a field is outside its range or order, or a string holds a zero byte. The range of label numbers is the edition's.
     BadField {
         /// Where the field begins; of a string, where its first zero byte stands.
         place: usize,
@@ -182,7 +182,7 @@ impl fmt::Display for Refusal {
             }
             BadTrailer => write!(
                 f,
-                "the sheet's last 8 bytes are no trailer: the distance back to the main body, edition 1 and the mark 41 31"
+                "the sheet's last 8 bytes are no trailer: the distance back to the main body, edition 1 or 2 and the mark 41 31"
             ),
             CutShort { place } => write!(
                 f,

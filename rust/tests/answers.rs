@@ -82,16 +82,22 @@ fn bad_trailer() {
         sheet[at] = byte;
         sheet
     };
-    // no sheet, under 8 bytes, edition 2, another mark, a distance past the sheet's first byte
+    // no sheet, under 8 bytes, another mark, a distance past the sheet's first byte
     for sheet in [
         vec![],
         good[5..].to_vec(),
-        edited(8, 2),
         edited(10, 0x42),
         edited(11, 0),
         edited(4, 5),
     ] {
         assert_eq!(refused(&sheet, 2, 0), Refusal::BadTrailer);
+    }
+    // editions 0 and 3, and others that have the bytes of 1 or 2
+    for edition in [0, 3, 4, 255, 256, 257, 258, 512, 65_535] {
+        for main in [body(&[], &[]), body(&[(4095, 0)], &[&jump(4095)])] {
+            let sheet = sheet_in(edition, b"a note", &main);
+            assert_eq!(refused(&sheet, 2, 0), Refusal::BadTrailer);
+        }
     }
 }
 
@@ -133,6 +139,76 @@ fn bad_field() {
     assert_eq!(
         refused(&sheet(&body(&[], &[&nul])), 5, 8),
         Refusal::BadField { place: 8 }
+    );
+}
+
+#[test]
+fn label_numbers_go_by_the_edition() {
+    for (edition, last) in [(1, 1023), (2, 4095)] {
+        let of = |main: &[u8]| sheet_in(edition, &[], main);
+        let to_itself = |label| of(&body(&[(label, 0)], &[&jump(label)]));
+        for label in [0, 1023, last] {
+            assert_eq!(taken(&to_itself(label)), [0x99, 2, 0, 0xFB, 0xFF, 0]);
+        }
+        for label in [last + 1, last + 2, 65_535] {
+            // an entry and a branch, alone and behind one that is taken
+            let in_entry = Refusal::BadField { place: 2 };
+            assert_eq!(refused(&to_itself(label), 5, 2), in_entry);
+            refused(&of(&body(&[(last, 0), (label, 0)], &[])), 5, 6);
+            let in_branch = of(&body(&[], &[&jump(label)]));
+            assert_eq!(refused(&in_branch, 5, 5), Refusal::BadField { place: 5 });
+            let inside = with(&body(&[(label, 0)], &[]));
+            refused(&of(&body(&[(last, 0)], &[&jump(last), &inside])), 5, 14);
+        }
+    }
+    // no number from 1,024 on is one of edition 1
+    for label in [1024, 2048, 4095] {
+        let main = body(&[(label, 0)], &[&jump(label)]);
+        refused(&sheet_in(1, &[], &main), 5, 2);
+        taken(&sheet_in(2, &[], &main));
+    }
+}
+
+#[test]
+fn small_label_numbers_give_the_same_block_in_both_editions() {
+    for mode in MODES {
+        for (main, block) in sums(mode) {
+            for edition in [1, 2] {
+                for note in [&b""[..], b"a note"] {
+                    let sheet = sheet_in(edition, note, &main);
+                    assert_eq!(packed(&sheet, mode, ROOM), Ok(block.clone()));
+                }
+            }
+        }
+    }
+}
+
+#[test]
+fn every_label_of_edition_2_is_its_own() {
+    let entries: Vec<(usize, usize)> = (0..4096).map(|label| (label, label)).collect();
+    let jumps: Vec<Vec<u8>> = (0..4096).map(jump).collect();
+    let actions: Vec<&[u8]> = jumps.iter().map(Vec::as_slice).collect();
+    // each to itself
+    let block = taken(&sheet_in(2, &[], &body(&entries, &actions)));
+    let due = [[0x99, 2, 0, 0xFB, 0xFF].repeat(4096), vec![0]].concat();
+    assert!(block == due, "another block");
+    // without the entry of one, only the jump to that one changes
+    for lost in [0, 1023, 1024, 2048, 4095] {
+        let mut others = entries.clone();
+        others.remove(lost);
+        let sheet = sheet_in(2, &[], &body(&others, &actions));
+        let operand = 5 * lost + 3;
+        let mut due = due.clone();
+        due[operand..operand + 2].fill(0);
+        assert!(taken_plain(&sheet) == due, "another block");
+        let refusal = refused_in(Mode::STRICT, &sheet, 14, operand as i64);
+        assert_eq!(refusal, Refusal::NeverRecorded { operand });
+    }
+    // as many in edition 1
+    let too_many = sheet(&body(&entries, &actions));
+    assert_eq!(
+        refused(&too_many, 5, 4098),
+        Refusal::BadField { place: 4098 }
     );
 }
 

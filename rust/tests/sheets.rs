@@ -44,6 +44,7 @@ fn answers_are_the_oracles() {
     let records = fs::read(file).expect("crates/replay/stdin");
     let mut list = List(&records);
     let (mut record, mut by_mode) = (0, MODES.map(|_| 0));
+    let mut blocks_by_edition = [0, 0];
     while !list.0.is_empty() {
         record += 1;
         let (sheet, block, room) = (list.u32(), list.u32(), list.u32());
@@ -56,6 +57,8 @@ fn answers_are_the_oracles() {
             Ok(made) => {
                 assert_eq!((number, value), (0, made.len() as i64), "record {record}");
                 assert!(made == block, "record {record}: another block");
+                let edition = usize::from(sheet[sheet.len() - 4]);
+                blocks_by_edition[edition - 1] += 1;
             }
             Err(refusal) => {
                 let told = (refusal.number(), refusal.value());
@@ -65,4 +68,6 @@ fn answers_are_the_oracles() {
     }
     assert!(record > 3_000, "{record} records");
     assert_eq!(by_mode, MODES.map(|_| record / MODES.len()));
+    let [one, two] = blocks_by_edition;
+    assert!(one > 1_000 && two > 1_000, "{one} and {two} blocks");
 }

@@ -11,7 +11,7 @@ fn refusals() {
         ),
         (
             Refusal::BadTrailer,
-            "the sheet's last 8 bytes are no trailer: the distance back to the main body, edition 1 and the mark 41 31",
+            "the sheet's last 8 bytes are no trailer: the distance back to the main body, edition 1 or 2 and the mark 41 31",
         ),
         (
             Refusal::CutShort { place: 17 },

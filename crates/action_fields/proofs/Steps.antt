@@ -12,7 +12,7 @@ use Rattle.layout.specs.Lists.{each}
 use Rattle.layout.specs.Numbers.{u16At}
 use Rattle.layout.specs.Answers as answers
 use Rattle.layout.specs.Tree.{GotoFrame2, GetUrl, GetUrl2, WaitForFrame, DefineFunction, DefineFunction2, FunctionParamOf, functionParam, CatchTargetOf, Variable, Register}
-use Rattle.layout.specs.Read.{Text, edition1, Place, placed, ahead, Read, got, bad, Reader, chain, ifWhole, ifWithin, tested, repeat, readU8, readU16, readBytes, readFlag, readString, readParam, readCounted, isShape, hasCatch, hasRegister, readCatchTarget}
+use Rattle.layout.specs.Read.{Text, Terms, Place, placed, ahead, Read, got, bad, Reader, chain, ifWhole, ifWithin, tested, repeat, readU8, readU16, readBytes, readFlag, readString, readParam, readCounted, isShape, hasCatch, hasRegister, readCatchTarget}
 use Rattle.layout.specs.Strings.{mapFlat, mapOwner, mapParam}
 use Rattle.layout.specs.Lengths.{total, payloadLength, ownerLength, stringLength, paramLength, gotoFrame2Length}
 use Rattle.layout.specs.Pack.{spelling}
@@ -84,10 +84,10 @@ module _ (b : List ℕ) (pos : ℕ) where
   url-2-in v t w q r f e = e ∙ number-as _ _ _ _ _ _ ∙ scanned-as flatSize pos (GetUrl2 v t) (λ _. 0) (w + 1) (readU8 b (placed q)) (λ m. omega arith)
 
   -- GetUrl: two strings of lengths m and n, and the payload's length l
-  pub url-in : (s t : Text) (q u l m n : ℕ) {w : BytePosition} → readString edition1 b (placed q) ≡ got t (placed u) → stringSize s ≡ m + 1 → stringSize t ≡ n + 1 → l ≡ m + n + 2 → w .0 ≡ pos + l
-      → scan.Ends u w ≡ scanned flatSize pos (chain (readString edition1 b (placed q)) (λ t u. got (GetUrl s t) u))
+  pub url-in : (terms : Terms) (s t : Text) (q u l m n : ℕ) {w : BytePosition} → readString terms b (placed q) ≡ got t (placed u) → stringSize s ≡ m + 1 → stringSize t ≡ n + 1 → l ≡ m + n + 2 → w .0 ≡ pos + l
+      → scan.Ends u w ≡ scanned flatSize pos (chain (readString terms b (placed q)) (λ t u. got (GetUrl s t) u))
   unfolding flatSize mapFlat payloadLength stringSize stringLength
-  url-in s t q u l m n e f g h k = ends flatSize pos {a = GetUrl s t} (rw e) (omega (arith, f, g, h, k))
+  url-in terms s t q u l m n e f g h k = ends flatSize pos {a = GetUrl s t} (rw e) (omega (arith, f, g, h, k))
 
 -- ---- lists of strings and of parameters, as the code scans them
 
@@ -127,27 +127,27 @@ module _ {A B : Type 0} (g : A → B) (r : Reader A) (r′ : Reader B) (alike : 
       ap (scanned (total v) w) (counted-as b p)
       ∙ sym (scanned-as (total v) w (each g) (total (λ x. v (g x))) w (readCounted b r p) (λ xs. ap (λ n. w + n) (total-each g v xs)))
 
+same-text : (x : Read Text) → x ≡ chain x (λ s q. got s q)
+same-text (got s q) = refl
+same-text (bad f q) = refl
+
+abbrev nameOf : FunctionParamOf Text → Text
+nameOf (functionParam r s) = s
+
 -- a string after no byte is a string
-module _ (b : List ℕ) where
-  same-text : (x : Read Text) → x ≡ chain x (λ s q. got s q)
-  same-text (got s q) = refl
-  same-text (bad f q) = refl
-
+module _ (terms : Terms) (b : List ℕ) where
   plain-if : (p : Place) (t : Bool) → leb (p .at + 0) (length b) ≡ t
-      → chain (ifWhole t p (take 0 (drop (p .at) b)) (ahead 0 p)) (λ s q. readString edition1 b q) ≡ chain (readString edition1 b p) (λ s q. got s q)
+      → chain (ifWhole t p (take 0 (drop (p .at) b)) (ahead 0 p)) (λ s q. readString terms b q) ≡ chain (readString terms b p) (λ s q. got s q)
   unfolding ifWhole
-  plain-if p true h = ap (λ (n : ℕ). readString edition1 b (placed n)) (add-zero (p .at)) ∙ same-text (readString edition1 b p)
-  plain-if p false h = sym (ap (λ x. chain x (λ s q. got s q)) (reading.string-out b (p .at) (omega (arith, leb-false (p .at + 0) (length b) h))))
+  plain-if p true h = ap (λ (n : ℕ). readString terms b (placed n)) (add-zero (p .at)) ∙ same-text (readString terms b p)
+  plain-if p false h = sym (ap (λ x. chain x (λ s q. got s q)) (reading.string-out terms b (p .at) (omega (arith, leb-false (p .at + 0) (length b) h))))
 
-  pub named-plain : (p : Place) → readNamed b 0 p ≡ chain (readString edition1 b p) (λ s q. got s q)
+  pub named-plain : (p : Place) → readNamed terms b 0 p ≡ chain (readString terms b p) (λ s q. got s q)
   unfolding readNamed readBytes
   named-plain p = plain-if p (leb (p .at + 0) (length b)) refl
 
-  abbrev nameOf : FunctionParamOf Text → Text
-  nameOf (functionParam r s) = s
-
   -- and after one byte, a parameter's name
-  named-param : (p : Place) → readNamed b 1 p ≡ chain (readParam edition1 b p) (λ x q. got (nameOf x) q)
+  named-param : (p : Place) → readNamed terms b 1 p ≡ chain (readParam terms b p) (λ x q. got (nameOf x) q)
   unfolding readNamed readBytes readParam readU8
   named-param p = go (leb (p .at + 1) (length b))
     where
@@ -155,9 +155,9 @@ module _ (b : List ℕ) where
       last r (got s q) = refl
       last r (bad f q) = refl
 
-      go : (t : Bool) → chain (ifWhole t p (take 1 (drop (p .at) b)) (ahead 1 p)) (λ s q. readString edition1 b q)
-          ≡ chain (chain (ifWhole t p (getD b (p .at) 0) (ahead 1 p)) (λ r q. chain (readString edition1 b q) (λ s u. got (functionParam r s) u))) (λ x q. got (nameOf x) q)
-      go true = unfold ifWhole in last (getD b (p .at) 0) (readString edition1 b (ahead 1 p))
+      go : (t : Bool) → chain (ifWhole t p (take 1 (drop (p .at) b)) (ahead 1 p)) (λ s q. readString terms b q)
+          ≡ chain (chain (ifWhole t p (getD b (p .at) 0) (ahead 1 p)) (λ r q. chain (readString terms b q) (λ s u. got (functionParam r s) u))) (λ x q. got (nameOf x) q)
+      go true = unfold ifWhole in last (getD b (p .at) 0) (readString terms b (ahead 1 p))
       go false = unfold ifWhole in refl
 
 -- ---- functions
@@ -167,29 +167,35 @@ unfolding total each namedSize stringSize
 strings-total [] = refl
 strings-total (s ∷ ss) = omega (arith, strings-total ss)
 
-params-total : (b : List ℕ) (ps : List (FunctionParamOf Text)) → total (λ x. namedSize 1 (nameOf b x)) ps ≡ total paramLength (each (mapParam spelling) ps)
+params-total : (ps : List (FunctionParamOf Text)) → total (λ x. namedSize 1 (nameOf x)) ps ≡ total paramLength (each (mapParam spelling) ps)
 unfolding total each namedSize stringSize stringLength mapParam paramLength
-params-total b [] = refl
-params-total b (functionParam r s ∷ ps) = omega (arith, params-total b ps)
+params-total [] = refl
+params-total (functionParam r s ∷ ps) = omega (arith, params-total ps)
 
 -- the code scans the parameters from a position w on: that of a function without any
-module _ (b : List ℕ) (pos : ℕ) (s : Text) (w q : ℕ) where
-  pub function-in : (r : Scan) → w ≡ pos + (stringSize s + 4) → r ≡ scanned (total (namedSize 0)) w (readCounted b (readNamed b 0) (placed q))
-      → r ≡ scanned ownerSize pos (chain (readCounted b (readString edition1 b) (placed q)) (λ ps u. got (DefineFunction s ps) u))
+module _ (terms : Terms) (b : List ℕ) (pos : ℕ) (s : Text) (w q : ℕ) where
+  pub function-in : (r : Scan) → w ≡ pos + (stringSize s + 4) → r ≡ scanned (total (namedSize 0)) w (readCounted b (readNamed terms b 0) (placed q))
+      → r ≡ scanned ownerSize pos (chain (readCounted b (readString terms b) (placed q)) (λ ps u. got (DefineFunction s ps) u))
   unfolding ownerSize mapOwner ownerLength stringSize stringLength
   function-in r f e =
       e
-      ∙ scanned-list (λ s. s) (readString edition1 b) (readNamed b 0) (named-plain b) b (namedSize 0) w (placed q)
-      ∙ scanned-as ownerSize pos (DefineFunction s) (total (λ s. namedSize 0 s)) w (readCounted b (readString edition1 b) (placed q)) (λ ps. omega (arith, strings-total ps))
+      ∙ scanned-list (λ s. s) (readString terms b) (readNamed terms b 0) (named-plain terms b) b (namedSize 0) w (placed q)
+      ∙ scanned-as ownerSize pos (DefineFunction s) (total (λ s. namedSize 0 s)) w (readCounted b (readString terms b) (placed q)) (λ ps. omega (arith, strings-total ps))
 
+  -- the parameters, as the code scans them
+  pub params-scan : {r : Scan} → r ≡ scanned (total (namedSize 1)) w (readCounted b (readNamed terms b 1) (placed q))
+      → r ≡ scanned (total (λ x. namedSize 1 (nameOf x))) w (readCounted b (readParam terms b) (placed q))
+  params-scan e = e ∙ scanned-list nameOf (readParam terms b) (readNamed terms b 1) (named-param terms b) b (namedSize 1) w (placed q)
+
+module _ (b : List ℕ) (pos : ℕ) (s : Text) (w : ℕ) where
   -- DefineFunction2's registers and flags come after its parameters
-  pub function-2-in : (ps : List (FunctionParamOf Text)) (x u : ℕ) (r : Scan) → w ≡ pos + (stringSize s + 7) → x ≡ w + total (λ x. namedSize 1 (nameOf b x)) ps
+  pub function-2-in : (ps : List (FunctionParamOf Text)) (x u : ℕ) (r : Scan) → w ≡ pos + (stringSize s + 7) → x ≡ w + total (λ x. namedSize 1 (nameOf x)) ps
       → r ≡ scanned (λ _. 0) x (readRegisters b (placed u))
       → r ≡ scanned ownerSize pos (chain (readU8 b (placed u)) (λ k v. chain (tested (λ f. ltb f 512) (readU16 b) v) (λ f z. got (DefineFunction2 s ps k f) z)))
   unfolding ownerSize mapOwner ownerLength stringSize stringLength readRegisters
   function-2-in ps x u r f g e =
       e
-      ∙ scanned-as ownerSize pos (λ (y : ℕ × ℕ). DefineFunction2 s ps (y .0) (y .1)) (λ _. 0) x (readRegisters b (placed u)) (λ y. omega (arith, params-total b ps))
+      ∙ scanned-as ownerSize pos (λ (y : ℕ × ℕ). DefineFunction2 s ps (y .0) (y .1)) (λ _. 0) x (readRegisters b (placed u)) (λ y. omega (arith, params-total ps))
       ∙ ap (scanned ownerSize pos) (regroup (readU8 b (placed u)))
     where
       inner : (k : ℕ) (x : Read ℕ) → chain (chain {B = ℕ × ℕ} x (λ f z. got (k, f) z)) (λ y z. got (DefineFunction2 s ps (y .0) (y .1)) z) ≡ chain x (λ f z. got (DefineFunction2 s ps k f) z)
@@ -200,11 +206,6 @@ module _ (b : List ℕ) (pos : ℕ) (s : Text) (w q : ℕ) where
           ≡ chain x (λ k v. chain (tested (λ f. ltb f 512) (readU16 b) v) (λ f z. got (DefineFunction2 s ps k f) z))
       regroup (got k v) = inner k (tested (λ f. ltb f 512) (readU16 b) v)
       regroup (bad f v) = refl
-
-  -- the parameters, as the code scans them
-  pub params-scan : {r : Scan} → r ≡ scanned (total (namedSize 1)) w (readCounted b (readNamed b 1) (placed q))
-      → r ≡ scanned (total (λ x. namedSize 1 (nameOf b x))) w (readCounted b (readParam edition1 b) (placed q))
-  params-scan e = e ∙ scanned-list (nameOf b) (readParam edition1 b) (readNamed b 1) (named-param b) b (namedSize 1) w (placed q)
 
 -- ---- registers and flags
 
@@ -237,30 +238,30 @@ module _ (b : List ℕ) (at pos : ℕ) where
 
 -- ---- a Try's shape and target
 
-module _ (b : List ℕ) (at pos : ℕ) where
-  pub caught-out : length b < at + 1 → scan.Stops fault.CutShort at ≡ scanned caughtSize pos (readCaught b (placed at))
+module _ (terms : Terms) (b : List ℕ) (at pos : ℕ) where
+  pub caught-out : length b < at + 1 → scan.Stops fault.CutShort at ≡ scanned caughtSize pos (readCaught terms b (placed at))
   unfolding readCaught tested faultOf
   caught-out h = stops caughtSize pos {g = answers.CutShort} {q = at} (rw (reading.u8-out b at h))
 
   module _ (h : at + 1 ≤ length b) where
     caught-if : (n : ℕ) (c r : Bool) → getD b at 0 ≡ n → isShape n ≡ true → hasCatch n ≡ c → hasRegister n ≡ r
-        → readCaught b (placed at) ≡ chain (readCatchTarget edition1 b c r (placed (at + 1))) (λ t q. got (n, t) q)
+        → readCaught terms b (placed at) ≡ chain (readCatchTarget terms b c r (placed (at + 1))) (λ t q. got (n, t) q)
     unfolding readCaught tested ifWithin
     caught-if n c r e s i j = rw (reading.u8-in b at h, e, s, i, j)
 
     -- no catch: one zero byte
-    pub caught-none : (n : ℕ) {w : BytePosition} → getD b at 0 ≡ n → isShape n ≡ true → hasCatch n ≡ false → w .0 ≡ pos + 8 → scan.Ends (at + 1) w ≡ scanned caughtSize pos (readCaught b (placed at))
+    pub caught-none : (n : ℕ) {w : BytePosition} → getD b at 0 ≡ n → isShape n ≡ true → hasCatch n ≡ false → w .0 ≡ pos + 8 → scan.Ends (at + 1) w ≡ scanned caughtSize pos (readCaught terms b (placed at))
     unfolding readCatchTarget caughtSize targetSize stringSize stringLength spelling
     caught-none n e s c f = ends caughtSize pos (caught-if n false (hasRegister n) e s c refl) f
 
     -- a name
     pub caught-name : (n w : ℕ) (r : Scan) → getD b at 0 ≡ n → isShape n ≡ true → hasCatch n ≡ true → hasRegister n ≡ false → w ≡ pos + 7
-        → r ≡ scanned stringSize w (readString edition1 b (placed (at + 1))) → r ≡ scanned caughtSize pos (readCaught b (placed at))
+        → r ≡ scanned stringSize w (readString terms b (placed (at + 1))) → r ≡ scanned caughtSize pos (readCaught terms b (placed at))
     unfolding readCatchTarget caughtSize targetSize
     caught-name n w r e s c g f m =
         m
-        ∙ scanned-as caughtSize pos (λ t. (n, Variable t)) stringSize w (readString edition1 b (placed (at + 1))) (λ t. omega (arith, f))
-        ∙ ap (scanned caughtSize pos) (sym (caught-if n true false e s c g ∙ regroup (readString edition1 b (placed (at + 1)))))
+        ∙ scanned-as caughtSize pos (λ t. (n, Variable t)) stringSize w (readString terms b (placed (at + 1))) (λ t. omega (arith, f))
+        ∙ ap (scanned caughtSize pos) (sym (caught-if n true false e s c g ∙ regroup (readString terms b (placed (at + 1)))))
       where
         regroup : (x : Read Text) → chain {B = ℕ × CatchTargetOf Text} (chain {B = CatchTargetOf Text} x (λ t q. got (Variable t) q)) (λ t q. got (n, t) q) ≡ chain x (λ t q. got (n, Variable t) q)
         regroup (got t q) = refl
@@ -268,7 +269,7 @@ module _ (b : List ℕ) (at pos : ℕ) where
 
     -- a register
     pub caught-register : (n w : ℕ) (r : Scan) → getD b at 0 ≡ n → isShape n ≡ true → hasCatch n ≡ true → hasRegister n ≡ true → w ≡ pos + 8
-        → r ≡ scanned (λ _. 0) w (readBytes b 1 (placed (at + 1))) → r ≡ scanned caughtSize pos (readCaught b (placed at))
+        → r ≡ scanned (λ _. 0) w (readBytes b 1 (placed (at + 1))) → r ≡ scanned caughtSize pos (readCaught terms b (placed at))
     unfolding readCatchTarget caughtSize targetSize readBytes readU8
     caught-register n w r e s c g f m =
         m
@@ -280,7 +281,7 @@ module _ (b : List ℕ) (at pos : ℕ) where
         regroup (got t q) = refl
         regroup (bad f q) = refl
 
-    pub caught-bad : isShape (getD b at 0) ≡ false → scan.Stops fault.BadField at ≡ scanned caughtSize pos (readCaught b (placed at))
+    pub caught-bad : isShape (getD b at 0) ≡ false → scan.Stops fault.BadField at ≡ scanned caughtSize pos (readCaught terms b (placed at))
     unfolding readCaught tested ifWithin faultOf
     caught-bad s = stops caughtSize pos {g = answers.BadField} {q = at} (rw (reading.u8-in b at h, s))
 

@@ -3,7 +3,7 @@ use Prim.Native.Nat.{ℕ, _+_, _/_, _%_}
 use mathlib.Core.List.{List}
 use lib.Dec.{ltb}
 use Rattle.layout.specs.Tree.{FlatOf, GotoFrame2, GetUrl, GetUrl2, WaitForFrame, OwnerOf, DefineFunction, DefineFunction2, CatchTargetOf, Variable, Register}
-use Rattle.layout.specs.Read.{Text, edition1, Reader, _>>=_, give, tested, readU8, readU16, readFlag, readString, readParam, readCounted, isShape, hasCatch, hasRegister, readCatchTarget}
+use Rattle.layout.specs.Read.{Text, Terms, Reader, _>>=_, give, tested, readU8, readU16, readFlag, readString, readParam, readCounted, isShape, hasCatch, hasRegister, readCatchTarget}
 use Rattle.layout.specs.Strings.{mapFlat, mapOwner}
 use Rattle.layout.specs.Lengths.{payloadLength, ownerLength}
 use Rattle.layout.specs.Pack.{spelling}
@@ -29,28 +29,29 @@ module _ (b : List ℕ) where
     method ← readU8 b
     give (GetUrl2 variables target method)
 
-  unfoldable pub readGetUrl : Reader (FlatOf Text)
-  readGetUrl = do
-    url ← readString edition1 b
-    target ← readString edition1 b
-    give (GetUrl url target)
-
-  unfoldable pub readFunction : Reader (OwnerOf Text)
-  readFunction = do
-    name ← readString edition1 b
-    params ← readCounted b (readString edition1 b)
-    give (DefineFunction name params)
-
   unfoldable pub readRegisters : Reader (ℕ × ℕ)
   readRegisters = do
     registers ← readU8 b
     flags ← tested (λ flags. ltb flags 512) (readU16 b)
     give (registers, flags)
 
+module _ (terms : Terms) (b : List ℕ) where
+  unfoldable pub readGetUrl : Reader (FlatOf Text)
+  readGetUrl = do
+    url ← readString terms b
+    target ← readString terms b
+    give (GetUrl url target)
+
+  unfoldable pub readFunction : Reader (OwnerOf Text)
+  readFunction = do
+    name ← readString terms b
+    params ← readCounted b (readString terms b)
+    give (DefineFunction name params)
+
   unfoldable pub readFunction2 : Reader (OwnerOf Text)
   readFunction2 = do
-    name ← readString edition1 b
-    params ← readCounted b (readParam edition1 b)
+    name ← readString terms b
+    params ← readCounted b (readParam terms b)
     registers ← readU8 b
     flags ← tested (λ flags. ltb flags 512) (readU16 b)
     give (DefineFunction2 name params registers flags)
@@ -59,7 +60,7 @@ module _ (b : List ℕ) where
   unfoldable pub readCaught : Reader (ℕ × CatchTargetOf Text)
   readCaught = do
     shape ← tested isShape (readU8 b)
-    target ← readCatchTarget edition1 b (hasCatch shape) (hasRegister shape)
+    target ← readCatchTarget terms b (hasCatch shape) (hasRegister shape)
     give (shape, target)
 
 -- a payload without a body

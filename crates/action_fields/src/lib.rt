@@ -3,7 +3,9 @@
 ghost use mathlib.Core.Path.{_≡_};
 ghost use Rattle.layout.specs.Read.{placed};
 ghost use Rattle.positions.specs.Scanned.{scanned, Roomy};
+ghost use Rattle.editions.specs.Allowed.{termsOf};
 ghost use Rattle.action_fields.specs.Fields.{readWaitForFrame, readGotoFrame2, readGetUrl2, readGetUrl, flatSize, readFunction, readRegisters, readFunction2, ownerSize, readCaught, caughtSize};
+use editions::Terms;
 use fields::u16_at;
 use lists::scan_strings;
 use opcode::OpCode;
@@ -55,13 +57,13 @@ pub fn scan_get_url_2(b: &[u8], at: usize, pos: BytePosition) -> Scan
 }
 
 // GetUrl: two strings.
-pub fn scan_get_url(b: &[u8], at: usize, pos: BytePosition) -> Scan
+pub fn scan_get_url(b: &[u8], terms: Terms, at: usize, pos: BytePosition) -> Scan
     requires { ⌜ Roomy (now b) at pos ⌝ }
-    ensures { λ r. ⌜ r ≡ scanned flatSize (pos .0) (readGetUrl (now (b .entry)) (placed at)) ⌝ }
+    ensures { λ r. ⌜ r ≡ scanned flatSize (pos .0) (readGetUrl (termsOf terms) (now (b .entry)) (placed at)) ⌝ }
 {
-    match scan_string(b, at, pos) {
+    match scan_string(b, terms, at, pos) {
         Scan::Stops(f, p) => Scan::Stops(f, p),
-        Scan::Ends(p, w) => match scan_string(b, p, w) {
+        Scan::Ends(p, w) => match scan_string(b, terms, p, w) {
             Scan::Stops(f, q) => Scan::Stops(f, q),
             Scan::Ends(q, _) => {
                 let len = OpCode::get_url_len(u16_at(b, at), u16_at(b, p));
@@ -74,15 +76,15 @@ pub fn scan_get_url(b: &[u8], at: usize, pos: BytePosition) -> Scan
 // ---- payloads before bodies
 
 // A function's name and parameters. These are measured from the end of a payload without any, here and below.
-pub fn scan_define_function(b: &[u8], at: usize, pos: BytePosition) -> Scan
+pub fn scan_define_function(b: &[u8], terms: Terms, at: usize, pos: BytePosition) -> Scan
     requires { ⌜ Roomy (now b) at pos ⌝ }
-    ensures { λ r. ⌜ r ≡ scanned ownerSize (pos .0) (readFunction (now (b .entry)) (placed at)) ⌝ }
+    ensures { λ r. ⌜ r ≡ scanned ownerSize (pos .0) (readFunction (termsOf terms) (now (b .entry)) (placed at)) ⌝ }
 {
-    match scan_string(b, at, pos) {
+    match scan_string(b, terms, at, pos) {
         Scan::Stops(f, p) => Scan::Stops(f, p),
         Scan::Ends(p, _) => {
             let len = OpCode::define_function_len(u16_at(b, at), 0);
-            scan_strings(b, p, 0, BytePosition(pos.0 + len))
+            scan_strings(b, terms, p, 0, BytePosition(pos.0 + len))
         }
     }
 }
@@ -106,15 +108,15 @@ fn scan_registers(b: &[u8], at: usize, pos: BytePosition) -> Scan
 }
 
 // A function's name, its parameters after their registers, its register count and flags.
-pub fn scan_define_function_2(b: &[u8], at: usize, pos: BytePosition) -> Scan
+pub fn scan_define_function_2(b: &[u8], terms: Terms, at: usize, pos: BytePosition) -> Scan
     requires { ⌜ Roomy (now b) at pos ⌝ }
-    ensures { λ r. ⌜ r ≡ scanned ownerSize (pos .0) (readFunction2 (now (b .entry)) (placed at)) ⌝ }
+    ensures { λ r. ⌜ r ≡ scanned ownerSize (pos .0) (readFunction2 (termsOf terms) (now (b .entry)) (placed at)) ⌝ }
 {
-    match scan_string(b, at, pos) {
+    match scan_string(b, terms, at, pos) {
         Scan::Stops(f, p) => Scan::Stops(f, p),
         Scan::Ends(p, _) => {
             let len = OpCode::define_function_2_len(u16_at(b, at), 0);
-            match scan_strings(b, p, 1, BytePosition(pos.0 + len)) {
+            match scan_strings(b, terms, p, 1, BytePosition(pos.0 + len)) {
                 Scan::Stops(f, q) => Scan::Stops(f, q),
                 Scan::Ends(q, x) => scan_registers(b, q, x),
             }
@@ -124,9 +126,9 @@ pub fn scan_define_function_2(b: &[u8], at: usize, pos: BytePosition) -> Scan
 
 // A Try's shape and catch target. A name is measured from `target` on; a register, or the zero byte of a Try without a catch, ends
 // at `end`.
-pub fn scan_catch(b: &[u8], at: usize, pos: BytePosition) -> Scan
+pub fn scan_catch(b: &[u8], terms: Terms, at: usize, pos: BytePosition) -> Scan
     requires { ⌜ Roomy (now b) at pos ⌝ }
-    ensures { λ r. ⌜ r ≡ scanned caughtSize (pos .0) (readCaught (now (b .entry)) (placed at)) ⌝ }
+    ensures { λ r. ⌜ r ≡ scanned caughtSize (pos .0) (readCaught (termsOf terms) (now (b .entry)) (placed at)) ⌝ }
 {
     if b.len() <= at {
         return Scan::Stops(Fault::CutShort, at);
@@ -136,9 +138,9 @@ pub fn scan_catch(b: &[u8], at: usize, pos: BytePosition) -> Scan
     let end = BytePosition(pos.0 + OpCode::try_len(1));
     match b[at] {
         0 => Scan::Ends(p, end),
-        1 => scan_string(b, p, target),
+        1 => scan_string(b, terms, p, target),
         2 => Scan::Ends(p, end),
-        3 => scan_string(b, p, target),
+        3 => scan_string(b, terms, p, target),
         5 => scan_bytes(b, p, 1, end),
         7 => scan_bytes(b, p, 1, end),
         _ => Scan::Stops(Fault::BadField, at),

@@ -16,7 +16,7 @@ use Rattle.layout.specs.Answers.{CutShort, UnknownCode, TooDeep}
 use Rattle.layout.specs.Answers as answers
 use Rattle.layout.specs.OpCode.{OpCode, SmallOpCode, byte, smallByte, opcodeOf, opcodes}
 use Rattle.layout.specs.Tree.{Entry, entry, ActionIndex, ActionOf, ActionListOf, ActionsOf, flat, Small, empty, more, body}
-use Rattle.layout.specs.Read.{Text, edition1, Place, placed, Read, got, bad, Reader, chain, repeat, readU16, readEntries, readFields, readFieldsIf, readAction, readActions, readBodyWith, readBody}
+use Rattle.layout.specs.Read.{Text, Terms, Place, placed, Read, got, bad, Reader, chain, repeat, readU16, readEntries, readFields, readFieldsIf, readAction, readActions, readBodyWith, readBody}
 use Rattle.layout.specs.Strings.{mapAction, mapActions, mapBody, mapFlat}
 use Rattle.layout.specs.Payload.{opcode, payload, headed, framed}
 use Rattle.layout.specs.Write.{size, sizes, bodySize, Position, position, moved, Event, eventIf, labelAt, payloadTest, bodyTest, labelsAt, trace, traces, traceBody}
@@ -24,7 +24,8 @@ use Rattle.layout.specs.Lengths.{total}
 use Rattle.layout.specs.Pack.{spelling}
 use Rattle.laws.specs.ReadFits.{good-got, action-good, body-good}
 use Rattle.laws.specs.Packed.{spells}
-use Rattle.labels.specs.Table.{entriesAt, due, Rising, Tables, recordAll, recorded, positionOf}
+use Rattle.labels.proofs.Labels.{slots-kept}
+use Rattle.labels.specs.Table.{entriesAt, due, Rising, Slots, Tables, recordAll, recorded, positionOf}
 use Rattle.positions.specs.declared.BytePosition.{BytePosition}
 use Rattle.opcode.specs.Listed.{listed, isSome}
 use Rattle.positions.specs.declared.Scan.{Scan}
@@ -91,17 +92,17 @@ module _ {A : Type 0} (sz : A → ℕ) (tr : A → Position → List Event) (fro
 
 -- ---- what a payload's answer tells of the bodies behind it
 
-module _ {read : Reader (ActionsOf Text ℕ) → Read (ActionOf Text ℕ)} {at end pos : ℕ} {over over′ : List ℕ} where
-  pub did-bodies : {l : Laid} {q n : ℕ} {w : BytePosition} → Laying read at end pos over over′ l → l ≡ laid.Bodies q w n → Owning read at end pos over over′ q w n (λ home. home)
+module _ {bound : ℕ} {read : Reader (ActionsOf Text ℕ) → Read (ActionOf Text ℕ)} {at end pos : ℕ} {over over′ : List ℕ} where
+  pub did-bodies : {l : Laid} {q n : ℕ} {w : BytePosition} → Laying bound read at end pos over over′ l → l ≡ laid.Bodies q w n → Owning read at end pos over over′ q w n (λ home. home)
   did-bodies {q = q} {n = n} {w = w} y e = go (rw e at y)
     where
-      go : Laying read at end pos over over′ (laid.Bodies q w n) → Owning read at end pos over over′ q w n (λ home. home)
+      go : Laying bound read at end pos over over′ (laid.Bodies q w n) → Owning read at end pos over over′ q w n (λ home. home)
       go (bodies least o) = o
 
-  pub did-function : {l : Laid} {q : ℕ} {w : BytePosition} → Laying read at end pos over over′ l → l ≡ laid.Function q w → Owning read at end pos over over′ q w 1 (λ home. w .0)
+  pub did-function : {l : Laid} {q : ℕ} {w : BytePosition} → Laying bound read at end pos over over′ l → l ≡ laid.Function q w → Owning read at end pos over over′ q w 1 (λ home. w .0)
   did-function {q = q} {w = w} y e = go (rw e at y)
     where
-      go : Laying read at end pos over over′ (laid.Function q w) → Owning read at end pos over over′ q w 1 (λ home. w .0)
+      go : Laying bound read at end pos over over′ (laid.Function q w) → Owning read at end pos over over′ q w 1 (λ home. w .0)
       go (function o) = o
 
 -- there is room for them
@@ -111,15 +112,15 @@ owned-place o r = record { bytes = r .bytes; inside = o .onward .within; room = 
 
 -- ---- an action
 
-module _ (b : List ℕ) (d at : ℕ) where
+module _ (terms : Terms) (b : List ℕ) (d at : ℕ) where
   abbrev pub theAction : Read (ActionOf Text ℕ)
-  theAction = readAction edition1 b (readBody edition1 b d) (placed at)
+  theAction = readAction terms b (readBody terms b d) (placed at)
 
   pub action-out : length b ≤ at → theAction ≡ bad CutShort (placed at)
   unfolding readAction
   action-out h = rw (u8-out b at (omega arith))
 
-  pub action-in : at < length b → theAction ≡ readFieldsIf edition1 b (readBody edition1 b d) (opcodeOf (getD b at 0)) (placed at) (placed (at + 1))
+  pub action-in : at < length b → theAction ≡ readFieldsIf terms b (readBody terms b d) (opcodeOf (getD b at 0)) (placed at) (placed (at + 1))
   unfolding readAction
   action-in h = rw (u8-in b at (omega arith))
 
@@ -140,7 +141,7 @@ module _ (b : List ℕ) (d at : ℕ) where
           of-small x k = rw (lt-ltb (smallByte x) 128 k) (ap (done (at + 1) (pos .0 + 1)) (run-none (state tab over)))
 
           of : (x : OpCode) → byte x < 128
-              → outcome actionSize actionTrace (positionOf pos home) (state tab over) (readFields edition1 b (readBody edition1 b d) x (placed (at + 1))) ≡ done (at + 1) (pos .0 + 1) (state tab over)
+              → outcome actionSize actionTrace (positionOf pos home) (state tab over) (readFields terms b (readBody terms b d) x (placed (at + 1))) ≡ done (at + 1) (pos .0 + 1) (state tab over)
           of (OpCode.Small x) k = of-small x k
           of OpCode.GotoFrame k = absurd (omega arith)
           of OpCode.GetUrl k = absurd (omega arith)
@@ -179,48 +180,48 @@ module _ (b : List ℕ) (d at : ℕ) where
               absurd (omega arith)
 
       module _ (l : Laid) (over′ : List ℕ)
-          (y : Laying (λ inner. readFieldsIf edition1 b inner (opcodeOf (getD b at 0)) (placed at) (placed (at + 1))) at (length b) (pos .0) over over′ l) where
+          (y : Laying (terms .labelBound) (λ inner. readFieldsIf terms b inner (opcodeOf (getD b at 0)) (placed at) (placed (at + 1))) at (length b) (pos .0) over over′ l) where
         abbrev Here : Laid → Type 0
-        Here l = Laying (λ inner. readFieldsIf edition1 b inner (opcodeOf (getD b at 0)) (placed at) (placed (at + 1))) at (length b) (pos .0) over over′ l
+        Here l = Laying (terms .labelBound) (λ inner. readFieldsIf terms b inner (opcodeOf (getD b at 0)) (placed at) (placed (at + 1))) at (length b) (pos .0) over over′ l
 
         pub did-stops : (f : Fault) (q : ℕ) → l ≡ laid.Stops f q → Ran Out (scan.Stops f q) (state tab over′)
         did-stops f q e = go (rw e at y)
           where
             go : Here (laid.Stops f q) → Ran Out (scan.Stops f q) (state tab over′)
-            go (stops g) = ran-fault _ (rw (action-in h) (g (readBody edition1 b d) (state tab over) (home .0)))
+            go (stops g) = ran-fault _ (rw (action-in h) (g (readBody terms b d) (state tab over) (home .0)))
 
         pub did-flat : (q : ℕ) (w : BytePosition) → l ≡ laid.Flat q w → Ran Out (scan.Ends q w) (state tab over′)
         did-flat q w e = go (rw e at y)
           where
             go : Here (laid.Flat q w) → Ran Out (scan.Ends q w) (state tab over′)
-            go (flat g m) = ran-done (rw (action-in h) (g (readBody edition1 b d) tab (home .0)))
+            go (flat g m) = ran-done (rw (action-in h) (g (readBody terms b d) tab (home .0)))
 
         pub did-branch : (q : ℕ) (w : BytePosition) (n : ℕ) → l ≡ laid.Branch q w n → Ran Out (scan.Ends q w) (state tab over′)
         did-branch q w n e = go (rw e at y)
           where
             go : Here (laid.Branch q w n) → Ran Out (scan.Ends q w) (state tab over′)
             go (to-label {k = k} i u v g) =
-                ran-done (rw (action-in h, ← v) (outcome-got actionSize actionTrace (positionOf pos home) (state tab over) (g (readBody edition1 b d)) (unfold size mapAction in i) (unfold trace mapAction run recorded recordAll noteAll in refl)))
+                ran-done (rw (action-in h, ← v) (outcome-got actionSize actionTrace (positionOf pos home) (state tab over) (g (readBody terms b d)) (unfold size mapAction in i) (unfold trace mapAction run recorded recordAll noteAll in refl)))
 
       -- what its bodies come to
       pub owned-ran : {over′ : List ℕ} {q n : ℕ} {w : BytePosition} {inside : ℕ → ℕ}
-          → Owning (λ inner. readFieldsIf edition1 b inner (opcodeOf (getD b at 0)) (placed at) (placed (at + 1))) at (length b) (pos .0) over over′ q w n inside
-          → {r : Scan} {s′ : State} → Ran (outcome (total bodyLength) bodiesEvents (position (w .0) (inside (home .0))) (state tab over′) (repeat (readBody edition1 b d) n (placed q))) r s′ → Ran Out r s′
-      owned-ran o k = rw (action-in h, o .runs (readBody edition1 b d) tab (home .0)) k
+          → Owning (λ inner. readFieldsIf terms b inner (opcodeOf (getD b at 0)) (placed at) (placed (at + 1))) at (length b) (pos .0) over over′ q w n inside
+          → {r : Scan} {s′ : State} → Ran (outcome (total bodyLength) bodiesEvents (position (w .0) (inside (home .0))) (state tab over′) (repeat (readBody terms b d) n (placed q))) r s′ → Ran Out r s′
+      owned-ran o k = rw (action-in h, o .runs (readBody terms b d) tab (home .0)) k
 
 -- ---- the actions of a body, from index i on
 
 abbrev pub outcomes : List Entry → ℕ → Position → State → Read (ActionListOf Text ℕ) → Outcome
 outcomes es i w s x = outcome (λ xs. sizes (mapActions spelling xs)) (λ xs p. traces (mapActions spelling xs) es (record { index = i }) p) w s x
 
-module _ (b : List ℕ) (inner : Reader (ActionsOf Text ℕ)) where
-  actions-none : (n p : ℕ) → n ≤ 0 → readActions edition1 b inner n (placed p) ≡ got empty (placed p)
+module _ (terms : Terms) (b : List ℕ) (inner : Reader (ActionsOf Text ℕ)) where
+  actions-none : (n p : ℕ) → n ≤ 0 → readActions terms b inner n (placed p) ≡ got empty (placed p)
   unfolding readActions
   actions-none zero p h = refl
   actions-none (suc n) p h = absurd (omega arith)
 
   actions-more : (n p : ℕ) → 0 < n
-      → readActions edition1 b inner n (placed p) ≡ chain (readAction edition1 b inner (placed p)) (λ a q. chain (readActions edition1 b inner (n - 1) q) (λ xs r. got (more a xs) r))
+      → readActions terms b inner n (placed p) ≡ chain (readAction terms b inner (placed p)) (λ a q. chain (readActions terms b inner (n - 1) q) (λ xs r. got (more a xs) r))
   unfolding readActions
   actions-more zero p h = absurd (omega arith)
   actions-more (suc n) p h = simp sub-one
@@ -229,27 +230,27 @@ module _ (b : List ℕ) (inner : Reader (ActionsOf Text ℕ)) where
     abbrev labels : List Event
     labels = labelsAt es (record { index = i }) w
 
-    step-done : (q x : ℕ) (u : State) → 0 < n → outcome actionSize actionTrace w (run labels s) (readAction edition1 b inner (placed p)) ≡ done q x u
-        → outcomes es i w s (readActions edition1 b inner n (placed p)) ≡ outcomes es (i + 1) (position x (w .home)) u (readActions edition1 b inner (n - 1) (placed q))
+    step-done : (q x : ℕ) (u : State) → 0 < n → outcome actionSize actionTrace w (run labels s) (readAction terms b inner (placed p)) ≡ done q x u
+        → outcomes es i w s (readActions terms b inner n (placed p)) ≡ outcomes es (i + 1) (position x (w .home)) u (readActions terms b inner (n - 1) (placed q))
     unfolding outcome sizes traces mapActions moved
     step-done q x u h e =
-        let o = outcome-is actionSize actionTrace w (run labels s) (readAction edition1 b inner (placed p)) e in
-        go (o .0) (o .1) (o .2) (o .3) (readActions edition1 b inner (n - 1) (placed q)) refl
+        let o = outcome-is actionSize actionTrace w (run labels s) (readAction terms b inner (placed p)) e in
+        go (o .0) (o .1) (o .2) (o .3) (readActions terms b inner (n - 1) (placed q)) refl
       where
-        go : (a : ActionOf Text ℕ) → readAction edition1 b inner (placed p) ≡ got a (placed q) → x ≡ w .at + actionSize a → u ≡ run (actionTrace a w) (run labels s)
-            → (y : Read (ActionListOf Text ℕ)) → readActions edition1 b inner (n - 1) (placed q) ≡ y
-            → outcomes es i w s (readActions edition1 b inner n (placed p)) ≡ outcomes es (i + 1) (position x (w .home)) u (readActions edition1 b inner (n - 1) (placed q))
+        go : (a : ActionOf Text ℕ) → readAction terms b inner (placed p) ≡ got a (placed q) → x ≡ w .at + actionSize a → u ≡ run (actionTrace a w) (run labels s)
+            → (y : Read (ActionListOf Text ℕ)) → readActions terms b inner (n - 1) (placed q) ≡ y
+            → outcomes es i w s (readActions terms b inner n (placed p)) ≡ outcomes es (i + 1) (position x (w .home)) u (readActions terms b inner (n - 1) (placed q))
         go a f c g (got xs r) k =
             let l : w .at + (actionSize a + sizes (mapActions spelling xs)) ≡ w .at + actionSize a + sizes (mapActions spelling xs) = omega arith in
             let z : List Event = traces (mapActions spelling xs) es (record { index = i + 1 }) (position (w .at + actionSize a) (w .home)) in
             rw (actions-more n p h, f, k, c, g, l, run-append labels (actionTrace a w ++ z) s, run-append (actionTrace a w) z (run labels s))
         go a f c g (bad m r) k = rw (actions-more n p h, f, k)
 
-    step-fault : (f : Fault) (v : ℕ) → 0 < n → outcome actionSize actionTrace w (run labels s) (readAction edition1 b inner (placed p)) ≡ fault f v
-        → outcomes es i w s (readActions edition1 b inner n (placed p)) ≡ fault f v
-    step-fault f v h e = rw (actions-more n p h) (fault-then actionSize actionTrace w (run labels s) _ _ w s (readAction edition1 b inner (placed p)) _ e)
+    step-fault : (f : Fault) (v : ℕ) → 0 < n → outcome actionSize actionTrace w (run labels s) (readAction terms b inner (placed p)) ≡ fault f v
+        → outcomes es i w s (readActions terms b inner n (placed p)) ≡ fault f v
+    step-fault f v h e = rw (actions-more n p h) (fault-then actionSize actionTrace w (run labels s) _ _ w s (readAction terms b inner (placed p)) _ e)
 
-    step-end : n ≤ 0 → outcomes es i w s (readActions edition1 b inner n (placed p)) ≡ done p (w .at) (run labels s)
+    step-end : n ≤ 0 → outcomes es i w s (readActions terms b inner n (placed p)) ≡ done p (w .at) (run labels s)
     unfolding outcome sizes traces mapActions
     step-end h =
         let l : w .at + 0 ≡ w .at = omega arith in
@@ -257,78 +258,78 @@ module _ (b : List ℕ) (inner : Reader (ActionsOf Text ℕ)) where
 
 -- ---- a body
 
-pub body-deep : (b : List ℕ) (at d : ℕ) → d ≡ 0 → readBody edition1 b d (placed at) ≡ bad TooDeep (placed at)
+pub body-deep : (terms : Terms) (b : List ℕ) (at d : ℕ) → d ≡ 0 → readBody terms b d (placed at) ≡ bad TooDeep (placed at)
 unfolding readBody
-body-deep b at d e = rw e
+body-deep terms b at d e = rw e
 
-pub body-step : (b : List ℕ) (at d : ℕ)
-    → readBody edition1 b (d + 1) (placed at) ≡ chain (readFront b (placed at)) (λ f q. chain (readActions edition1 b (readBody edition1 b d) (f .count) q) (λ xs r. got (body (f .entries) xs) r))
+pub body-step : (terms : Terms) (b : List ℕ) (at d : ℕ)
+    → readBody terms b (d + 1) (placed at) ≡ chain (readFront terms b (placed at)) (λ f q. chain (readActions terms b (readBody terms b d) (f .count) q) (λ xs r. got (body (f .entries) xs) r))
 unfolding readBody readBodyWith readFront
-body-step b at d = rw (add-one d) (go d)
+body-step terms b at d = rw (add-one d) (go d)
   where
-    go : (d : ℕ) → readBody edition1 b (suc d) (placed at) ≡ chain (readFront b (placed at)) (λ f q. chain (readActions edition1 b (readBody edition1 b d) (f .count) q) (λ xs r. got (body (f .entries) xs) r))
+    go : (d : ℕ) → readBody terms b (suc d) (placed at) ≡ chain (readFront terms b (placed at)) (λ f q. chain (readActions terms b (readBody terms b d) (f .count) q) (λ xs r. got (body (f .entries) xs) r))
     go d = first (readU16 b (placed at)) refl
       where
         rest : Reader Front
         rest p = chain {B = Front} (readU16 b p) (λ n r. got (record { entries = []; count = n }) r)
 
         first : (x : Read ℕ) → readU16 b (placed at) ≡ x
-            → readBody edition1 b (suc d) (placed at) ≡ chain (readFront b (placed at)) (λ f q. chain (readActions edition1 b (readBody edition1 b d) (f .count) q) (λ xs r. got (body (f .entries) xs) r))
+            → readBody terms b (suc d) (placed at) ≡ chain (readFront terms b (placed at)) (λ f q. chain (readActions terms b (readBody terms b d) (f .count) q) (λ xs r. got (body (f .entries) xs) r))
         first (bad f p) e = rw e
-        first (got m p) e = rw e (second (readEntries edition1 b m 0 p))
+        first (got m p) e = rw e (second (readEntries terms b m 0 p))
           where
             third : (es : List Entry) (y : Read ℕ)
-                → chain y (λ n r. chain (readActions edition1 b (readBody edition1 b d) n r) (λ xs r. got (body es xs) r))
-                ≡ chain (chain {B = Front} y (λ n r. got (record { entries = es; count = n }) r)) (λ f q. chain (readActions edition1 b (readBody edition1 b d) (f .count) q) (λ xs r. got (body (f .entries) xs) r))
+                → chain y (λ n r. chain (readActions terms b (readBody terms b d) n r) (λ xs r. got (body es xs) r))
+                ≡ chain (chain {B = Front} y (λ n r. got (record { entries = es; count = n }) r)) (λ f q. chain (readActions terms b (readBody terms b d) (f .count) q) (λ xs r. got (body (f .entries) xs) r))
             third es (got n r) = refl
             third es (bad f r) = refl
 
             second : (y : Read (List Entry))
-                → chain y (λ es q. chain (readU16 b q) (λ n r. chain (readActions edition1 b (readBody edition1 b d) n r) (λ xs r. got (body es xs) r)))
-                ≡ chain (chain {B = Front} y (λ es q. chain {B = Front} (readU16 b q) (λ n r. got (record { entries = es; count = n }) r))) (λ f q. chain (readActions edition1 b (readBody edition1 b d) (f .count) q) (λ xs r. got (body (f .entries) xs) r))
+                → chain y (λ es q. chain (readU16 b q) (λ n r. chain (readActions terms b (readBody terms b d) n r) (λ xs r. got (body es xs) r)))
+                ≡ chain (chain {B = Front} y (λ es q. chain {B = Front} (readU16 b q) (λ n r. got (record { entries = es; count = n }) r))) (λ f q. chain (readActions terms b (readBody terms b d) (f .count) q) (λ xs r. got (body (f .entries) xs) r))
             second (got es q) = third es (readU16 b q)
             second (bad f q) = refl
 
 -- what the code knows of a body whose front was read
-pub record Facts (b : List ℕ) (at end n d : ℕ) : Type 0 where
+pub record Facts (terms : Terms) (b : List ℕ) (at end n d : ℕ) : Type 0 where
   pub inside : end ≤ length b
   pub place : end ≡ at + 4 + 4 * n
-  pub rising : Rising 1024 0 (entriesAt b n (at + 2))
+  pub rising : Rising (terms .labelBound) 0 (entriesAt b n (at + 2))
   pub start : (pos : Position) (s : State)
-      → outcomes (entriesAt b n (at + 2)) 0 pos s (readActions edition1 b (readBody edition1 b d) (u16At b (end - 2)) (placed end)) ≡ outcome bodyLength bodyEvents pos s (readBody edition1 b (d + 1) (placed at))
+      → outcomes (entriesAt b n (at + 2)) 0 pos s (readActions terms b (readBody terms b d) (u16At b (end - 2)) (placed end)) ≡ outcome bodyLength bodyEvents pos s (readBody terms b (d + 1) (placed at))
 
-pub facts : (b : List ℕ) (at end n d : ℕ) → at ≤ length b → Fronted b at end → n ≡ u16At b at → Facts b at end n d
+pub facts : (terms : Terms) (b : List ℕ) (at end n d : ℕ) → at ≤ length b → Fronted terms b at end → n ≡ u16At b at → Facts terms b at end n d
 unfolding outcome bodySize traceBody mapBody
-facts b at end n d l f e = go (f .front) (f .reads) (front-read b at end (f .front) l (f .reads))
+facts terms b at end n d l f e = go (f .front) (f .reads) (front-read terms b at end (f .front) l (f .reads))
   where
-    go : (g : Front) → readFront b (placed at) ≡ got g (placed end) → FrontRead b at end g → Facts b at end n d
+    go : (g : Front) → readFront terms b (placed at) ≡ got g (placed end) → FrontRead terms b at end g → Facts terms b at end n d
     go g a p = record {
       inside = p .inside;
       place = omega (arith, p .place);
       rising = rw e (p .rising);
-      start = λ pos s. rw (body-step b at d, a, e, ← p .same, ← p .counted) (last pos s (readActions edition1 b (readBody edition1 b d) (g .count) (placed end)));
+      start = λ pos s. rw (body-step terms b at d, a, e, ← p .same, ← p .counted) (last pos s (readActions terms b (readBody terms b d) (g .count) (placed end)));
     }
       where
         last : (pos : Position) (s : State) (x : Read (ActionListOf Text ℕ)) → outcomes (g .entries) 0 pos s x ≡ outcome bodyLength bodyEvents pos s (chain x (λ xs r. got (body (g .entries) xs) r))
         last pos s (got xs r) = refl
         last pos s (bad k r) = refl
 
-pub body-less : (b : List ℕ) (at d : ℕ) → (d ≡ 0 → ⊥) → readBody edition1 b (d - 1 + 1) (placed at) ≡ readBody edition1 b d (placed at)
-body-less b at d h =
+pub body-less : (terms : Terms) (b : List ℕ) (at d : ℕ) → (d ≡ 0 → ⊥) → readBody terms b (d - 1 + 1) (placed at) ≡ readBody terms b d (placed at)
+body-less terms b at d h =
     let e : d - 1 + 1 ≡ d = omega arith in
     rw e
 
-module _ (b : List ℕ) (at d : ℕ) (pos : Position) (s : State) where
-  pub body-stops : (w : ℕ) (r : Scan) (f : Fault) (q : ℕ) (s′ : State) → (d ≡ 0 → ⊥) → r ≡ scanned (λ _. 0) w (readFront b (placed at)) → r ≡ scan.Stops f q
-      → Ran (outcome bodyLength bodyEvents pos s (readBody edition1 b d (placed at))) (scan.Stops f q) s′
-  body-stops w r f q s′ h k e = let z = stops-is (λ _. 0) w (readFront b (placed at)) k e in go (z .0) (z .1) (z .2)
+module _ (terms : Terms) (b : List ℕ) (at d : ℕ) (pos : Position) (s : State) where
+  pub body-stops : (w : ℕ) (r : Scan) (f : Fault) (q : ℕ) (s′ : State) → (d ≡ 0 → ⊥) → r ≡ scanned (λ _. 0) w (readFront terms b (placed at)) → r ≡ scan.Stops f q
+      → Ran (outcome bodyLength bodyEvents pos s (readBody terms b d (placed at))) (scan.Stops f q) s′
+  body-stops w r f q s′ h k e = let z = stops-is (λ _. 0) w (readFront terms b (placed at)) k e in go (z .0) (z .1) (z .2)
     where
-      go : (g : answers.Fault) → readFront b (placed at) ≡ bad g (placed q) → f ≡ faultOf g → Ran (outcome bodyLength bodyEvents pos s (readBody edition1 b d (placed at))) (scan.Stops f q) s′
-      go g x y = rw y (ran-fault _ (outcome-no bodyLength bodyEvents pos s (sym (body-less b at d h) ∙ body-step b at (d - 1) ∙ rw x)))
+      go : (g : answers.Fault) → readFront terms b (placed at) ≡ bad g (placed q) → f ≡ faultOf g → Ran (outcome bodyLength bodyEvents pos s (readBody terms b d (placed at))) (scan.Stops f q) s′
+      go g x y = rw y (ran-fault _ (outcome-no bodyLength bodyEvents pos s (sym (body-less terms b at d h) ∙ body-step terms b at (d - 1) ∙ rw x)))
 
-  pub body-ran : (s′ : State) (r : Scan) → (d ≡ 0 → ⊥) → Ran (outcome bodyLength bodyEvents pos s (readBody edition1 b (d - 1 + 1) (placed at))) r s′
-      → Ran (outcome bodyLength bodyEvents pos s (readBody edition1 b d (placed at))) r s′
-  body-ran s′ r h o = rw (body-less b at d h) at o
+  pub body-ran : (s′ : State) (r : Scan) → (d ≡ 0 → ⊥) → Ran (outcome bodyLength bodyEvents pos s (readBody terms b (d - 1 + 1) (placed at))) r s′
+      → Ran (outcome bodyLength bodyEvents pos s (readBody terms b d (placed at))) r s′
+  body-ran s′ r h o = rw (body-less terms b at d h) at o
 
 -- labels note nothing
 labels-quiet : (es : List Entry) (j : ActionIndex) (s : Position) (over : List ℕ) → noteAll (labelsAt es j s) over ≡ over
@@ -342,18 +343,19 @@ labels-quiet (entry l k ∷ es) j s over = go (eqb (j .index) (k .index)) (label
 
 -- ---- the loop over a body's actions: what is left gives what the whole gives
 
-pub record Going (b : List ℕ) (at d : ℕ) (pos home : BytePosition) (s₀ : State) (n count next i p : ℕ) (w : BytePosition) (tab : Tables) (over : List ℕ) : Type 0 where
-  pub same : outcomes (entriesAt b n (at + 2)) i (positionOf w home) (state tab over) (readActions edition1 b (readBody edition1 b d) (count - i) (placed p)) ≡ outcome bodyLength bodyEvents (positionOf pos home) s₀ (readBody edition1 b (d + 1) (placed at))
+pub record Going (terms : Terms) (b : List ℕ) (at d : ℕ) (pos home : BytePosition) (s₀ : State) (n count next i p : ℕ) (w : BytePosition) (tab : Tables) (over : List ℕ) : Type 0 where
+  pub same : outcomes (entriesAt b n (at + 2)) i (positionOf w home) (state tab over) (readActions terms b (readBody terms b d) (count - i) (placed p)) ≡ outcome bodyLength bodyEvents (positionOf pos home) s₀ (readBody terms b (d + 1) (placed at))
   pub roomy : Roomy b p w
   pub counted : i ≤ count
   pub is-due : next ≡ due (entriesAt b n (at + 2)) (65536 * i)
-  pub full : length (tab .positions) ≡ 1024
+  pub slots : Slots terms (tab .positions)
+  pub full : length (tab .positions) ≡ length (s₀ .labels .positions)
   pub homes-full : length (tab .homes) ≡ length (s₀ .labels .homes)
   pub two : length over ≡ 2
 
-module _ (b : List ℕ) (at d : ℕ) (pos home : BytePosition) (end n count : ℕ) (tab₀ : Tables) (over₀ : List ℕ) (f : Facts b at end n d) where
-  pub going-start : (next : ℕ) → Ready b at pos (tab₀ .positions) over₀ → count ≡ u16At b (end - 2) → next ≡ due (entriesAt b n (at + 2)) 0
-      → Going b at d pos home (state tab₀ over₀) n count next 0 end pos tab₀ over₀
+module _ (terms : Terms) (b : List ℕ) (at d : ℕ) (pos home : BytePosition) (end n count : ℕ) (tab₀ : Tables) (over₀ : List ℕ) (f : Facts terms b at end n d) where
+  pub going-start : (next : ℕ) → Ready terms b at pos (tab₀ .positions) over₀ → count ≡ u16At b (end - 2) → next ≡ due (entriesAt b n (at + 2)) 0
+      → Going terms b at d pos home (state tab₀ over₀) n count next 0 end pos tab₀ over₀
   going-start next r e g =
       let l : count - 0 ≡ u16At b (end - 2) = omega arith in
       record {
@@ -361,40 +363,42 @@ module _ (b : List ℕ) (at d : ℕ) (pos home : BytePosition) (end n count : �
         roomy = record { bytes = r .roomy .bytes; inside = f .inside; room = omega (arith, r .roomy .room, r .roomy .inside, f .inside, f .place) };
         counted = omega arith;
         is-due = g;
-        full = r .full;
+        slots = r .slots;
+        full = refl;
         homes-full = refl;
         two = r .two;
       }
 
-  module _ (next i p : ℕ) (w : BytePosition) (tab : Tables) (over : List ℕ) (tab₁ : Tables) (g : Going b at d pos home (state tab₀ over₀) n count next i p w tab over)
+  module _ (next i p : ℕ) (w : BytePosition) (tab : Tables) (over : List ℕ) (tab₁ : Tables) (g : Going terms b at d pos home (state tab₀ over₀) n count next i p w tab over)
       (m : tab₁ ≡ recorded (labelsAt (entriesAt b n (at + 2)) (record { index = i }) (positionOf w home)) tab) where
     marked : state tab₁ over ≡ run (labelsAt (entriesAt b n (at + 2)) (record { index = i }) (positionOf w home)) (state tab over)
     unfolding run
     marked = ap₂ state m (sym (labels-quiet (entriesAt b n (at + 2)) (record { index = i }) (positionOf w home) over))
 
-    module _ (r : Scan) (tab₂ : Tables) (over₂ : List ℕ) (h : i < count) (o : Ran (outcome actionSize actionTrace (positionOf w home) (state tab₁ over) (theAction b d p)) r (state tab₂ over₂)) where
-      pub going-bad : (k : Fault) (v : ℕ) → r ≡ scan.Stops k v → Ran (outcome bodyLength bodyEvents (positionOf pos home) (state tab₀ over₀) (readBody edition1 b (d + 1) (placed at))) (scan.Stops k v) (state tab₂ over₂)
-      going-bad k v e = ran-fault _ (sym (g .same) ∙ step-fault b (readBody edition1 b d) (entriesAt b n (at + 2)) i (positionOf w home) (state tab over) (count - i) p k v (omega arith) (rw marked at (ran-bad o e)))
+    module _ (r : Scan) (tab₂ : Tables) (over₂ : List ℕ) (h : i < count) (o : Ran (outcome actionSize actionTrace (positionOf w home) (state tab₁ over) (theAction terms b d p)) r (state tab₂ over₂)) where
+      pub going-bad : (k : Fault) (v : ℕ) → r ≡ scan.Stops k v → Ran (outcome bodyLength bodyEvents (positionOf pos home) (state tab₀ over₀) (readBody terms b (d + 1) (placed at))) (scan.Stops k v) (state tab₂ over₂)
+      going-bad k v e = ran-fault _ (sym (g .same) ∙ step-fault terms b (readBody terms b d) (entriesAt b n (at + 2)) i (positionOf w home) (state tab over) (count - i) p k v (omega arith) (rw marked at (ran-bad o e)))
 
-      pub going-more : (q : ℕ) (x : BytePosition) (next′ : ℕ) → r ≡ scan.Ends q x → next′ ≡ due (entriesAt b n (at + 2)) (65536 * (i + 1)) → length (tab₂ .positions) ≡ 1024 → length (tab₂ .homes) ≡ length (tab .homes) → length over₂ ≡ 2
-          → Going b at d pos home (state tab₀ over₀) n count next′ (i + 1) q x tab₂ over₂
+      pub going-more : (q : ℕ) (x : BytePosition) (next′ : ℕ) → r ≡ scan.Ends q x → next′ ≡ due (entriesAt b n (at + 2)) (65536 * (i + 1)) → length (tab₂ .positions) ≡ length (tab .positions) → length (tab₂ .homes) ≡ length (tab .homes) → length over₂ ≡ 2
+          → Going terms b at d pos home (state tab₀ over₀) n count next′ (i + 1) q x tab₂ over₂
       going-more q x next′ e a c v t =
           let o′ = rw marked at (ran-is o e) in
-          let z = outcome-is actionSize actionTrace (positionOf w home) _ (theAction b d p) o′ in
-          let y = good-got (z .0) (placed q) (action-good edition1 b (g .roomy .bytes) spelling (Unit {0}) (spells b (g .roomy .bytes) edition1) (readBody edition1 b d) (body-good edition1 b (g .roomy .bytes) spelling (Unit {0}) (spells b (g .roomy .bytes) edition1) d) (placed p) (g .roomy .inside)) (z .1) in
+          let z = outcome-is actionSize actionTrace (positionOf w home) _ (theAction terms b d p) o′ in
+          let y = good-got (z .0) (placed q) (action-good terms b (g .roomy .bytes) spelling (Unit {0}) (spells b (g .roomy .bytes) terms) (readBody terms b d) (body-good terms b (g .roomy .bytes) spelling (Unit {0}) (spells b (g .roomy .bytes) terms) d) (placed p) (g .roomy .inside)) (z .1) in
           let l : count - (i + 1) ≡ count - i - 1 = omega arith in
           record {
-            same = rw l (sym (step-done b (readBody edition1 b d) (entriesAt b n (at + 2)) i (positionOf w home) (state tab over) (count - i) p q (x .0) (state tab₂ over₂) (omega arith) o′) ∙ g .same);
+            same = rw l (sym (step-done terms b (readBody terms b d) (entriesAt b n (at + 2)) i (positionOf w home) (state tab over) (count - i) p q (x .0) (state tab₂ over₂) (omega arith) o′) ∙ g .same);
             roomy = record { bytes = g .roomy .bytes; inside = y .1; room = omega (arith, y .0 .1 tt, y .0 .2, y .1, z .2, g .roomy .room, g .roomy .inside) };
             counted = omega arith;
             is-due = a;
-            full = c;
+            slots = slots-kept (g .slots) c;
+            full = c ∙ g .full;
             homes-full = v ∙ g .homes-full;
             two = t;
           }
 
-    pub going-end : count ≤ i → Ran (outcome bodyLength bodyEvents (positionOf pos home) (state tab₀ over₀) (readBody edition1 b (d + 1) (placed at))) (scan.Ends p w) (state tab₁ over)
-    going-end h = ran-done (sym (g .same) ∙ step-end b (readBody edition1 b d) (entriesAt b n (at + 2)) i (positionOf w home) (state tab over) (count - i) p (omega arith) ∙ ap (done p (w .0)) (sym marked))
+    pub going-end : count ≤ i → Ran (outcome bodyLength bodyEvents (positionOf pos home) (state tab₀ over₀) (readBody terms b (d + 1) (placed at))) (scan.Ends p w) (state tab₁ over)
+    going-end h = ran-done (sym (g .same) ∙ step-end terms b (readBody terms b d) (entriesAt b n (at + 2)) i (positionOf w home) (state tab over) (count - i) p (omega arith) ∙ ap (done p (w .0)) (sym marked))
 
 -- ---- the bodies after a payload
 
@@ -409,26 +413,28 @@ repeat-more one zero p h = absurd (omega arith)
 repeat-more one (suc n) p h = simp sub-one
 
 -- the loop: `waiting` are the tests of the bodies already read
-pub record Bodying (one : Reader (ActionsOf Text ℕ)) (b : List ℕ) (n at : ℕ) (pos home : BytePosition) (s₀ : State) (left p : ℕ) (w : BytePosition) (kept : ℕ) (tab : Tables) (over : List ℕ) : Type 0 where
+pub record Bodying (terms : Terms) (one : Reader (ActionsOf Text ℕ)) (b : List ℕ) (n at : ℕ) (pos home : BytePosition) (s₀ : State) (left p : ℕ) (w : BytePosition) (kept : ℕ) (tab : Tables) (over : List ℕ) : Type 0 where
   pub waiting : List Event
   pub same : outcome (total bodyLength) (λ xs q. inBodies xs q ++ (waiting ++ bodyTests xs (positionOf pos home))) (positionOf w home) (state tab over) (repeat one left (placed p)) ≡ outcome (total bodyLength) bodiesEvents (positionOf pos home) s₀ (repeat one n (placed at))
   pub notes : (tab : Tables) (over : List ℕ) → length over ≡ 2 → run waiting (state tab over) ≡ state tab (notedIf 9 kept over)
   pub is-apt : Apt kept
   pub roomy : Roomy b p w
-  pub full : length (tab .positions) ≡ 1024
+  pub slots : Slots terms (tab .positions)
+  pub full : length (tab .positions) ≡ length (s₀ .labels .positions)
   pub homes-full : length (tab .homes) ≡ length (s₀ .labels .homes)
   pub two : length over ≡ 2
 
-module _ (d : ℕ) (b : List ℕ) (n at : ℕ) (pos home : BytePosition) (tab₀ : Tables) (over₀ : List ℕ) where
-  pub bodying-start : Ready b at pos (tab₀ .positions) over₀ → Bodying (readBody edition1 b d) b n at pos home (state tab₀ over₀) n at pos 0 tab₀ over₀
+module _ (terms : Terms) (d : ℕ) (b : List ℕ) (n at : ℕ) (pos home : BytePosition) (tab₀ : Tables) (over₀ : List ℕ) where
+  pub bodying-start : Ready terms b at pos (tab₀ .positions) over₀ → Bodying terms (readBody terms b d) b n at pos home (state tab₀ over₀) n at pos 0 tab₀ over₀
   unfolding Apt outcome bodiesEvents
   bodying-start r = record {
     waiting = [];
-    same = same-start (repeat (readBody edition1 b d) n (placed at));
+    same = same-start (repeat (readBody terms b d) n (placed at));
     notes = λ tab over l. run-none (state tab over) ∙ ap (state tab) (noted-short 9 0 over (omega arith));
     is-apt = inl refl;
     roomy = r .roomy;
-    full = r .full;
+    slots = r .slots;
+    full = refl;
     homes-full = refl;
     two = r .two;
   }
@@ -438,52 +444,53 @@ module _ (d : ℕ) (b : List ℕ) (n at : ℕ) (pos home : BytePosition) (tab₀
       same-start (got xs q) = refl
       same-start (bad k q) = refl
 
-  module _ (left p : ℕ) (w : BytePosition) (kept : ℕ) (tab : Tables) (over : List ℕ) (g : Bodying (readBody edition1 b d) b n at pos home (state tab₀ over₀) left p w kept tab over) where
+  module _ (left p : ℕ) (w : BytePosition) (kept : ℕ) (tab : Tables) (over : List ℕ) (g : Bodying terms (readBody terms b d) b n at pos home (state tab₀ over₀) left p w kept tab over) where
     pub bodying-end : left ≤ 0 → (over′ : List ℕ) → over′ ≡ notedIf 9 kept over
-        → Ran (outcome (total bodyLength) bodiesEvents (positionOf pos home) (state tab₀ over₀) (repeat (readBody edition1 b d) n (placed at))) (scan.Ends p w) (state tab over′)
+        → Ran (outcome (total bodyLength) bodiesEvents (positionOf pos home) (state tab₀ over₀) (repeat (readBody terms b d) n (placed at))) (scan.Ends p w) (state tab over′)
     unfolding outcome total inBodies bodyTests
     bodying-end h over′ e =
-        let x = rw (repeat-none (readBody edition1 b d) left p h) at (g .same) in
+        let x = rw (repeat-none (readBody terms b d) left p h) at (g .same) in
         let l : w .0 + 0 ≡ w .0 = omega arith in
         let y : run (g .waiting ++ []) (state tab over) ≡ state tab over′ = rw e (simp append-nil (g .notes tab over (g .two))) in
         ran-done (sym x ∙ rw (l, y))
 
-    module _ (h : 0 < left) (r : Scan) (tab₂ : Tables) (over₂ : List ℕ) (o : Ran (outcome bodyLength bodyEvents (positionOf w home) (state tab over) (readBody edition1 b d (placed p))) r (state tab₂ over₂)) where
+    module _ (h : 0 < left) (r : Scan) (tab₂ : Tables) (over₂ : List ℕ) (o : Ran (outcome bodyLength bodyEvents (positionOf w home) (state tab over) (readBody terms b d (placed p))) r (state tab₂ over₂)) where
       pub bodying-bad : (k : Fault) (v : ℕ) → r ≡ scan.Stops k v
-          → Ran (outcome (total bodyLength) bodiesEvents (positionOf pos home) (state tab₀ over₀) (repeat (readBody edition1 b d) n (placed at))) (scan.Stops k v) (state tab₂ over₂)
-      bodying-bad k v e = ran-fault _ (sym (g .same) ∙ rw (repeat-more (readBody edition1 b d) left p h) (fault-then bodyLength bodyEvents (positionOf w home) (state tab over) _ _ (positionOf w home) (state tab over) (readBody edition1 b d (placed p)) _ (ran-bad o e)))
+          → Ran (outcome (total bodyLength) bodiesEvents (positionOf pos home) (state tab₀ over₀) (repeat (readBody terms b d) n (placed at))) (scan.Stops k v) (state tab₂ over₂)
+      bodying-bad k v e = ran-fault _ (sym (g .same) ∙ rw (repeat-more (readBody terms b d) left p h) (fault-then bodyLength bodyEvents (positionOf w home) (state tab over) _ _ (positionOf w home) (state tab over) (readBody terms b d (placed p)) _ (ran-bad o e)))
 
-      pub bodying-more : (q : ℕ) (x : BytePosition) (kept′ : ℕ) → r ≡ scan.Ends q x → kept′ ≡ firstLong kept (x .0 - w .0) → length (tab₂ .positions) ≡ 1024 → length (tab₂ .homes) ≡ length (tab .homes) → length over₂ ≡ 2
-          → Bodying (readBody edition1 b d) b n at pos home (state tab₀ over₀) (left - 1) q x kept′ tab₂ over₂
+      pub bodying-more : (q : ℕ) (x : BytePosition) (kept′ : ℕ) → r ≡ scan.Ends q x → kept′ ≡ firstLong kept (x .0 - w .0) → length (tab₂ .positions) ≡ length (tab .positions) → length (tab₂ .homes) ≡ length (tab .homes) → length over₂ ≡ 2
+          → Bodying terms (readBody terms b d) b n at pos home (state tab₀ over₀) (left - 1) q x kept′ tab₂ over₂
       unfolding outcome total inBodies bodyTests moved
       bodying-more q x kept′ e k a u c =
-          let z = outcome-is bodyLength bodyEvents (positionOf w home) _ (readBody edition1 b d (placed p)) (ran-is o e) in
+          let z = outcome-is bodyLength bodyEvents (positionOf w home) _ (readBody terms b d (placed p)) (ran-is o e) in
           go (z .0) (z .1) (z .2) (z .3)
         where
-          next-same : (t : ActionsOf Text ℕ) → readBody edition1 b d (placed p) ≡ got t (placed q) → x .0 ≡ w .0 + bodyLength t → state tab₂ over₂ ≡ run (bodyEvents t (positionOf w home)) (state tab over)
-              → (y : Read (List (ActionsOf Text ℕ))) → repeat (readBody edition1 b d) (left - 1) (placed q) ≡ y
+          next-same : (t : ActionsOf Text ℕ) → readBody terms b d (placed p) ≡ got t (placed q) → x .0 ≡ w .0 + bodyLength t → state tab₂ over₂ ≡ run (bodyEvents t (positionOf w home)) (state tab over)
+              → (y : Read (List (ActionsOf Text ℕ))) → repeat (readBody terms b d) (left - 1) (placed q) ≡ y
               → outcome (total bodyLength) (λ xs u. inBodies xs u ++ ((g .waiting ++ bodyTest (bodyLength t) (positionOf pos home)) ++ bodyTests xs (positionOf pos home))) (positionOf x home) (state tab₂ over₂) y
-              ≡ outcome (total bodyLength) (λ xs u. inBodies xs u ++ (g .waiting ++ bodyTests xs (positionOf pos home))) (positionOf w home) (state tab over) (repeat (readBody edition1 b d) left (placed p))
+              ≡ outcome (total bodyLength) (λ xs u. inBodies xs u ++ (g .waiting ++ bodyTests xs (positionOf pos home))) (positionOf w home) (state tab over) (repeat (readBody terms b d) left (placed p))
           next-same t f i j (got xs u) m =
               let l : x .0 + total bodyLength xs ≡ w .0 + (bodyLength t + total bodyLength xs) = omega arith in
               let v : (bodyEvents t (positionOf w home) ++ inBodies xs (position (w .0 + bodyLength t) (home .0))) ++ (g .waiting ++ (bodyTest (bodyLength t) (positionOf pos home) ++ bodyTests xs (positionOf pos home)))
               ≡ bodyEvents t (positionOf w home) ++ (inBodies xs (position (w .0 + bodyLength t) (home .0)) ++ ((g .waiting ++ bodyTest (bodyLength t) (positionOf pos home)) ++ bodyTests xs (positionOf pos home))) = simp append-assoc in
-              rw (repeat-more (readBody edition1 b d) left p h, f, m, l, j, i, v, run-append (bodyEvents t (positionOf w home)) (inBodies xs (position (w .0 + bodyLength t) (home .0)) ++ ((g .waiting ++ bodyTest (bodyLength t) (positionOf pos home)) ++ bodyTests xs (positionOf pos home))) (state tab over))
-          next-same t f i j (bad k u) m = rw (repeat-more (readBody edition1 b d) left p h, f, m)
+              rw (repeat-more (readBody terms b d) left p h, f, m, l, j, i, v, run-append (bodyEvents t (positionOf w home)) (inBodies xs (position (w .0 + bodyLength t) (home .0)) ++ ((g .waiting ++ bodyTest (bodyLength t) (positionOf pos home)) ++ bodyTests xs (positionOf pos home))) (state tab over))
+          next-same t f i j (bad k u) m = rw (repeat-more (readBody terms b d) left p h, f, m)
 
-          go : (t : ActionsOf Text ℕ) → readBody edition1 b d (placed p) ≡ got t (placed q) → x .0 ≡ w .0 + bodyLength t → state tab₂ over₂ ≡ run (bodyEvents t (positionOf w home)) (state tab over)
-              → Bodying (readBody edition1 b d) b n at pos home (state tab₀ over₀) (left - 1) q x kept′ tab₂ over₂
+          go : (t : ActionsOf Text ℕ) → readBody terms b d (placed p) ≡ got t (placed q) → x .0 ≡ w .0 + bodyLength t → state tab₂ over₂ ≡ run (bodyEvents t (positionOf w home)) (state tab over)
+              → Bodying terms (readBody terms b d) b n at pos home (state tab₀ over₀) (left - 1) q x kept′ tab₂ over₂
           go t f i j =
-              let y = good-got t (placed q) (body-good edition1 b (g .roomy .bytes) spelling (Unit {0}) (spells b (g .roomy .bytes) edition1) d (placed p) (g .roomy .inside)) f in
+              let y = good-got t (placed q) (body-good terms b (g .roomy .bytes) spelling (Unit {0}) (spells b (g .roomy .bytes) terms) d (placed p) (g .roomy .inside)) f in
               let m : x .0 - w .0 ≡ bodyLength t = omega arith in
               let k′ : kept′ ≡ firstLong kept (bodyLength t) = rw m at k in
               record {
                 waiting = g .waiting ++ bodyTest (bodyLength t) (positionOf pos home);
-                same = next-same t f i j (repeat (readBody edition1 b d) (left - 1) (placed q)) refl ∙ g .same;
+                same = next-same t f i j (repeat (readBody terms b d) (left - 1) (placed q)) refl ∙ g .same;
                 notes = λ tab over l. run-append (g .waiting) (bodyTest (bodyLength t) (positionOf pos home)) (state tab over) ∙ ap (run (bodyTest (bodyLength t) (positionOf pos home))) (g .notes tab over l) ∙ run-body (bodyLength t) (positionOf pos home) tab (notedIf 9 kept over) ∙ ap (state tab) (noted-twice kept (bodyLength t) over l (g .is-apt) ∙ ap (λ v. notedIf 9 v over) (sym k′));
                 is-apt = rw k′ (first-apt kept (bodyLength t) (g .is-apt));
                 roomy = record { bytes = g .roomy .bytes; inside = y .1; room = omega (arith, y .0 .1 tt, y .0 .2, y .1, i, g .roomy .room, g .roomy .inside) };
-                full = a;
+                slots = slots-kept (g .slots) a;
+                full = a ∙ g .full;
                 homes-full = u ∙ g .homes-full;
                 two = c;
               }

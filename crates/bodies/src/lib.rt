@@ -1,13 +1,15 @@
 // The walk of bodies and actions, front to back: it reads and checks (3 to 6), measures, records labels, and notes the first of 8
 // and 9. `home` is the position at which the function body starts that it is in; only a function's body has another.
 ghost use Prim.Native.Nat.{_+_};
-ghost use Rattle.layout.specs.Read.{edition1, placed, readBody, readAction, repeat};
+ghost use Rattle.layout.specs.Read.{placed, readBody, readAction, repeat};
 ghost use Rattle.layout.specs.Lengths.{total};
 ghost use Rattle.laws.specs.Resolved.{actionSize, actionTrace, bodyLength, bodyEvents};
 ghost use Rattle.measure.specs.Walk.{state, outcome, Ran, bodiesEvents};
 ghost use Rattle.labels.specs.Table.{tables, positionOf};
 ghost use Rattle.front.specs.Front.{Fronted};
+ghost use Rattle.editions.specs.Allowed.{termsOf};
 ghost use Rattle.bodies.specs.Ready.{Ready};
+use editions::Terms;
 use fields::u16_at;
 use front::scan_front;
 use labels::due_entry;
@@ -25,6 +27,7 @@ use positions::Scan;
 // A body; as many as `depth` may stand one in another, itself included.
 pub fn scan_body(
     b: &[u8],
+    terms: Terms,
     at: usize,
     depth: usize,
     pos: BytePosition,
@@ -33,16 +36,16 @@ pub fn scan_body(
     homes: &mut [usize],
     over: &mut [usize],
 ) -> Scan
-    requires { ⌜ Ready (now b) at pos (now tab) (now over) ⌝ }
-    ensures { λ r. ⌜ Ran (outcome bodyLength bodyEvents (positionOf pos home) (state (tables (now (tab .entry)) (now (homes .entry))) (now (over .entry))) (readBody edition1 (now (b .entry)) depth (placed at))) r (state (tables (now (tab .exit)) (now (homes .exit))) (now (over .exit))) ⌝ }
+    requires { ⌜ Ready (termsOf terms) (now b) at pos (now tab) (now over) ⌝ }
+    ensures { λ r. ⌜ Ran (outcome bodyLength bodyEvents (positionOf pos home) (state (tables (now (tab .entry)) (now (homes .entry))) (now (over .entry))) (readBody (termsOf terms) (now (b .entry)) depth (placed at))) r (state (tables (now (tab .exit)) (now (homes .exit))) (now (over .exit))) ⌝ }
 {
     if depth == 0 {
         return Scan::Stops(Fault::TooDeep, at);
     }
-    match scan_front(b, at, pos) {
+    match scan_front(b, terms, at, pos) {
         Scan::Stops(f, p) => Scan::Stops(f, p),
         Scan::Ends(front, _) => {
-            scan_actions(b, at, front, depth - 1, pos, home, tab, homes, over)
+            scan_actions(b, terms, at, front, depth - 1, pos, home, tab, homes, over)
         },
     }
 }
@@ -50,6 +53,7 @@ pub fn scan_body(
 // The actions of the body at a place, whose front ends at `front`; bodies of `depth` may stand in them.
 fn scan_actions(
     b: &[u8],
+    terms: Terms,
     at: usize,
     front: usize,
     depth: usize,
@@ -59,8 +63,8 @@ fn scan_actions(
     homes: &mut [usize],
     over: &mut [usize],
 ) -> Scan
-    requires { ⌜ Ready (now b) at pos (now tab) (now over) × Fronted (now b) at front ⌝ }
-    ensures { λ r. ⌜ Ran (outcome bodyLength bodyEvents (positionOf pos home) (state (tables (now (tab .entry)) (now (homes .entry))) (now (over .entry))) (readBody edition1 (now (b .entry)) (depth + 1) (placed at))) r (state (tables (now (tab .exit)) (now (homes .exit))) (now (over .exit))) ⌝ }
+    requires { ⌜ Ready (termsOf terms) (now b) at pos (now tab) (now over) × Fronted (termsOf terms) (now b) at front ⌝ }
+    ensures { λ r. ⌜ Ran (outcome bodyLength bodyEvents (positionOf pos home) (state (tables (now (tab .entry)) (now (homes .entry))) (now (over .entry))) (readBody (termsOf terms) (now (b .entry)) (depth + 1) (placed at))) r (state (tables (now (tab .exit)) (now (homes .exit))) (now (over .exit))) ⌝ }
 {
     let n = u16_at(b, at);
     let list = at + 2;
@@ -71,7 +75,7 @@ fn scan_actions(
     let mut w = pos;
     while i < count {
         next = record_labels(b, list, n, next, ActionIndex(i), w, home, tab, homes);
-        match scan_action(b, p, depth, w, home, tab, homes, over) {
+        match scan_action(b, terms, p, depth, w, home, tab, homes, over) {
             Scan::Stops(f, q) => {
                 return Scan::Stops(f, q);
             }
@@ -89,6 +93,7 @@ fn scan_actions(
 // The n bodies after a payload; their lengths are tested when all are measured.
 fn scan_bodies(
     b: &[u8],
+    terms: Terms,
     at: usize,
     depth: usize,
     pos: BytePosition,
@@ -98,15 +103,15 @@ fn scan_bodies(
     homes: &mut [usize],
     over: &mut [usize],
 ) -> Scan
-    requires { ⌜ Ready (now b) at pos (now tab) (now over) ⌝ }
-    ensures { λ r. ⌜ Ran (outcome (total bodyLength) bodiesEvents (positionOf pos home) (state (tables (now (tab .entry)) (now (homes .entry))) (now (over .entry))) (repeat (readBody edition1 (now (b .entry)) depth) n (placed at))) r (state (tables (now (tab .exit)) (now (homes .exit))) (now (over .exit))) ⌝ }
+    requires { ⌜ Ready (termsOf terms) (now b) at pos (now tab) (now over) ⌝ }
+    ensures { λ r. ⌜ Ran (outcome (total bodyLength) bodiesEvents (positionOf pos home) (state (tables (now (tab .entry)) (now (homes .entry))) (now (over .entry))) (repeat (readBody (termsOf terms) (now (b .entry)) depth) n (placed at))) r (state (tables (now (tab .exit)) (now (homes .exit))) (now (over .exit))) ⌝ }
 {
     let mut left = n;
     let mut p = at;
     let mut w = pos;
     let mut long = 0;
     while 0 < left {
-        match scan_body(b, p, depth, w, home, tab, homes, over) {
+        match scan_body(b, terms, p, depth, w, home, tab, homes, over) {
             Scan::Stops(f, q) => {
                 return Scan::Stops(f, q);
             }
@@ -125,6 +130,7 @@ fn scan_bodies(
 // An action; bodies of `depth` may stand in it.
 fn scan_action(
     b: &[u8],
+    terms: Terms,
     at: usize,
     depth: usize,
     pos: BytePosition,
@@ -133,8 +139,8 @@ fn scan_action(
     homes: &mut [usize],
     over: &mut [usize],
 ) -> Scan
-    requires { ⌜ Ready (now b) at pos (now tab) (now over) ⌝ }
-    ensures { λ r. ⌜ Ran (outcome actionSize actionTrace (positionOf pos home) (state (tables (now (tab .entry)) (now (homes .entry))) (now (over .entry))) (readAction edition1 (now (b .entry)) (readBody edition1 (now (b .entry)) depth) (placed at))) r (state (tables (now (tab .exit)) (now (homes .exit))) (now (over .exit))) ⌝ }
+    requires { ⌜ Ready (termsOf terms) (now b) at pos (now tab) (now over) ⌝ }
+    ensures { λ r. ⌜ Ran (outcome actionSize actionTrace (positionOf pos home) (state (tables (now (tab .entry)) (now (homes .entry))) (now (over .entry))) (readAction (termsOf terms) (now (b .entry)) (readBody (termsOf terms) (now (b .entry)) depth) (placed at))) r (state (tables (now (tab .exit)) (now (homes .exit))) (now (over .exit))) ⌝ }
 {
     if b.len() <= at {
         return Scan::Stops(Fault::CutShort, at);
@@ -146,11 +152,11 @@ fn scan_action(
         }
         return Scan::Stops(Fault::UnknownCode, at);
     }
-    match scan_payload(b, op, at, pos, over) {
+    match scan_payload(b, terms, op, at, pos, over) {
         Laid::Stops(f, p) => Scan::Stops(f, p),
         Laid::Flat(p, w) => Scan::Ends(p, w),
         Laid::Branch(p, w, _) => Scan::Ends(p, w),
-        Laid::Bodies(p, w, n) => scan_bodies(b, p, depth, w, home, n, tab, homes, over),
-        Laid::Function(p, w) => scan_bodies(b, p, depth, w, w, 1, tab, homes, over),
+        Laid::Bodies(p, w, n) => scan_bodies(b, terms, p, depth, w, home, n, tab, homes, over),
+        Laid::Function(p, w) => scan_bodies(b, terms, p, depth, w, w, 1, tab, homes, over),
     }
 }

@@ -5,14 +5,16 @@ use native.Mathlib.Omega.{arith}
 use mathlib.Core.List.{List}
 use lib.ListN.{length, take, drop}
 use Rattle.layout.specs.Cut.{main, cut}
+use Rattle.editions.specs.Allowed.{meant}
+use Rattle.editions.specs.declared.Edition.{Edition}
 use Rattle.laws.specs.Packed.{is-main}
 use Rattle.cut.specs.Cuts.{said, Within}
 use Rattle.cut.specs.declared.CutMain.{CutMain}
 use Rattle.cut.specs.declared.CutMain.the-variants as cutMain
 
-module _ (s : List ℕ) (c : CutMain) (e : said s c ≡ cut s) (start end : ℕ) (k : c ≡ cutMain.Main start end) where
+module _ (s : List ℕ) (c : CutMain) (e : said s c ≡ cut s) (edition : Edition) (start end : ℕ) (k : c ≡ cutMain.Main edition start end) where
   -- what the code's answer says of the cut
-  pub is-cut : cut s ≡ main start (take (end - start) (drop start s))
+  pub is-cut : cut s ≡ main (meant edition) start (take (end - start) (drop start s))
   unfolding said
   is-cut = sym e ∙ rw k
 
@@ -23,5 +25,5 @@ module _ (s : List ℕ) (c : CutMain) (e : said s c ≡ cut s) (start end : ℕ)
   -- it and its start are within the limit
   pub cut-limits : (length (take (end - start) (drop start s)) ≤ 1048576) × (start ≤ 1048576)
   cut-limits =
-      let m = is-main s start (take (end - start) (drop start s)) is-cut in
+      let m = is-main s (meant edition) start (take (end - start) (drop start s)) is-cut in
       (omega (arith, m .is-long, m .is-limited), omega (arith, m .is-long, m .is-limited))

@@ -1,16 +1,18 @@
 -- The cut, by what stands in the sheet at the trailer's places. Assumes nothing.
-use mathlib.Core.Path.{_≡_}
+use mathlib.Core.Path.{_≡_, refl, sym}
 use Prim.Native.Nat.{ℕ, _+_, _-_, _≤_, _<_}
 use native.Mathlib.Nat.{add-zero, add-assoc}
 use native.Mathlib.Omega.{arith}
-use mathlib.Core.Bool.{_&&_, and-false}
+use mathlib.Core.Bool.{Bool, true, false, _&&_, and-false}
+use mathlib.Core.Option.{none, some}
 use mathlib.Core.List.{List}
 use lib.ListN.{length, getD, take, drop}
 use lib.Dec.{leb, eqb}
 use lib.Seq.{getD-drop}
 use borrow.Author.Tests.{le-leb, lt-leb, ne-eqb}
 use Rattle.layout.specs.Answers.{BadTrailer}
-use Rattle.layout.specs.Cut.{main, uncut, sheetLimit, cut, cutIfShort, cutIfTrailer, cutAt, cutIf, isMarked, trailerDistance}
+use Rattle.layout.specs.Cut.{Edition, First, Second, editionNumber, editions, editionOf, main, uncut, sheetLimit, cut, cutIfShort, cutIfTrailer, cutAt, cutIf, isMarked, trailerDistance, trailerEdition}
+use Rattle.layout.specs.Lists.{pick, firstWith}
 use Rattle.layout.specs.Numbers.{u16At, u32At}
 
 -- The u16 at place i after the first n bytes stands at place n + i.
@@ -22,6 +24,23 @@ distance-after : (n : ℕ) (s : List ℕ) → trailerDistance (drop n s) ≡ u32
 unfolding trailerDistance
 distance-after n s = rw (u16-after n s 0, u16-after n s 2, add-zero)
 
+-- An edition is told by its number.
+edition-of : (i : Edition) → editionOf (editionNumber i) ≡ some i
+unfolding editionOf editions editionNumber firstWith pick
+edition-of First = refl
+edition-of Second = refl
+
+-- No other number is one's.
+no-edition : (n : ℕ) → (n ≡ 1 → ⊥) → (n ≡ 2 → ⊥) → editionOf n ≡ none
+unfolding editionOf editions editionNumber firstWith pick
+no-edition n h k = rw (ne-eqb 1 n (λ e. h (sym e)), ne-eqb 2 n (λ e. k (sym e)))
+
+-- Without an edition there is no main body, whatever else stands in the trailer.
+cut-none : (z : Bool) (s : List ℕ) (n d : ℕ) → cutIf z none s n d ≡ uncut BadTrailer
+unfolding cutIf
+cut-none true s n d = refl
+cut-none false s n d = refl
+
 -- The place of a sheet's trailer.
 abbrev pub trailerAt : List ℕ → ℕ
 trailerAt s = length s - 8
@@ -29,21 +48,18 @@ trailerAt s = length s - 8
 -- A sheet within the limit that has room for a trailer.
 module _ (s : List ℕ) (short : length s ≤ sheetLimit) (room : 8 ≤ length s) where
   -- It is cut by the numbers and bytes that stand in the sheet from the trailer's place on.
-  cut-by : cut s ≡ cutIf (eqb (u16At s (trailerAt s + 4)) 1 && eqb (getD s (trailerAt s + 6) 0) 0x41 && eqb (getD s (trailerAt s + 7) 0) 0x31 && leb (u32At s (trailerAt s)) (trailerAt s)) s (trailerAt s) (u32At s (trailerAt s))
-  unfolding cut cutIfShort cutIfTrailer cutAt isMarked
+  cut-by : cut s
+      ≡ cutIf (eqb (getD s (trailerAt s + 6) 0) 0x41 && eqb (getD s (trailerAt s + 7) 0) 0x31 && leb (u32At s (trailerAt s)) (trailerAt s)) (editionOf (u16At s (trailerAt s + 4)))
+      s (trailerAt s) (u32At s (trailerAt s))
+  unfolding cut cutIfShort cutIfTrailer cutAt isMarked trailerEdition
   cut-by =
       let n = trailerAt s in
       rw (le-leb (length s) sheetLimit short, le-leb 8 (length s) room, distance-after n s, u16-after n s 4, getD-drop n s 6 0, getD-drop n s 7 0)
 
-  -- It is refused where the edition is not 1.
-  pub bad-edition : (u16At s (trailerAt s + 4) ≡ 1 → ⊥) → uncut BadTrailer ≡ cut s
-  unfolding cutIf
-  bad-edition h = rw (cut-by, ne-eqb (u16At s (trailerAt s + 4)) 1 h)
-
   -- It is refused where the mark's first byte is another.
   pub bad-first : (getD s (trailerAt s + 6) 0 ≡ 0x41 → ⊥) → uncut BadTrailer ≡ cut s
   unfolding cutIf
-  bad-first h = rw (cut-by, ne-eqb (getD s (trailerAt s + 6) 0) 0x41 h, and-false)
+  bad-first h = rw (cut-by, ne-eqb (getD s (trailerAt s + 6) 0) 0x41 h)
 
   -- It is refused where the mark's second byte is another.
   pub bad-second : (getD s (trailerAt s + 7) 0 ≡ 0x31 → ⊥) → uncut BadTrailer ≡ cut s
@@ -55,9 +71,14 @@ module _ (s : List ℕ) (short : length s ≤ sheetLimit) (room : 8 ≤ length s
   unfolding cutIf
   bad-distance h = rw (cut-by, lt-leb (u32At s (trailerAt s)) (trailerAt s) h, and-false)
 
+  -- It is refused where the edition is neither 1 nor 2.
+  pub bad-edition : (n : ℕ) → n ≡ u16At s (trailerAt s + 4) → (n ≡ 1 → ⊥) → (n ≡ 2 → ⊥) → uncut BadTrailer ≡ cut s
+  bad-edition n e h k = rw (cut-by, ← e, no-edition n h k, cut-none)
+
   -- Else its main body is the d bytes before the trailer, d being the distance.
-  pub main-body : (d : ℕ) → d ≡ u32At s (trailerAt s) → u16At s (trailerAt s + 4) ≡ 1 → getD s (trailerAt s + 6) 0 ≡ 0x41 → getD s (trailerAt s + 7) 0 ≡ 0x31 → d ≤ trailerAt s → main (trailerAt s - d) (take (trailerAt s - (trailerAt s - d)) (drop (trailerAt s - d) s)) ≡ cut s
+  pub main-body : (i : Edition) (d : ℕ) → d ≡ u32At s (trailerAt s) → u16At s (trailerAt s + 4) ≡ editionNumber i → getD s (trailerAt s + 6) 0 ≡ 0x41 → getD s (trailerAt s + 7) 0 ≡ 0x31 → d ≤ trailerAt s
+      → main i (trailerAt s - d) (take (trailerAt s - (trailerAt s - d)) (drop (trailerAt s - d) s)) ≡ cut s
   unfolding cutIf
-  main-body d e edition first second h =
+  main-body i d e edition first second h =
       let back : trailerAt s - (trailerAt s - d) ≡ d = omega arith in
-      rw (back, cut-by, edition, first, second, ← e, le-leb d (trailerAt s) h)
+      rw (back, cut-by, edition, edition-of i, first, second, ← e, le-leb d (trailerAt s) h)

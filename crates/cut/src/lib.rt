@@ -2,12 +2,13 @@
 ghost use mathlib.Core.Path.{_≡_};
 ghost use Rattle.layout.specs.Cut.{cut};
 ghost use Rattle.cut.specs.Cuts.{said, Within};
+use editions::Edition;
 use fields::u16_at;
 use fields::u32_at;
 
-// Where the main body starts and ends in the sheet, or a refusal.
+// The edition, and where the main body starts and ends in the sheet; or a refusal.
 pub enum CutMain {
-    Main(usize, usize),
+    Main(Edition, usize, usize),
     SheetTooLong(usize),
     BadTrailer,
 }
@@ -24,9 +25,6 @@ pub fn cut_main(sheet: &[u8]) -> CutMain
         return CutMain::BadTrailer;
     }
     let end = n - 8;
-    if u16_at(sheet, end + 4) != 1 {
-        return CutMain::BadTrailer;
-    }
     if sheet[end + 6] != 0x41 {
         return CutMain::BadTrailer;
     }
@@ -37,5 +35,10 @@ pub fn cut_main(sheet: &[u8]) -> CutMain
     if end < distance {
         return CutMain::BadTrailer;
     }
-    CutMain::Main(end - distance, end)
+    let start = end - distance;
+    match u16_at(sheet, end + 4) {
+        1 => CutMain::Main(Edition::First, start, end),
+        2 => CutMain::Main(Edition::Second, start, end),
+        _ => CutMain::BadTrailer,
+    }
 }

@@ -13,7 +13,7 @@ use Rattle.layout.specs.Lists.{each}
 use Rattle.layout.specs.Numbers.{le16, bit}
 use Rattle.layout.specs.OpCode.{byte}
 use Rattle.layout.specs.Tree.{PushValueOf, FunctionParamOf, functionParam, Small, GotoFrame, GetUrl, StoreRegister, ConstantPool, WaitForFrame, SetTarget, GotoLabel, WaitForFrame2, Push, GetUrl2, GotoFrame2, With, DefineFunction, DefineFunction2, Jump, If, CatchTargetOf, Variable, Register, ActionOf, Try, ActionsOf, CatchOf, noCatch, catch, FinallyOf, noFinally, finally}
-use Rattle.layout.specs.Read.{Text, edition1, Place, placed, Read, got, bad, Reader, chain, repeat, hasCatch, hasFinally, hasRegister, isShape, readString, readParam, readCatch, readFinally}
+use Rattle.layout.specs.Read.{Text, Terms, Place, placed, Read, got, bad, Reader, chain, repeat, hasCatch, hasFinally, hasRegister, isShape, readString, readParam, readCatch, readFinally}
 use Rattle.layout.specs.Payload.{zeroEnded, stringsBytes, pushesBytes, opcode, payload, ownerOpCode, paramsBytes, ownerFields, ownerPayload, branchOpCode, catchShape, finallyShape, catchName, tryPayload, headed, framed}
 use Rattle.layout.specs.Strings.{mapValue, mapParam, mapFlat, mapOwner, mapTarget, mapAction, mapCatch, mapFinally}
 use Rattle.layout.specs.Pack.{spelling}
@@ -103,9 +103,9 @@ unfolding hasRegister bit
 register-bit shape true h = eqb-true (shape / 4 % 2) 1 h
 register-bit shape false h = omega (arith, eqb-false (shape / 4 % 2) 1 h)
 
-module _ (b : List ℕ) (inner : Reader (ActionsOf Text ℕ)) where
+module _ (terms : Terms) (b : List ℕ) (inner : Reader (ActionsOf Text ℕ)) where
   -- a catch that was read, and none
-  caught : (x : CatchTargetOf Text) (r s : Place) (c : CatchOf Text ℕ) → readCatch edition1 b inner true x r ≡ got c s → (a : ActionsOf Text ℕ) × (inner r ≡ got a s) × (c ≡ catch x a)
+  caught : (x : CatchTargetOf Text) (r s : Place) (c : CatchOf Text ℕ) → readCatch terms b inner true x r ≡ got c s → (a : ActionsOf Text ℕ) × (inner r ≡ got a s) × (c ≡ catch x a)
   unfolding readCatch
   caught x r s c e =
       let d = parts (inner r) (λ a q. got (catch x a) q) c s e in
@@ -114,13 +114,13 @@ module _ (b : List ℕ) (inner : Reader (ActionsOf Text ℕ)) where
       (d .0, rw g at (d .2), f)
 
   -- and none
-  uncaught : (x : CatchTargetOf Text) (r s : Place) (c : CatchOf Text ℕ) → readCatch edition1 b inner false x r ≡ got c s → (s ≡ r) × (c ≡ noCatch)
+  uncaught : (x : CatchTargetOf Text) (r s : Place) (c : CatchOf Text ℕ) → readCatch terms b inner false x r ≡ got c s → (s ≡ r) × (c ≡ noCatch)
   unfolding readCatch
   uncaught x r s c e = (cc, cc)
 
   -- the catch's body, its name and its bits
   catch-shown : {shape : ℕ} {t : CatchTarget} {x : CatchTargetOf Text} (r s : Place) (c : CatchOf Text ℕ) → isShape shape ≡ true → ShownTarget b shape t x
-      → readCatch edition1 b inner (hasCatch shape) x r ≡ got c s
+      → readCatch terms b inner (hasCatch shape) x r ≡ got c s
       → CatchFrom inner r c s × (catchName (mapCatch spelling c) ≡ targetBytes b t) × (catchShape (mapCatch spelling c) ≡ shape % 2 + 4 * (shape / 4 % 2))
   unfolding catchName catchShape mapCatch mapTarget targetBytes spelling bit
   catch-shown {shape} r s c i (nothing {t} h) e =
@@ -140,12 +140,12 @@ module _ (b : List ℕ) (inner : Reader (ActionsOf Text ℕ)) where
       rw (k .2) (k .1, refl, omega arith)
 
   -- the finally's body and its bit
-  finally-shown : (shape : ℕ) (s q : Place) (f : FinallyOf Text ℕ) → readFinally edition1 b inner (hasFinally shape) s ≡ got f q
+  finally-shown : (shape : ℕ) (s q : Place) (f : FinallyOf Text ℕ) → readFinally terms b inner (hasFinally shape) s ≡ got f q
       → FinallyFrom inner s f q × (finallyShape (mapFinally spelling f) ≡ 2 * (shape / 2 % 2))
   unfolding hasFinally readFinally finallyShape mapFinally
   finally-shown shape s q f e = go (eqb (shape / 2 % 2) 1) refl e
     where
-      go : (t : Bool) → eqb (shape / 2 % 2) 1 ≡ t → readFinally edition1 b inner t s ≡ got f q → FinallyFrom inner s f q × (finallyShape (mapFinally spelling f) ≡ 2 * (shape / 2 % 2))
+      go : (t : Bool) → eqb (shape / 2 % 2) 1 ≡ t → readFinally terms b inner t s ≡ got f q → FinallyFrom inner s f q × (finallyShape (mapFinally spelling f) ≡ 2 * (shape / 2 % 2))
       go true h e =
           let d = parts (inner s) (λ a q. got (finally a) q) f q e in
           let g : f ≡ finally (d .0) = cc (d .3) in
@@ -158,25 +158,25 @@ module _ (b : List ℕ) (inner : Reader (ActionsOf Text ℕ)) where
 
 -- ---- the cases
 
-module _ (b tab : List ℕ) (at pos : ℕ) where
+module _ (terms : Terms) (b tab : List ℕ) (at pos : ℕ) where
   -- what the code writes for a case, and where it reads on
   abbrev coded : Action → Piece
   coded (code.Small n) = piece (headed (ltb n 128) n []) (at + 1)
   coded (code.GotoFrame n) = action 0x81 (le16 n) (at + 1 + 2)
   coded (code.GetUrl u t) = flatPiece (GetUrl (spanOf b u) (spanOf b t)) (after t)
   coded (code.StoreRegister r) = action 0x87 (r ∷ []) (at + 1 + 1)
-  coded (code.ConstantPool n i) = written (λ q. headed false 0x88 (le16 n ++ q)) (stringsAt b n i)
+  coded (code.ConstantPool n i) = written (λ q. headed false 0x88 (le16 n ++ q)) (stringsAt terms b n i)
   coded (code.WaitForFrame n k) = flatPiece (WaitForFrame n k) (at + 1 + 3)
   coded (code.SetTarget s) = action 0x8B (zeroEnded (spanOf b s)) (after s)
   coded (code.GotoLabel s) = action 0x8C (zeroEnded (spanOf b s)) (after s)
   coded (code.WaitForFrame2 k) = action 0x8D (k ∷ []) (at + 1 + 1)
-  coded (code.DefineFunction2 f) = function2 b f
+  coded (code.DefineFunction2 f) = function2 terms b f
   coded (code.Try shape t i) = action 0x8F (tryPayload shape 0 0 0 (targetBytes b t)) i
   coded (code.With i) = action 0x94 (le16 0) i
-  coded (code.Push n i) = written (λ q. headed false 0x96 q) (valuesAt b n i)
+  coded (code.Push n i) = written (λ q. headed false 0x96 q) (valuesAt terms b n i)
   coded (code.Jump l) = action 0x99 (le16 (tableBits tab l (pos + 5))) (at + 1 + 2)
   coded (code.GetUrl2 v t m) = flatPiece (GetUrl2 (eqb v 1) (eqb t 1) m) (at + 1 + 3)
-  coded (code.DefineFunction f) = function b f
+  coded (code.DefineFunction f) = function terms b f
   coded (code.If l) = action 0x9D (le16 (tableBits tab l (pos + 5))) (at + 1 + 2)
   coded (code.GotoFrame2 n k) = flatPiece (GotoFrame2 n (eqb k 1)) (at + 1 + 3)
 
@@ -195,7 +195,7 @@ module _ (b tab : List ℕ) (at pos : ℕ) where
   Within (code.SetTarget s) = after s ≤ length b
   Within (code.GotoLabel s) = after s ≤ length b
   Within (code.WaitForFrame2 k) = Unit {0}
-  Within (code.DefineFunction2 f) = (after (f .name) ≤ length b) × (nextOf (function2 b f) ≤ length b)
+  Within (code.DefineFunction2 f) = (after (f .name) ≤ length b) × (nextOf (function2 terms b f) ≤ length b)
   Within (code.Try shape t i) = TargetWithin b t
   Within (code.With i) = Unit {0}
   Within (code.Push n i) = Unit {0}
@@ -206,8 +206,8 @@ module _ (b tab : List ℕ) (at pos : ℕ) where
   Within (code.GotoFrame2 n k) = k < 2
 
   -- it holds of a case that shows an action
-  is-within : {inner : Reader (ActionsOf Text ℕ)} {a : Action} {x : ActionOf Text ℕ} {q : Place} → Shown edition1 b inner (at + 1) a x q → length tab ≡ 1024 → NotFar tab x pos → Within a
-  unfolding TargetWithin edition1
+  is-within : {inner : Reader (ActionsOf Text ℕ)} {a : Action} {x : ActionOf Text ℕ} {q : Place} → Shown terms b inner (at + 1) a x q → terms .labelBound ≤ length tab → NotFar tab x pos → Within a
+  unfolding TargetWithin
   is-within (small e) k n = tt
   is-within gotoFrame k n = tt
   is-within (getUrl (isText h) (isText i)) k n = (h, i)
@@ -234,23 +234,23 @@ module _ (b tab : List ℕ) (at pos : ℕ) where
   Heads inner a x q = (n : ℕ) × (coded a ≡ got (headOf tab x pos) (placed n)) × BodiesFrom inner n x q
 
   -- it holds of a case that shows an action
-  is-head : {inner : Reader (ActionsOf Text ℕ)} {a : Action} {x : ActionOf Text ℕ} {q : Place} → Shown edition1 b inner (at + 1) a x q → Heads inner a x q
+  is-head : {inner : Reader (ActionsOf Text ℕ)} {a : Action} {x : ActionOf Text ℕ} {q : Place} → Shown terms b inner (at + 1) a x q → Heads inner a x q
   unfolding headOf headBytes mapAction mapFlat mapOwner opcode payload framed byte branchOpCode ownerOpCode ownerFields ownerPayload functionPayload function2Payload spelling
   is-head (small e) = (at + 1, ap (λ (k : ℕ). piece (headed (ltb k 128) k []) (at + 1)) (sym e), refl)
   is-head gotoFrame = (at + 1 + 2, refl, refl)
   is-head (getUrl {t = t} (isText h) (isText i)) = (after t, refl, refl)
   is-head storeRegister = (at + 1 + 1, refl, refl)
   is-head (constantPool {n} {i} {xs} {q} e) =
-      (q .at, rw (e, strings-joined xs, length-each spelling xs, count-is (readString edition1 b) n (placed i) q xs e), refl)
+      (q .at, rw (e, strings-joined xs, length-each spelling xs, count-is (readString terms b) n (placed i) q xs e), refl)
   is-head waitForFrame = (at + 1 + 3, refl, refl)
   is-head (setTarget {s} (isText h)) = (after s, refl, refl)
   is-head (gotoLabel {s} (isText h)) = (after s, refl, refl)
   is-head waitForFrame2 = (at + 1 + 1, refl, refl)
   is-head (defineFunction2 {f} {ps = ps} {r = r} (isText h) e i j g) =
-      (r .at + 3, rw (e, params-joined ps, length-each (mapParam spelling) ps, count-is (readParam edition1 b) (f .count) (placed (f .at)) r ps e), g)
+      (r .at + 3, rw (e, params-joined ps, length-each (mapParam spelling) ps, count-is (readParam terms b) (f .count) (placed (f .at)) r ps e), g)
   is-head {inner} (try {shape} {i} {t} {c = c} {f = f} {r = r} {s = s} {q = q} h target e g k) =
-      let l = catch-shown b inner r s c h target g in
-      let m = finally-shown b inner shape s q f k in
+      let l = catch-shown terms b inner r s c h target g in
+      let m = finally-shown terms b inner shape s q f k in
       let n : shape ≡ catchShape (mapCatch spelling c) + finallyShape (mapFinally spelling f) = shape-sum shape (shape-bits shape h .0) ∙ ap₂ (λ (i j : ℕ). i + j) (sym (l .2)) (sym (m .1)) in
       (i, rw (← n, l .1), (r, s, e, l .0, m .0))
   is-head (with {i} e) = (i, refl, e)
@@ -258,20 +258,20 @@ module _ (b tab : List ℕ) (at pos : ℕ) where
   is-head (jump h) = (at + 1 + 2, refl, refl)
   is-head (getUrl2 h i) = (at + 1 + 3, refl, refl)
   is-head (defineFunction {f} {ps = ps} {r = r} (isText h) e g) =
-      (r .at, rw (e, strings-joined ps, length-each spelling ps, count-is (readString edition1 b) (f .count) (placed (f .at)) r ps e), g)
+      (r .at, rw (e, strings-joined ps, length-each spelling ps, count-is (readString terms b) (f .count) (placed (f .at)) r ps e), g)
   is-head (if h) = (at + 1 + 2, refl, refl)
   is-head (gotoFrame2 h) = (at + 1 + 3, refl, refl)
 
   module _ {a a′ : Action} {out : List ℕ} where
     -- what a case asks, where the action may be written
-    pub case-room : Writable b at a pos tab out → a ≡ a′ → Within a′ × Room (coded a′) pos out
+    pub case-room : Writable terms b at a pos tab out → a ≡ a′ → Within a′ × Room (coded a′) pos out
     case-room w e =
         let h = is-head (w .shown) in
         let r : Room (coded a) pos out = rw (h .1) (record { known = tt; room = w .room; sums = w .sums }) in
         (rw e at (is-within (w .shown) (w .slots) (w .near)), rw e at r)
 
     -- what it leaves
-    pub case-put : {out′ : List ℕ} {r : Ends} → a ≡ a′ → Put (coded a′) pos out out′ r → WroteHead b at a pos tab out out′ (r .next) (r .pos .0)
+    pub case-put : {out′ : List ℕ} {r : Ends} → a ≡ a′ → Put (coded a′) pos out out′ r → WroteHead terms b at a pos tab out out′ (r .next) (r .pos .0)
     case-put {out′} {r} e p = record { wrote = λ inner x q s. go inner x q (is-head s) (rw (← e) at p) }
       where
         go : (inner : Reader (ActionsOf Text ℕ)) (x : ActionOf Text ℕ) (q : Place) → Heads inner a x q → Put (coded a) pos out out′ r

@@ -7,7 +7,7 @@ use mathlib.Core.List.{List, [], _∷_, _++_}
 use lib.ListN.{length, getD, length-append}
 use lib.Seq.{sets}
 use Rattle.layout.specs.Numbers.{u16At, le16}
-use Rattle.layout.specs.Read.{got, bad}
+use Rattle.layout.specs.Read.{Terms, got, bad}
 use Rattle.layout.specs.Payload.{zeroEnded, tryPayload, headed}
 use Rattle.layout.specs.Lengths.{length-le16, length-tryPayload}
 use Rattle.pcode.specs.declared.Function.{Function}
@@ -56,11 +56,11 @@ module _ (l : List ℕ) (i w : ℕ) (name : List ℕ) (count : ℕ) (h : w ≡ i
 
 -- ---- a DefineFunction
 
-module _ (b : List ℕ) (f : Function) {pos : ℕ} {out : List ℕ} (n : after (f .name) ≤ length b) where
+module _ (terms : Terms) (b : List ℕ) (f : Function) {pos : ℕ} {out : List ℕ} (n : after (f .name) ≤ length b) where
   -- the name, the count, the parameters and the body's length have room
-  pub function-space : Room (function b f) pos out → pos + 3 + (f .name .len + 1) + 4 + length (bytesOf (stringsAt b (f .count) (f .at))) ≤ length out
+  pub function-space : Room (function terms b f) pos out → pos + 3 + (f .name .len + 1) + 4 + length (bytesOf (stringsAt terms b (f .count) (f .at))) ≤ length out
   function-space h =
-      let x : Piece = stringsAt b (f .count) (f .at) in
+      let x : Piece = stringsAt terms b (f .count) (f .at) in
       omega (
         arith,
         list-space 0x9B (λ q. functionPayload (spanOf b (f .name)) (f .count) q) x h,
@@ -69,20 +69,20 @@ module _ (b : List ℕ) (f : Function) {pos : ℕ} {out : List ℕ} (n : after (
       )
 
   -- so the parameters may be written behind the count, which stands at w
-  pub function-room : {w : ℕ} {m : List ℕ} → Room (function b f) pos out → w ≡ pos + 3 + (f .name .len + 1) → length m ≡ length out → Room (stringsAt b (f .count) (f .at)) (w + 2) m
+  pub function-room : {w : ℕ} {m : List ℕ} → Room (function terms b f) pos out → w ≡ pos + 3 + (f .name .len + 1) → length m ≡ length out → Room (stringsAt terms b (f .count) (f .at)) (w + 2) m
   function-room {w} {m} h i e =
-      let x : Piece = stringsAt b (f .count) (f .at) in
+      let x : Piece = stringsAt terms b (f .count) (f .at) in
       list-room x (w + 2) m (list-known 0x9B (λ q. functionPayload (spanOf b (f .name)) (f .count) q) x h) (omega (arith, function-space h)) (omega (arith, h .sums))
 
   -- the name, the count, the parameters, the body's length, and then the header
-  pub function-put : {w len : ℕ} {m o p s out′ : List ℕ} {r : Ends} → Room (function b f) pos out → w ≡ pos + 3 + (f .name .len + 1) → m ≡ sets out (pos + 3) (zeroEnded (spanOf b (f .name)))
-      → o ≡ sets m w (le16 (f .count)) → Put (stringsAt b (f .count) (f .at)) (w + 2) o p r → s ≡ sets p (r .pos .0) (le16 0) → len ≡ f .name .len + 5 + (r .pos .0 - (w + 2))
-      → out′ ≡ sets s pos (0x9B ∷ le16 len) → Put (function b f) pos out out′ (record { next = r .next; pos = record { 0 = pos + 3 + len } })
+  pub function-put : {w len : ℕ} {m o p s out′ : List ℕ} {r : Ends} → Room (function terms b f) pos out → w ≡ pos + 3 + (f .name .len + 1) → m ≡ sets out (pos + 3) (zeroEnded (spanOf b (f .name)))
+      → o ≡ sets m w (le16 (f .count)) → Put (stringsAt terms b (f .count) (f .at)) (w + 2) o p r → s ≡ sets p (r .pos .0) (le16 0) → len ≡ f .name .len + 5 + (r .pos .0 - (w + 2))
+      → out′ ≡ sets s pos (0x9B ∷ le16 len) → Put (function terms b f) pos out out′ (record { next = r .next; pos = record { 0 = pos + 3 + len } })
   function-put {w} {len} {r = r} h i e g x y j z =
       let k = length-span b (f .name) n in
-      let l = length-function (spanOf b (f .name)) (f .count) (bytesOf (stringsAt b (f .count) (f .at))) in
-      list-put 0x9B (λ q. functionPayload (spanOf b (f .name)) (f .count) q) (stringsAt b (f .count) (f .at)) h len (omega (arith, x .end))
-      (function-runs out (pos + 3) w (spanOf b (f .name)) (f .count) (omega arith) e g (bytesOf (stringsAt b (f .count) (f .at))) (r .pos .0) (x .wrote) (x .end) y)
+      let l = length-function (spanOf b (f .name)) (f .count) (bytesOf (stringsAt terms b (f .count) (f .at))) in
+      list-put 0x9B (λ q. functionPayload (spanOf b (f .name)) (f .count) q) (stringsAt terms b (f .count) (f .at)) h len (omega (arith, x .end))
+      (function-runs out (pos + 3) w (spanOf b (f .name)) (f .count) (omega arith) e g (bytesOf (stringsAt terms b (f .count) (f .at))) (r .pos .0) (x .wrote) (x .end) y)
       z (omega (arith, x .end)) (x .next)
 
 -- ---- a DefineFunction2
@@ -97,44 +97,44 @@ module _ (b : List ℕ) (f : Function) where
   made (got q r) k = (tt, refl, refl)
   made (bad e r) k = absurd k
 
-  module _ {pos : ℕ} {out : List ℕ} (n : after (f .name) ≤ length b) (h : Room (function2 b f) pos out) where
-    -- the byte and the u16 behind the parameters lie within b
-    pub function2-inside : nextOf (function2 b f) ≤ length b → nextOf (paramsAt b (f .count) (f .at)) + 3 ≤ length b
-    function2-inside k = omega (arith, made (paramsAt b (f .count) (f .at)) (h .known) .2)
+module _ (terms : Terms) (b : List ℕ) (f : Function) {pos : ℕ} {out : List ℕ} (n : after (f .name) ≤ length b) (h : Room (function2 terms b f) pos out) where
+  -- the byte and the u16 behind the parameters lie within b
+  pub function2-inside : nextOf (function2 terms b f) ≤ length b → nextOf (paramsAt terms b (f .count) (f .at)) + 3 ≤ length b
+  function2-inside k = omega (arith, made b f (paramsAt terms b (f .count) (f .at)) (h .known) .2)
 
-    -- the name, the fields, the parameters and the body's length have room
-    pub function2-space : pos + 3 + (f .name .len + 1) + 7 + length (bytesOf (paramsAt b (f .count) (f .at))) ≤ length out
-    function2-space =
-        let x : Piece = paramsAt b (f .count) (f .at) in
-        omega (
-          arith,
-          rw (made x (h .known) .1) at (h .room),
-          length-action 0x8E (fields2 x),
-          length-function2 (spanOf b (f .name)) (f .count) (getD b (nextOf x) 0) (u16At b (nextOf x + 1)) (bytesOf x),
-          length-span b (f .name) n,
-        )
+  -- the name, the fields, the parameters and the body's length have room
+  pub function2-space : pos + 3 + (f .name .len + 1) + 7 + length (bytesOf (paramsAt terms b (f .count) (f .at))) ≤ length out
+  function2-space =
+      let x : Piece = paramsAt terms b (f .count) (f .at) in
+      omega (
+        arith,
+        rw (made b f x (h .known) .1) at (h .room),
+        length-action 0x8E (fields2 b f x),
+        length-function2 (spanOf b (f .name)) (f .count) (getD b (nextOf x) 0) (u16At b (nextOf x + 1)) (bytesOf x),
+        length-span b (f .name) n,
+      )
 
-    -- so the parameters may be written behind the fields, the first of which stands at w
-    pub function2-room : {w : ℕ} {m : List ℕ} → w ≡ pos + 3 + (f .name .len + 1) → length m ≡ length out → Room (paramsAt b (f .count) (f .at)) (w + 5) m
-    function2-room {w} {m} i e =
-        let x : Piece = paramsAt b (f .count) (f .at) in
-        list-room x (w + 5) m (made x (h .known) .0) (omega (arith, function2-space)) (omega (arith, h .sums))
+  -- so the parameters may be written behind the fields, the first of which stands at w
+  pub function2-room : {w : ℕ} {m : List ℕ} → w ≡ pos + 3 + (f .name .len + 1) → length m ≡ length out → Room (paramsAt terms b (f .count) (f .at)) (w + 5) m
+  function2-room {w} {m} i e =
+      let x : Piece = paramsAt terms b (f .count) (f .at) in
+      list-room x (w + 5) m (made b f x (h .known) .0) (omega (arith, function2-space)) (omega (arith, h .sums))
 
-    -- the name, the count, the parameters, the fields before them, the body's length, and then the header
-    pub function2-put : {w len : ℕ} {m o p s t u out′ : List ℕ} {r : Ends} {flags : ℕ} → w ≡ pos + 3 + (f .name .len + 1) → m ≡ sets out (pos + 3) (zeroEnded (spanOf b (f .name)))
-        → o ≡ sets m w (le16 (f .count)) → Put (paramsAt b (f .count) (f .at)) (w + 5) o p r → s ≡ sets p (w + 2) (getD b (r .next) 0 ∷ []) → flags ≡ u16At b (r .next + 1)
-        → t ≡ sets s (w + 3) (le16 flags) → u ≡ sets t (r .pos .0) (le16 0) → len ≡ f .name .len + 8 + (r .pos .0 - (w + 5)) → out′ ≡ sets u pos (0x8E ∷ le16 len)
-        → Put (function2 b f) pos out out′ (record { next = r .next + 3; pos = record { 0 = pos + 3 + len } })
-    function2-put {w} {len} {out′ = out′} {r = r} d e g x y k z v c o =
-        let a : Piece = paramsAt b (f .count) (f .at) in
-        let i = made a (h .known) in
-        let j = length-span b (f .name) n in
-        let l = length-function2 (spanOf b (f .name)) (f .count) (getD b (nextOf a) 0) (u16At b (nextOf a + 1)) (bytesOf a) in
-        let q : Put (action 0x8E (fields2 a) (r .next + 3)) pos out out′ (record { next = r .next + 3; pos = record { 0 = pos + 3 + len } }) =
-        action-last 0x8E (fields2 a) len (omega (arith, x .end))
-        (function2-runs out (pos + 3) w (spanOf b (f .name)) (f .count) (omega arith) e g (bytesOf a) (getD b (nextOf a) 0) (u16At b (nextOf a + 1)) (r .pos .0)
-        (x .wrote) (rw (x .next) at y) (rw (k, x .next) at z) (x .end) v) o (omega (arith, x .end)) in
-        record { wrote = rw (i .1) (q .wrote); end = rw (i .1) (q .end); next = omega (arith, i .2, x .next) }
+  -- the name, the count, the parameters, the fields before them, the body's length, and then the header
+  pub function2-put : {w len : ℕ} {m o p s t u out′ : List ℕ} {r : Ends} {flags : ℕ} → w ≡ pos + 3 + (f .name .len + 1) → m ≡ sets out (pos + 3) (zeroEnded (spanOf b (f .name)))
+      → o ≡ sets m w (le16 (f .count)) → Put (paramsAt terms b (f .count) (f .at)) (w + 5) o p r → s ≡ sets p (w + 2) (getD b (r .next) 0 ∷ []) → flags ≡ u16At b (r .next + 1)
+      → t ≡ sets s (w + 3) (le16 flags) → u ≡ sets t (r .pos .0) (le16 0) → len ≡ f .name .len + 8 + (r .pos .0 - (w + 5)) → out′ ≡ sets u pos (0x8E ∷ le16 len)
+      → Put (function2 terms b f) pos out out′ (record { next = r .next + 3; pos = record { 0 = pos + 3 + len } })
+  function2-put {w} {len} {out′ = out′} {r = r} d e g x y k z v c o =
+      let a : Piece = paramsAt terms b (f .count) (f .at) in
+      let i = made b f a (h .known) in
+      let j = length-span b (f .name) n in
+      let l = length-function2 (spanOf b (f .name)) (f .count) (getD b (nextOf a) 0) (u16At b (nextOf a + 1)) (bytesOf a) in
+      let q : Put (action 0x8E (fields2 b f a) (r .next + 3)) pos out out′ (record { next = r .next + 3; pos = record { 0 = pos + 3 + len } }) =
+      action-last 0x8E (fields2 b f a) len (omega (arith, x .end))
+      (function2-runs out (pos + 3) w (spanOf b (f .name)) (f .count) (omega arith) e g (bytesOf a) (getD b (nextOf a) 0) (u16At b (nextOf a + 1)) (r .pos .0)
+      (x .wrote) (rw (x .next) at y) (rw (k, x .next) at z) (x .end) v) o (omega (arith, x .end)) in
+      record { wrote = rw (i .1) (q .wrote); end = rw (i .1) (q .end); next = omega (arith, i .2, x .next) }
 
 -- ---- a Try
 

@@ -4,7 +4,7 @@ use mathlib.Core.Bool.{false}
 use mathlib.Core.List.{List, [], _∷_, _++_}
 use lib.ListN.{length, getD}
 use Rattle.layout.specs.Numbers.{u16At, le16}
-use Rattle.layout.specs.Read.{ahead, got, bad}
+use Rattle.layout.specs.Read.{Terms, ahead, got, bad}
 use Rattle.layout.specs.Payload.{zeroEnded, headed}
 use Rattle.pcode.specs.declared.Function.{Function}
 use Rattle.pcode.specs.declared.CatchTarget.{CatchTarget}
@@ -32,15 +32,16 @@ module _ (b : List ℕ) where
   TargetWithin (target.Variable s) = after s ≤ length b
   TargetWithin (target.Register r) = Unit {0}
 
-  -- a DefineFunction, whose body's length is still 0
-  abbrev pub function : Function → Piece
-  function f = written (λ q. headed false 0x9B (functionPayload (spanOf b (f .name)) (f .count) q)) (stringsAt b (f .count) (f .at))
-
-  -- the same with its parameters read: the register count and the flags, which stand behind them in b, come before them
+  -- a DefineFunction2 with its parameters read: the register count and the flags, which stand behind them in b, come before them
   abbrev pub function2Of : Function → Piece → Piece
   function2Of f (got q r) = got (headed false 0x8E (function2Payload (spanOf b (f .name)) (f .count) (getD b (r .at) 0) (u16At b (r .at + 1)) q)) (ahead 3 r)
   function2Of f (bad e r) = bad e r
 
+module _ (terms : Terms) (b : List ℕ) where
+  -- a DefineFunction, whose body's length is still 0
+  abbrev pub function : Function → Piece
+  function f = written (λ q. headed false 0x9B (functionPayload (spanOf b (f .name)) (f .count) q)) (stringsAt terms b (f .count) (f .at))
+
   -- a DefineFunction2, whose body's length is still 0
   abbrev pub function2 : Function → Piece
-  function2 f = function2Of f (paramsAt b (f .count) (f .at))
+  function2 f = function2Of b f (paramsAt terms b (f .count) (f .at))

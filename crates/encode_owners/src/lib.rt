@@ -5,7 +5,9 @@ ghost use lib.ListN.{length};
 ghost use Rattle.layout.specs.Payload.{tryPayload};
 ghost use Rattle.pcode.specs.Shown.{after};
 ghost use Rattle.encode_values.specs.Pieces.{piece, action, nextOf, Room, Put};
+ghost use Rattle.editions.specs.Allowed.{termsOf};
 ghost use Rattle.encode_owners.specs.Payloads.{targetBytes, TargetWithin, function, function2};
+use editions::Terms;
 use encode_values::write_byte;
 use encode_values::write_params;
 use encode_values::write_strings;
@@ -21,9 +23,15 @@ use stores::write_u16;
 use writer::write_action_header;
 
 // The body's length is the payload's last two bytes, 0 for now. The header comes last, here and below: only then is its length known.
-pub fn write_define_function(out: &mut [u8], pos: BytePosition, b: &[u8], f: Function) -> Ends
-    requires { ⌜ (after (f .name) ≤ length (now b)) × Room (function (now b) f) (pos .0) (now out) ⌝ }
-    ensures { λ r. ⌜ Put (function (now (b .entry)) f) (pos .0) (now (out .entry)) (now (out .exit)) r ⌝ }
+pub fn write_define_function(
+    out: &mut [u8],
+    pos: BytePosition,
+    b: &[u8],
+    terms: Terms,
+    f: Function,
+) -> Ends
+    requires { ⌜ (after (f .name) ≤ length (now b)) × Room (function (termsOf terms) (now b) f) (pos .0) (now out) ⌝ }
+    ensures { λ r. ⌜ Put (function (termsOf terms) (now (b .entry)) f) (pos .0) (now (out .entry)) (now (out .exit)) r ⌝ }
 {
     let name = f.name;
     let start = pos.0 + OpCode::HEADER_LEN;
@@ -31,7 +39,7 @@ pub fn write_define_function(out: &mut [u8], pos: BytePosition, b: &[u8], f: Fun
     let w = start + OpCode::string_len(name.len);
     write_u16(out, w, f.count);
     let params = w + 2;
-    let e = write_strings(out, BytePosition(params), b, f.count, f.at);
+    let e = write_strings(out, BytePosition(params), b, terms, f.count, f.at);
     write_u16(out, e.pos.0, 0);
     let len = OpCode::define_function_len(name.len, e.pos.0 - params);
     write_action_header(out, pos, OpCode::DEFINE_FUNCTION, len);
@@ -42,9 +50,15 @@ pub fn write_define_function(out: &mut [u8], pos: BytePosition, b: &[u8], f: Fun
 }
 
 // Registers and flags stand behind the parameters in the main body, and before them in the block.
-pub fn write_define_function_2(out: &mut [u8], pos: BytePosition, b: &[u8], f: Function) -> Ends
-    requires { ⌜ (after (f .name) ≤ length (now b)) × (nextOf (function2 (now b) f) ≤ length (now b)) × Room (function2 (now b) f) (pos .0) (now out) ⌝ }
-    ensures { λ r. ⌜ Put (function2 (now (b .entry)) f) (pos .0) (now (out .entry)) (now (out .exit)) r ⌝ }
+pub fn write_define_function_2(
+    out: &mut [u8],
+    pos: BytePosition,
+    b: &[u8],
+    terms: Terms,
+    f: Function,
+) -> Ends
+    requires { ⌜ (after (f .name) ≤ length (now b)) × (nextOf (function2 (termsOf terms) (now b) f) ≤ length (now b)) × Room (function2 (termsOf terms) (now b) f) (pos .0) (now out) ⌝ }
+    ensures { λ r. ⌜ Put (function2 (termsOf terms) (now (b .entry)) f) (pos .0) (now (out .entry)) (now (out .exit)) r ⌝ }
 {
     let name = f.name;
     let start = pos.0 + OpCode::HEADER_LEN;
@@ -52,7 +66,7 @@ pub fn write_define_function_2(out: &mut [u8], pos: BytePosition, b: &[u8], f: F
     let w = start + OpCode::string_len(name.len);
     write_u16(out, w, f.count);
     let params = w + 5;
-    let e = write_params(out, BytePosition(params), b, f.count, f.at);
+    let e = write_params(out, BytePosition(params), b, terms, f.count, f.at);
     let registers = e.next;
     write_u8(out, w + 2, b[registers]);
     write_u16(out, w + 3, u16_at(b, registers + 1));

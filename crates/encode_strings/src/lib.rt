@@ -9,6 +9,8 @@ ghost use Rattle.layout.specs.Tree.{GetUrl};
 ghost use Rattle.layout.specs.Payload.{zeroEnded, headed};
 ghost use Rattle.pcode.specs.Shown.{after};
 ghost use Rattle.encode_values.specs.Pieces.{action, flatPiece, written, spanOf, stringsAt, valuesAt, Room, Put};
+ghost use Rattle.editions.specs.Allowed.{termsOf};
+use editions::Terms;
 use encode_values::write_push_values;
 use encode_values::write_strings;
 use opcode::OpCode;
@@ -50,25 +52,39 @@ pub fn write_get_url(out: &mut [u8], pos: BytePosition, b: &[u8], url: Span, tar
 }
 
 // The header comes after the values: only then is its length known.
-pub fn write_push(out: &mut [u8], pos: BytePosition, b: &[u8], n: usize, at: usize) -> Ends
-    requires { ⌜ Room (written (λ q. headed false 0x96 q) (valuesAt (now b) n at)) (pos .0) (now out) ⌝ }
-    ensures { λ r. ⌜ Put (written (λ q. headed false 0x96 q) (valuesAt (now (b .entry)) n at)) (pos .0) (now (out .entry)) (now (out .exit)) r ⌝ }
+pub fn write_push(
+    out: &mut [u8],
+    pos: BytePosition,
+    b: &[u8],
+    terms: Terms,
+    n: usize,
+    at: usize,
+) -> Ends
+    requires { ⌜ Room (written (λ q. headed false 0x96 q) (valuesAt (termsOf terms) (now b) n at)) (pos .0) (now out) ⌝ }
+    ensures { λ r. ⌜ Put (written (λ q. headed false 0x96 q) (valuesAt (termsOf terms) (now (b .entry)) n at)) (pos .0) (now (out .entry)) (now (out .exit)) r ⌝ }
 {
     let values = pos.0 + OpCode::HEADER_LEN;
-    let e = write_push_values(out, BytePosition(values), b, n, at);
+    let e = write_push_values(out, BytePosition(values), b, terms, n, at);
     write_action_header(out, pos, OpCode::PUSH, OpCode::push_len(e.pos.0 - values));
     e
 }
 
 // The header comes after the strings.
-pub fn write_constant_pool(out: &mut [u8], pos: BytePosition, b: &[u8], n: usize, at: usize) -> Ends
-    requires { ⌜ Room (written (λ q. headed false 0x88 (le16 n ++ q)) (stringsAt (now b) n at)) (pos .0) (now out) ⌝ }
-    ensures { λ r. ⌜ Put (written (λ q. headed false 0x88 (le16 n ++ q)) (stringsAt (now (b .entry)) n at)) (pos .0) (now (out .entry)) (now (out .exit)) r ⌝ }
+pub fn write_constant_pool(
+    out: &mut [u8],
+    pos: BytePosition,
+    b: &[u8],
+    terms: Terms,
+    n: usize,
+    at: usize,
+) -> Ends
+    requires { ⌜ Room (written (λ q. headed false 0x88 (le16 n ++ q)) (stringsAt (termsOf terms) (now b) n at)) (pos .0) (now out) ⌝ }
+    ensures { λ r. ⌜ Put (written (λ q. headed false 0x88 (le16 n ++ q)) (stringsAt (termsOf terms) (now (b .entry)) n at)) (pos .0) (now (out .entry)) (now (out .exit)) r ⌝ }
 {
     let start = pos.0 + OpCode::HEADER_LEN;
     write_u16(out, start, n);
     let strings = start + OpCode::constant_pool_len(0);
-    let e = write_strings(out, BytePosition(strings), b, n, at);
+    let e = write_strings(out, BytePosition(strings), b, terms, n, at);
     let len = OpCode::constant_pool_len(e.pos.0 - strings);
     write_action_header(out, pos, OpCode::CONSTANT_POOL, len);
     e

@@ -7,7 +7,7 @@ use lib.ListN.{length, getD}
 use lib.Seq.{sets}
 use Rattle.layout.specs.Numbers.{u16At}
 use Rattle.layout.specs.Tree.{functionParam}
-use Rattle.layout.specs.Read.{Text, edition1, placed, Read, got, bad, plain, chain, readU8, readString, readParam}
+use Rattle.layout.specs.Read.{Text, Terms, placed, Read, got, bad, plain, chain, readU8, readString, readParam}
 use Rattle.layout.specs.Payload.{zeroEnded}
 use Rattle.layout.specs.Pack.{spelling}
 use Rattle.fields.specs.Runs.{part}
@@ -19,18 +19,18 @@ use Rattle.positions.specs.declared.Ends.{Ends}
 use Rattle.encode_values.specs.Pieces.{Piece, piece, written, bytesOf, nextOf, Reads, stringBytes, paramBytes, stringAt, paramAt, spanOf, Room, Put}
 use Rattle.encode_values.proofs.Puts.{length-span}
 
-module _ (b : List ℕ) (p : ℕ) where
+module _ (terms : Terms) (b : List ℕ) (p : ℕ) where
   -- a string that reads is the span at p
-  is-span : Reads (stringAt b p) → (after (spanAt b p) ≤ length b) × (stringAt b p ≡ piece (zeroEnded (spanOf b (spanAt b p))) (after (spanAt b p)))
+  is-span : Reads (stringAt terms b p) → (after (spanAt b p) ≤ length b) × (stringAt terms b p ≡ piece (zeroEnded (spanOf b (spanAt b p))) (after (spanAt b p)))
   unfolding stringBytes spelling
-  is-span k = go (readString edition1 b (placed p)) (reading.string edition1 b p) k
+  is-span k = go (readString terms b (placed p)) (reading.string terms b p) k
     where
       go : (x : Read Text) → Gives (Exactly (after (spanAt b p) ≤ length b) (plain (spanOf b (spanAt b p))) (placed (after (spanAt b p)))) x → Reads (written stringBytes x)
           → (after (spanAt b p) ≤ length b) × (written stringBytes x ≡ piece (zeroEnded (spanOf b (spanAt b p))) (after (spanAt b p)))
       go (got a q) (gives (exactly h)) k = (h, refl)
       go (bad f q) h k = absurd k
 
-  module _ {pos : ℕ} {out : List ℕ} (h : Room (stringAt b p) pos out) where
+  module _ {pos : ℕ} {out : List ℕ} (h : Room (stringAt terms b p) pos out) where
     -- it lies within b, and there is room for its bytes and a zero byte
     pub string-room : (after (spanAt b p) ≤ length b) × (pos + u16At b p + 1 ≤ length out)
     string-room =
@@ -38,13 +38,13 @@ module _ (b : List ℕ) (p : ℕ) where
         (s .0, omega (arith, length-span b (spanAt b p) (s .0), rw (s .1) at (h .room)))
 
     -- it is written
-    pub string-put : {out′ : List ℕ} (n l : ℕ) → n ≡ u16At b p → l ≡ n + 1 → out′ ≡ sets out pos (zeroEnded (part b (p + 2) n)) → Put (stringAt b p) pos out out′ (record { next = p + 2 + n; pos = record { 0 = pos + l } })
+    pub string-put : {out′ : List ℕ} (n l : ℕ) → n ≡ u16At b p → l ≡ n + 1 → out′ ≡ sets out pos (zeroEnded (part b (p + 2) n)) → Put (stringAt terms b p) pos out out′ (record { next = p + 2 + n; pos = record { 0 = pos + l } })
     string-put n l e k f =
         let s = is-span (h .known) in
         rw (s .1) (record { wrote = rw e at f; end = omega (arith, length-span b (spanAt b p) (s .0)); next = omega arith })
 
   -- a parameter that reads is a byte and the string behind it
-  is-param : Reads (paramAt b p) → (p + 1 ≤ length b) × Reads (stringAt b (p + 1)) × (paramAt b p ≡ written (λ t. getD b p 0 ∷ t) (stringAt b (p + 1)))
+  is-param : Reads (paramAt terms b p) → (p + 1 ≤ length b) × Reads (stringAt terms b (p + 1)) × (paramAt terms b p ≡ written (λ t. getD b p 0 ∷ t) (stringAt terms b (p + 1)))
   unfolding readParam paramBytes stringBytes
   is-param k = go (readU8 b (placed p)) (reading.u8 b p) k
     where
@@ -54,9 +54,9 @@ module _ (b : List ℕ) (p : ℕ) where
       rest (bad f q) k = absurd k
 
       go : (x : Read ℕ) → Gives (Exactly (p + 1 ≤ length b) (getD b p 0) (placed (p + 1))) x
-          → Reads (written paramBytes (chain x (λ r q. chain (readString edition1 b q) (λ s q. got (functionParam r s) q))))
-          → (p + 1 ≤ length b) × Reads (stringAt b (p + 1)) × (written paramBytes (chain x (λ r q. chain (readString edition1 b q) (λ s q. got (functionParam r s) q))) ≡ written (λ t. getD b p 0 ∷ t) (stringAt b (p + 1)))
-      go (got r q) (gives (exactly h)) k = let r = rest (readString edition1 b (placed (p + 1))) k in (h, r .0, r .1)
+          → Reads (written paramBytes (chain x (λ r q. chain (readString terms b q) (λ s q. got (functionParam r s) q))))
+          → (p + 1 ≤ length b) × Reads (stringAt terms b (p + 1)) × (written paramBytes (chain x (λ r q. chain (readString terms b q) (λ s q. got (functionParam r s) q))) ≡ written (λ t. getD b p 0 ∷ t) (stringAt terms b (p + 1)))
+      go (got r q) (gives (exactly h)) k = let r = rest (readString terms b (placed (p + 1))) k in (h, r .0, r .1)
       go (bad f q) h k = absurd k
 
   -- bytes before a piece that reads
@@ -64,24 +64,24 @@ module _ (b : List ℕ) (p : ℕ) where
   consed x (got s q) k = (refl, refl)
   consed x (bad f q) k = absurd k
 
-  module _ {pos : ℕ} {out : List ℕ} (h : Room (paramAt b p) pos out) where
+  module _ {pos : ℕ} {out : List ℕ} (h : Room (paramAt terms b p) pos out) where
     -- the byte lies within b, there is room for it, and then for the string
     pub param-inside : (p + 1 ≤ length b) × (pos + 1 ≤ length out)
     param-inside =
         let s = is-param (h .known) in
-        let c = consed (getD b p 0) (stringAt b (p + 1)) (s .1) in
+        let c = consed (getD b p 0) (stringAt terms b (p + 1)) (s .1) in
         (s .0, omega (arith, rw (s .2, c .0) at (h .room)))
 
     -- the string may be written in an output that is as long
-    pub param-room : {m : List ℕ} → length m ≡ length out → Room (stringAt b (p + 1)) (pos + 1) m
+    pub param-room : {m : List ℕ} → length m ≡ length out → Room (stringAt terms b (p + 1)) (pos + 1) m
     param-room e =
         let s = is-param (h .known) in
-        let c = consed (getD b p 0) (stringAt b (p + 1)) (s .1) in
+        let c = consed (getD b p 0) (stringAt terms b (p + 1)) (s .1) in
         record { known = s .1; room = omega (arith, rw (s .2, c .0) at (h .room)); sums = omega (arith, h .sums) }
 
     -- the byte and the string are written
-    pub param-put : {m out′ : List ℕ} {r : Ends} → m ≡ sets out pos (getD b p 0 ∷ []) → Put (stringAt b (p + 1)) (pos + 1) m out′ r → Put (paramAt b p) pos out out′ r
+    pub param-put : {m out′ : List ℕ} {r : Ends} → m ≡ sets out pos (getD b p 0 ∷ []) → Put (stringAt terms b (p + 1)) (pos + 1) m out′ r → Put (paramAt terms b p) pos out out′ r
     param-put e x =
         let s = is-param (h .known) in
-        let c = consed (getD b p 0) (stringAt b (p + 1)) (s .1) in
-        rw (s .2) (record { wrote = rw (c .0) (sets-then out pos (getD b p 0 ∷ []) (bytesOf (stringAt b (p + 1))) 1 refl e (x .wrote)); end = rw (c .0) (omega (arith, x .end)); next = x .next ∙ sym (c .1) })
+        let c = consed (getD b p 0) (stringAt terms b (p + 1)) (s .1) in
+        rw (s .2) (record { wrote = rw (c .0) (sets-then out pos (getD b p 0 ∷ []) (bytesOf (stringAt terms b (p + 1))) 1 refl e (x .wrote)); end = rw (c .0) (omega (arith, x .end)); next = x .next ∙ sym (c .1) })

@@ -6,7 +6,7 @@ use lib.ListN.{length}
 use lib.Dec.{ltb}
 use Rattle.layout.specs.Numbers.{le32}
 use Rattle.layout.specs.Tree.{PushValueOf}
-use Rattle.layout.specs.Read.{Text, edition1, placed, Read, got, bad, readValue}
+use Rattle.layout.specs.Read.{Text, Terms, placed, Read, got, bad, readValue}
 use Rattle.layout.specs.Payload.{zeroEnded, constantBytes, doubleBytes, pushBytes}
 use Rattle.layout.specs.Strings.{mapValue}
 use Rattle.layout.specs.Pack.{spelling}
@@ -53,35 +53,36 @@ module _ (b : List ℕ) where
   case-bytes integer = (tt, refl)
   case-bytes constant = (tt, refl)
 
+module _ (terms : Terms) (b : List ℕ) where
   -- the piece at a place where a value reads
-  is-piece : (p : ℕ) (r : PushAt) → ShowsValue b p r → Reads (valueAt b p) → Within (r .value) × (valueAt b p ≡ piece (coded (r .value)) (r .next))
-  is-piece p r s k = go (readValue edition1 b (placed p)) refl k
+  is-piece : (p : ℕ) (r : PushAt) → ShowsValue b p r → Reads (valueAt terms b p) → Within b (r .value) × (valueAt terms b p ≡ piece (coded b (r .value)) (r .next))
+  is-piece p r s k = go (readValue terms b (placed p)) refl k
     where
-      go : (x : Read (PushValueOf Text)) → readValue edition1 b (placed p) ≡ x → Reads (written valueBytes x)
-          → Within (r .value) × (written valueBytes x ≡ piece (coded (r .value)) (r .next))
+      go : (x : Read (PushValueOf Text)) → readValue terms b (placed p) ≡ x → Reads (written valueBytes x)
+          → Within b (r .value) × (written valueBytes x ≡ piece (coded b (r .value)) (r .next))
       go (got v q) e k =
-          let h = s .shows edition1 v q e in
-          let c = case-bytes (h .0) in
+          let h = s .shows terms v q e in
+          let c = case-bytes b (h .0) in
           (c .0, rw (c .1, h .1))
       go (bad f q) e k = absurd k
 
-  module _ {p : ℕ} {v : PushValue} {pos : ℕ} {out : List ℕ} (r : PushAt) (s : ShowsValue b p r) (h : Room (valueAt b p) pos out) (e : r .value ≡ v) where
+  module _ {p : ℕ} {v : PushValue} {pos : ℕ} {out : List ℕ} (r : PushAt) (s : ShowsValue b p r) (h : Room (valueAt terms b p) pos out) (e : r .value ≡ v) where
     -- what the writing of a case asks
-    pub value-room : Within v × Room (piece (coded v) (r .next)) pos out
+    pub value-room : Within b v × Room (piece (coded b v) (r .next)) pos out
     value-room =
         let k = is-piece p r s (h .known) in
         (rw e at (k .0), rw (k .1, e) at h)
 
     -- and what it leaves
-    pub value-put : {out′ : List ℕ} {x : Ends} → Put (piece (coded v) (r .next)) pos out out′ x → Put (valueAt b p) pos out out′ x
+    pub value-put : {out′ : List ℕ} {x : Ends} → Put (piece (coded b v) (r .next)) pos out out′ x → Put (valueAt terms b p) pos out out′ x
     value-put x =
         let k = is-piece p r s (h .known) in
         rw (k .1, e) x
 
   -- a value reads there
-  pub value-reads : {p : ℕ} → Reads (valueAt b p) → ValueReads b p
-  value-reads {p} k = go (readValue edition1 b (placed p)) refl k
+  pub value-reads : {p : ℕ} → Reads (valueAt terms b p) → ValueReads b p
+  value-reads {p} k = go (readValue terms b (placed p)) refl k
     where
-      go : (x : Read (PushValueOf Text)) → readValue edition1 b (placed p) ≡ x → Reads (written valueBytes x) → ValueReads b p
-      go (got v q) e k = record { terms = edition1; value = v; next = q; reads = e }
+      go : (x : Read (PushValueOf Text)) → readValue terms b (placed p) ≡ x → Reads (written valueBytes x) → ValueReads b p
+      go (got v q) e k = record { terms = terms; value = v; next = q; reads = e }
       go (bad f q) e k = absurd k

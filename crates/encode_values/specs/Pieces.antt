@@ -6,7 +6,7 @@ use mathlib.Core.List.{List, [], _∷_, _++_}
 use lib.ListN.{length}
 use lib.Seq.{sets}
 use Rattle.layout.specs.Tree.{Flat, PushValueOf, FunctionParamOf, functionParam}
-use Rattle.layout.specs.Read.{Text, edition1, placed, Read, got, bad, repeat, readString, readParam, readValue}
+use Rattle.layout.specs.Read.{Text, Terms, placed, Read, got, bad, repeat, readString, readParam, readValue}
 use Rattle.layout.specs.Payload.{opcode, payload, zeroEnded, pushBytes, headed, framed}
 use Rattle.layout.specs.Strings.{mapValue}
 use Rattle.layout.specs.Pack.{spelling}
@@ -82,27 +82,27 @@ unfoldable pub joined : {A : Type 0} → (A → List ℕ) → List A → List �
 joined f [] = []
 joined f (a ∷ xs) = f a ++ joined f xs
 
-module _ (b : List ℕ) where
+module _ (terms : Terms) (b : List ℕ) where
   -- the string, the parameter and the push value at p
   abbrev pub stringAt : ℕ → Piece
-  stringAt p = written stringBytes (readString edition1 b (placed p))
+  stringAt p = written stringBytes (readString terms b (placed p))
 
   abbrev pub paramAt : ℕ → Piece
-  paramAt p = written paramBytes (readParam edition1 b (placed p))
+  paramAt p = written paramBytes (readParam terms b (placed p))
 
   abbrev pub valueAt : ℕ → Piece
-  valueAt p = written valueBytes (readValue edition1 b (placed p))
+  valueAt p = written valueBytes (readValue terms b (placed p))
 
   -- n of them from p on
   abbrev pub stringsAt : ℕ → ℕ → Piece
-  stringsAt n p = written (joined stringBytes) (repeat (readString edition1 b) n (placed p))
+  stringsAt n p = written (joined stringBytes) (repeat (readString terms b) n (placed p))
 
   abbrev pub paramsAt : ℕ → ℕ → Piece
-  paramsAt n p = written (joined paramBytes) (repeat (readParam edition1 b) n (placed p))
+  paramsAt n p = written (joined paramBytes) (repeat (readParam terms b) n (placed p))
 
   abbrev pub valuesAt : ℕ → ℕ → Piece
-  valuesAt n p = written (joined valueBytes) (repeat (readValue edition1 b) n (placed p))
+  valuesAt n p = written (joined valueBytes) (repeat (readValue terms b) n (placed p))
 
-  -- a span's bytes
-  abbrev pub spanOf : Span → List ℕ
-  spanOf s = part b (s .at) (s .len)
+-- a span's bytes
+abbrev pub spanOf : List ℕ → Span → List ℕ
+spanOf b s = part b (s .at) (s .len)

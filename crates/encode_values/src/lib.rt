@@ -7,7 +7,9 @@ ghost use lib.Dec.{ltb};
 ghost use Rattle.layout.specs.Numbers.{le32};
 ghost use Rattle.layout.specs.Payload.{zeroEnded, constantBytes, doubleBytes};
 ghost use Rattle.pcode.specs.Shown.{after};
+ghost use Rattle.editions.specs.Allowed.{termsOf};
 ghost use Rattle.encode_values.specs.Pieces.{piece, spanOf, stringAt, paramAt, valueAt, stringsAt, paramsAt, valuesAt, Room, Put};
+use editions::Terms;
 use fields::u16_at;
 use opcode::OpCode;
 use pcode::PushValue;
@@ -24,9 +26,9 @@ use stores::write_u32;
 // ---- strings and lists
 
 // The string at a place, with its zero byte.
-fn write_string_at(out: &mut [u8], pos: BytePosition, b: &[u8], at: usize) -> Ends
-    requires { ⌜ Room (stringAt (now b) at) (pos .0) (now out) ⌝ }
-    ensures { λ r. ⌜ Put (stringAt (now (b .entry)) at) (pos .0) (now (out .entry)) (now (out .exit)) r ⌝ }
+fn write_string_at(out: &mut [u8], pos: BytePosition, b: &[u8], terms: Terms, at: usize) -> Ends
+    requires { ⌜ Room (stringAt (termsOf terms) (now b) at) (pos .0) (now out) ⌝ }
+    ensures { λ r. ⌜ Put (stringAt (termsOf terms) (now (b .entry)) at) (pos .0) (now (out .entry)) (now (out .exit)) r ⌝ }
 {
     let n = u16_at(b, at);
     write_string(out, pos.0, b, at + 2, n);
@@ -37,24 +39,31 @@ fn write_string_at(out: &mut [u8], pos: BytePosition, b: &[u8], at: usize) -> En
 }
 
 // The parameter of a DefineFunction2 at a place: its register, then its name.
-fn write_param_at(out: &mut [u8], pos: BytePosition, b: &[u8], at: usize) -> Ends
-    requires { ⌜ Room (paramAt (now b) at) (pos .0) (now out) ⌝ }
-    ensures { λ r. ⌜ Put (paramAt (now (b .entry)) at) (pos .0) (now (out .entry)) (now (out .exit)) r ⌝ }
+fn write_param_at(out: &mut [u8], pos: BytePosition, b: &[u8], terms: Terms, at: usize) -> Ends
+    requires { ⌜ Room (paramAt (termsOf terms) (now b) at) (pos .0) (now out) ⌝ }
+    ensures { λ r. ⌜ Put (paramAt (termsOf terms) (now (b .entry)) at) (pos .0) (now (out .entry)) (now (out .exit)) r ⌝ }
 {
     write_u8(out, pos.0, b[at]);
-    write_string_at(out, BytePosition(pos.0 + 1), b, at + 1)
+    write_string_at(out, BytePosition(pos.0 + 1), b, terms, at + 1)
 }
 
 // n strings.
-pub fn write_strings(out: &mut [u8], pos: BytePosition, b: &[u8], n: usize, at: usize) -> Ends
-    requires { ⌜ Room (stringsAt (now b) n at) (pos .0) (now out) ⌝ }
-    ensures { λ r. ⌜ Put (stringsAt (now (b .entry)) n at) (pos .0) (now (out .entry)) (now (out .exit)) r ⌝ }
+pub fn write_strings(
+    out: &mut [u8],
+    pos: BytePosition,
+    b: &[u8],
+    terms: Terms,
+    n: usize,
+    at: usize,
+) -> Ends
+    requires { ⌜ Room (stringsAt (termsOf terms) (now b) n at) (pos .0) (now out) ⌝ }
+    ensures { λ r. ⌜ Put (stringsAt (termsOf terms) (now (b .entry)) n at) (pos .0) (now (out .entry)) (now (out .exit)) r ⌝ }
 {
     let mut left = n;
     let mut p = at;
     let mut w = pos;
     while 0 < left {
-        let e = write_string_at(out, w, b, p);
+        let e = write_string_at(out, w, b, terms, p);
         p = e.next;
         w = e.pos;
         left -= 1;
@@ -63,15 +72,22 @@ pub fn write_strings(out: &mut [u8], pos: BytePosition, b: &[u8], n: usize, at: 
 }
 
 // n parameters of a DefineFunction2.
-pub fn write_params(out: &mut [u8], pos: BytePosition, b: &[u8], n: usize, at: usize) -> Ends
-    requires { ⌜ Room (paramsAt (now b) n at) (pos .0) (now out) ⌝ }
-    ensures { λ r. ⌜ Put (paramsAt (now (b .entry)) n at) (pos .0) (now (out .entry)) (now (out .exit)) r ⌝ }
+pub fn write_params(
+    out: &mut [u8],
+    pos: BytePosition,
+    b: &[u8],
+    terms: Terms,
+    n: usize,
+    at: usize,
+) -> Ends
+    requires { ⌜ Room (paramsAt (termsOf terms) (now b) n at) (pos .0) (now out) ⌝ }
+    ensures { λ r. ⌜ Put (paramsAt (termsOf terms) (now (b .entry)) n at) (pos .0) (now (out .entry)) (now (out .exit)) r ⌝ }
 {
     let mut left = n;
     let mut p = at;
     let mut w = pos;
     while 0 < left {
-        let e = write_param_at(out, w, b, p);
+        let e = write_param_at(out, w, b, terms, p);
         p = e.next;
         w = e.pos;
         left -= 1;
@@ -163,9 +179,9 @@ fn write_push_constant(out: &mut [u8], pos: BytePosition, n: usize, next: usize)
 }
 
 // The push value at a place.
-fn write_push_value(out: &mut [u8], pos: BytePosition, b: &[u8], at: usize) -> Ends
-    requires { ⌜ Room (valueAt (now b) at) (pos .0) (now out) ⌝ }
-    ensures { λ r. ⌜ Put (valueAt (now (b .entry)) at) (pos .0) (now (out .entry)) (now (out .exit)) r ⌝ }
+fn write_push_value(out: &mut [u8], pos: BytePosition, b: &[u8], terms: Terms, at: usize) -> Ends
+    requires { ⌜ Room (valueAt (termsOf terms) (now b) at) (pos .0) (now out) ⌝ }
+    ensures { λ r. ⌜ Put (valueAt (termsOf terms) (now (b .entry)) at) (pos .0) (now (out .entry)) (now (out .exit)) r ⌝ }
 {
     let v = push_value_at(b, at);
     let value = v.value;
@@ -182,15 +198,22 @@ fn write_push_value(out: &mut [u8], pos: BytePosition, b: &[u8], at: usize) -> E
 }
 
 // n push values.
-pub fn write_push_values(out: &mut [u8], pos: BytePosition, b: &[u8], n: usize, at: usize) -> Ends
-    requires { ⌜ Room (valuesAt (now b) n at) (pos .0) (now out) ⌝ }
-    ensures { λ r. ⌜ Put (valuesAt (now (b .entry)) n at) (pos .0) (now (out .entry)) (now (out .exit)) r ⌝ }
+pub fn write_push_values(
+    out: &mut [u8],
+    pos: BytePosition,
+    b: &[u8],
+    terms: Terms,
+    n: usize,
+    at: usize,
+) -> Ends
+    requires { ⌜ Room (valuesAt (termsOf terms) (now b) n at) (pos .0) (now out) ⌝ }
+    ensures { λ r. ⌜ Put (valuesAt (termsOf terms) (now (b .entry)) n at) (pos .0) (now (out .entry)) (now (out .exit)) r ⌝ }
 {
     let mut left = n;
     let mut p = at;
     let mut w = pos;
     while 0 < left {
-        let e = write_push_value(out, w, b, p);
+        let e = write_push_value(out, w, b, terms, p);
         p = e.next;
         w = e.pos;
         left -= 1;

@@ -2,9 +2,11 @@
 ghost use mathlib.Core.Path.{_≡_};
 ghost use Prim.Native.Nat.{_≤_};
 ghost use lib.ListN.{length};
-ghost use Rattle.layout.specs.Read.{edition1, placed, readEntries};
+ghost use Rattle.layout.specs.Read.{placed, readEntries};
 ghost use Rattle.positions.specs.Scanned.{scanned};
+ghost use Rattle.editions.specs.Allowed.{termsOf};
 ghost use Rattle.front.specs.Front.{readFront};
+use editions::Terms;
 use fields::u16_at;
 use operands::scan_bytes;
 use positions::BytePosition;
@@ -12,9 +14,9 @@ use positions::Fault;
 use positions::Scan;
 
 // n label entries: label numbers in range and strictly rising.
-fn scan_entries(b: &[u8], at: usize, n: usize, pos: BytePosition) -> Scan
+fn scan_entries(b: &[u8], terms: Terms, at: usize, n: usize, pos: BytePosition) -> Scan
     requires { ⌜ at ≤ length (now b) ⌝ }
-    ensures { λ r. ⌜ r ≡ scanned (λ _. 0) (pos .0) (readEntries edition1 (now (b .entry)) n 0 (placed at)) ⌝ }
+    ensures { λ r. ⌜ r ≡ scanned (λ _. 0) (pos .0) (readEntries (termsOf terms) (now (b .entry)) n 0 (placed at)) ⌝ }
 {
     let mut left = n;
     let mut p = at;
@@ -24,7 +26,7 @@ fn scan_entries(b: &[u8], at: usize, n: usize, pos: BytePosition) -> Scan
             return Scan::Stops(Fault::CutShort, p);
         }
         let label = u16_at(b, p);
-        if 1023 < label {
+        if terms.label_bound <= label {
             return Scan::Stops(Fault::BadField, p);
         }
         if label < least {
@@ -41,14 +43,14 @@ fn scan_entries(b: &[u8], at: usize, n: usize, pos: BytePosition) -> Scan
 }
 
 // A body's front: its label entries and its action count.
-pub fn scan_front(b: &[u8], at: usize, pos: BytePosition) -> Scan
+pub fn scan_front(b: &[u8], terms: Terms, at: usize, pos: BytePosition) -> Scan
     requires { ⌜ at ≤ length (now b) ⌝ }
-    ensures { λ r. ⌜ r ≡ scanned (λ _. 0) (pos .0) (readFront (now (b .entry)) (placed at)) ⌝ }
+    ensures { λ r. ⌜ r ≡ scanned (λ _. 0) (pos .0) (readFront (termsOf terms) (now (b .entry)) (placed at)) ⌝ }
 {
     if b.len() - at < 2 {
         return Scan::Stops(Fault::CutShort, at);
     }
-    match scan_entries(b, at + 2, u16_at(b, at), pos) {
+    match scan_entries(b, terms, at + 2, u16_at(b, at), pos) {
         Scan::Stops(f, p) => Scan::Stops(f, p),
         Scan::Ends(p, w) => scan_bytes(b, p, 2, w),
     }

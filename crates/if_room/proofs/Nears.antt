@@ -8,7 +8,7 @@ use lib.ListN.{length, take, drop, length-take}
 use Rattle.layout.specs.Answers.{Refusal, NoRoom, Refused, refusalNumber, refusalValue}
 use Rattle.layout.specs.Answers as answers
 use Rattle.layout.specs.Tree.{Actions}
-use Rattle.layout.specs.Read.{edition1, deepest}
+use Rattle.layout.specs.Read.{Terms, deepest}
 use Rattle.layout.specs.Write.{bodySize, blockBytes, blockSize}
 use Rattle.layout.specs.Lengths.{length-block}
 use Rattle.layout.specs.Pack.{spelling, blockIn, output}
@@ -33,20 +33,20 @@ unfolding output answers.number answers.value
 refused x o r e n v = rw e (record { told = record { is-number = n; is-value = v }; holds = refl })
 
 -- What is left for its tree is left for whatever tree it is found to read as.
-pub answered-by : {answer : Actions → ℕ → answers.Answer (List ℕ)} {b old new : List ℕ} {r : Answer} (t : Actions) → ReadsMain b t → Answered (answer t (length old)) old r new
-    → MainAnswered answer b old r new
-answered-by {answer} {b} {old} {new} {r} t h a =
-    record { answered = λ u k. subst (λ (v : Actions). Answered (answer v (length old)) old r new) (same-tree b t u h k) a }
+pub answered-by : {terms : Terms} {answer : Actions → ℕ → answers.Answer (List ℕ)} {b old new : List ℕ} {r : Answer} (t : Actions) → ReadsMain terms b t → Answered (answer t (length old)) old r new
+    → MainAnswered terms answer b old r new
+answered-by {terms} {answer} {b} {old} {new} {r} t h a =
+    record { answered = λ u k. subst (λ (v : Actions). Answered (answer v (length old)) old r new) (same-tree terms b t u h k) a }
 
 -- ---- a main body that reads whole
 
 -- It is written in at most three bytes for each of its own, less twelve.
-tree-small : (b : List ℕ) (t : Actions) → Bytes b → ReadsMain b t → bodySize t + 12 ≤ 3 * length b
-tree-small b t small r =
-    let g = (good-got (r .read) (r .next) (main-good edition1 b small spelling (Unit {0}) (spells b small edition1) deepest) (r .is-read)) .0 in
+tree-small : (terms : Terms) (b : List ℕ) (t : Actions) → Bytes b → ReadsMain terms b t → bodySize t + 12 ≤ 3 * length b
+tree-small terms b t small r =
+    let g = (good-got (r .read) (r .next) (main-good terms b small spelling (Unit {0}) (spells b small terms) deepest) (r .is-read)) .0 in
     subst (λ (x : Actions). bodySize x + 12 ≤ 3 * length b) (r .is-tree) (g .1 tt)
 
-module _ (b tab : List ℕ) (end : BytePosition) (m : MainNear b end tab) where
+module _ (terms : Terms) (b tab : List ℕ) (end : BytePosition) (m : MainNear terms b end tab) where
   abbrev t : Actions
   t = m .measured .tree
 
@@ -60,11 +60,11 @@ module _ (b tab : List ℕ) (end : BytePosition) (m : MainNear b end tab) where
 
   -- It is short of every limit.
   pub len-small : end .0 + 1 ≤ 3145728
-  len-small = omega (arith, m .measured .is-end, m .measured .limited, tree-small b t (m .measured .bytes) (m .measured .reads))
+  len-small = omega (arith, m .measured .is-end, m .measured .limited, tree-small terms b t (m .measured .bytes) (m .measured .reads))
 
   module _ (o : List ℕ) where
     -- An output that is shorter is left as it was.
-    pub near-no-room : length o < end .0 + 1 → MainAnswered blockIn b o (answer.NoRoom (end .0 + 1)) o
+    pub near-no-room : length o < end .0 + 1 → MainAnswered terms blockIn b o (answer.NoRoom (end .0 + 1)) o
     unfolding number value refusalNumber refusalValue
     near-no-room l =
         answered-by t (m .measured .reads) (refused (NoRoom (blockSize t)) o (answer.NoRoom (end .0 + 1)) (no-room t (length o) (omega (arith, len-is))) refl (ap pos len-is))
@@ -74,7 +74,7 @@ module _ (b tab : List ℕ) (end : BytePosition) (m : MainNear b end tab) where
       pub front-long : length (take (end .0 + 1) o) ≡ end .0 + 1
       front-long = simp length-take (omega arith)
 
-      pub near-writable : MainWritable b tab (take (end .0 + 1) o)
+      pub near-writable : MainWritable terms b tab (take (end .0 + 1) o)
       near-writable =
           let j = m .measured in
           record {
@@ -82,6 +82,7 @@ module _ (b tab : List ℕ) (end : BytePosition) (m : MainNear b end tab) where
             tree = t;
             reads = j .reads;
             holds = j .holds;
+            slots = j .slots;
             is-near = m .is-near;
             room = omega (arith, front-long, len-is);
             sums = omega (arith, front-long, len-small);
@@ -89,8 +90,8 @@ module _ (b tab : List ℕ) (end : BytePosition) (m : MainNear b end tab) where
           }
 
       -- The block fills that front, and the rest keeps its values. The writer has reached the block's length.
-      pub near-done : (front : List ℕ) (reached : BytePosition) → WroteBlock b (take (end .0 + 1) o) front reached
-          → MainAnswered blockIn b o (answer.Done (reached .0)) (front ++ drop (end .0 + 1) o)
+      pub near-done : (front : List ℕ) (reached : BytePosition) → WroteBlock terms b (take (end .0 + 1) o) front reached
+          → MainAnswered terms blockIn b o (answer.Done (reached .0)) (front ++ drop (end .0 + 1) o)
       unfolding output number value answers.number answers.value
       near-done front reached w =
           let f : front ≡ blockBytes t = w .wrote t (m .measured .reads) ∙ filled (take (end .0 + 1) o) (blockBytes t) (sym block-long ∙ sym front-long) in

@@ -13,7 +13,7 @@ use Rattle.layout.specs.Answers as answers
 use Rattle.layout.specs.Numbers.{u16At}
 use Rattle.layout.specs.OpCode.{opcodeOf}
 use Rattle.layout.specs.Tree.{ActionIndex, nextAction, firstAction, Entry, entry, ActionOf, flat, branch, owner, Try, ActionListOf, empty, more, ActionsOf, body}
-use Rattle.layout.specs.Read.{Text, edition1, Place, placed, Read, got, bad, Reader, chain, repeat, readAction, readActions, readBody, readFieldsIf}
+use Rattle.layout.specs.Read.{Text, Terms, Place, placed, Read, got, bad, Reader, chain, repeat, readAction, readActions, readBody, readFieldsIf}
 use Rattle.layout.specs.Strings.{mapAction, mapActions, mapBody}
 use Rattle.layout.specs.Write.{size, sizes, bodySize, Position, position, moved, Event, eventIf, labelAt, branchAt, labelsAt, trace, traces, traceBody}
 use Rattle.layout.specs.Judge.{Mode, orElse, judgedIn, firstRefused, badBy}
@@ -47,14 +47,14 @@ no-reading e g =
 
 -- ---- every byte read is written in at most 65,536
 
-pub action-onward : (b : List ℕ) (d p : ℕ) (w x : BytePosition) (a : ActionOf Text ℕ) (q : Place) → Roomy b p w → readAction edition1 b (readBody edition1 b d) (placed p) ≡ got a q → x .0 ≡ w .0 + actionSize a → Roomy b (q .at) x
-action-onward b d p w x a q r e f =
-    let y = good-got a q (action-good edition1 b (r .bytes) spelling (Unit {0}) (spells b (r .bytes) edition1) (readBody edition1 b d) (body-good edition1 b (r .bytes) spelling (Unit {0}) (spells b (r .bytes) edition1) d) (placed p) (r .inside)) e in
+pub action-onward : (terms : Terms) (b : List ℕ) (d p : ℕ) (w x : BytePosition) (a : ActionOf Text ℕ) (q : Place) → Roomy b p w → readAction terms b (readBody terms b d) (placed p) ≡ got a q → x .0 ≡ w .0 + actionSize a → Roomy b (q .at) x
+action-onward terms b d p w x a q r e f =
+    let y = good-got a q (action-good terms b (r .bytes) spelling (Unit {0}) (spells b (r .bytes) terms) (readBody terms b d) (body-good terms b (r .bytes) spelling (Unit {0}) (spells b (r .bytes) terms) d) (placed p) (r .inside)) e in
     record { bytes = r .bytes; inside = y .1; room = omega (arith, y .0 .1 tt, y .0 .2, y .1, f, r .room, r .inside) }
 
-pub body-onward : (b : List ℕ) (d p : ℕ) (w x : BytePosition) (a : ActionsOf Text ℕ) (q : Place) → Roomy b p w → readBody edition1 b d (placed p) ≡ got a q → x .0 ≡ w .0 + bodyLength a → Roomy b (q .at) x
-body-onward b d p w x a q r e f =
-    let y = good-got a q (body-good edition1 b (r .bytes) spelling (Unit {0}) (spells b (r .bytes) edition1) d (placed p) (r .inside)) e in
+pub body-onward : (terms : Terms) (b : List ℕ) (d p : ℕ) (w x : BytePosition) (a : ActionsOf Text ℕ) (q : Place) → Roomy b p w → readBody terms b d (placed p) ≡ got a q → x .0 ≡ w .0 + bodyLength a → Roomy b (q .at) x
+body-onward terms b d p w x a q r e f =
+    let y = good-got a q (body-good terms b (r .bytes) spelling (Unit {0}) (spells b (r .bytes) terms) d (placed p) (r .inside)) e in
     record { bytes = r .bytes; inside = y .1; room = omega (arith, y .0 .1 tt, y .0 .2, y .1, f, r .room, r .inside) }
 
 -- ---- a body is its actions, one after the other
@@ -63,20 +63,20 @@ listOf : List (ActionOf Text ℕ) → ActionListOf Text ℕ
 listOf [] = empty
 listOf (x ∷ xs) = more x (listOf xs)
 
-actions-as : (b : List ℕ) (inner : Reader (ActionsOf Text ℕ)) (n : ℕ) (p : Place) → readActions edition1 b inner n p ≡ chain (repeat (readAction edition1 b inner) n p) (λ xs q. got (listOf xs) q)
+actions-as : (terms : Terms) (b : List ℕ) (inner : Reader (ActionsOf Text ℕ)) (n : ℕ) (p : Place) → readActions terms b inner n p ≡ chain (repeat (readAction terms b inner) n p) (λ xs q. got (listOf xs) q)
 unfolding readActions repeat listOf
-actions-as b inner zero p = refl
-actions-as b inner (suc n) p = go (readAction edition1 b inner p) (λ q. actions-as b inner n q)
+actions-as terms b inner zero p = refl
+actions-as terms b inner (suc n) p = go (readAction terms b inner p) (λ q. actions-as terms b inner n q)
   where
     then : (a : ActionOf Text ℕ) (y : Read (List (ActionOf Text ℕ)))
         → chain (chain y (λ xs q. got (listOf xs) q)) (λ xs r. got (more a xs) r) ≡ chain (chain y (λ xs r. got (a ∷ xs) r)) (λ xs q. got (listOf xs) q)
     then a (got xs q) = refl
     then a (bad f q) = refl
 
-    go : (x : Read (ActionOf Text ℕ)) → ((q : Place) → readActions edition1 b inner n q ≡ chain (repeat (readAction edition1 b inner) n q) (λ xs q. got (listOf xs) q))
-        → chain x (λ a q. chain (readActions edition1 b inner n q) (λ xs r. got (more a xs) r))
-        ≡ chain (chain x (λ a q. chain (repeat (readAction edition1 b inner) n q) (λ xs r. got (a ∷ xs) r))) (λ xs q. got (listOf xs) q)
-    go (got a q) h = rw (h q) (then a (repeat (readAction edition1 b inner) n q))
+    go : (x : Read (ActionOf Text ℕ)) → ((q : Place) → readActions terms b inner n q ≡ chain (repeat (readAction terms b inner) n q) (λ xs q. got (listOf xs) q))
+        → chain x (λ a q. chain (readActions terms b inner n q) (λ xs r. got (more a xs) r))
+        ≡ chain (chain x (λ a q. chain (repeat (readAction terms b inner) n q) (λ xs r. got (a ∷ xs) r))) (λ xs q. got (listOf xs) q)
+    go (got a q) h = rw (h q) (then a (repeat (readAction terms b inner) n q))
     go (bad f q) h = refl
 
 sizes-as : (xs : List (ActionOf Text ℕ)) → sizes (mapActions spelling (listOf xs)) ≡ total actionSize xs
@@ -106,12 +106,12 @@ traces-as (x ∷ xs) es i s =
     ∙ sym (branches-append (actionTrace x s) (inEach actionSize actionTrace xs (moved (actionSize x) s)))
 
 -- measured so
-module _ (b : List ℕ) (d : ℕ) where
+module _ (terms : Terms) (b : List ℕ) (d : ℕ) where
   abbrev pub One : Reader (ActionOf Text ℕ)
-  One = readAction edition1 b (readBody edition1 b d)
+  One = readAction terms b (readBody terms b d)
 
   abbrev pub Acting : (home : BytePosition) (mode : Mode) (tab homes : List ℕ) → (Judged → Type 0) → ℕ → ℕ → BytePosition → Type 0
-  Acting home mode tab homes = Looping One actionSize actionTrace b home mode tab homes (action-onward b d)
+  Acting home mode tab homes = Looping terms One actionSize actionTrace b home mode tab homes (action-onward terms b d)
 
   list-each : (es : List Entry) (pos : Position) (x : Read (List (ActionOf Text ℕ)))
       → measured bodyLength bodyEvents pos (chain (chain x (λ xs q. got (listOf xs) q)) (λ xs r. got (body es xs) r)) ≡ measured (total actionSize) (inEach actionSize actionTrace) pos x
@@ -123,26 +123,26 @@ module _ (b : List ℕ) (d : ℕ) where
   pub record Opened (at : ℕ) : Type 0 where
     pub inside : at + 4 + 4 * u16At b at ≤ length b
     pub each : (pos : Position)
-        → measured bodyLength bodyEvents pos (readBody edition1 b (d + 1) (placed at))
+        → measured bodyLength bodyEvents pos (readBody terms b (d + 1) (placed at))
         ≡ measured (total actionSize) (inEach actionSize actionTrace) pos (repeat One (u16At b (at + 2 + 4 * u16At b at)) (placed (at + 2 + 4 * u16At b at + 2)))
 
-  open-body : (at : ℕ) → at ≤ length b → (x : ActionsOf Text ℕ) (q : Place) → readBody edition1 b (d + 1) (placed at) ≡ got x q → Opened at
-  open-body at h x q e = go (readFront b (placed at)) refl
+  open-body : (at : ℕ) → at ≤ length b → (x : ActionsOf Text ℕ) (q : Place) → readBody terms b (d + 1) (placed at) ≡ got x q → Opened at
+  open-body at h x q e = go (readFront terms b (placed at)) refl
     where
-      at-end : {g : Front} (end : ℕ) → readFront b (placed at) ≡ got g (placed end) → FrontRead b at end g → Opened at
+      at-end : {g : Front} (end : ℕ) → readFront terms b (placed at) ≡ got g (placed end) → FrontRead terms b at end g → Opened at
       at-end {g = g} end k f =
           let m : end ≡ at + 2 + 4 * u16At b at + 2 = omega (arith, f .place) in
           let n : end - 2 ≡ at + 2 + 4 * u16At b at = omega (arith, f .place) in
           let c : g .count ≡ u16At b (at + 2 + 4 * u16At b at) = f .counted ∙ ap (u16At b) n in
           record {
             inside = omega (arith, f .place, f .inside);
-            each = λ pos. rw (body-step b at d, k, actions-as b (readBody edition1 b d) (g .count) (placed end)) (list-each (g .entries) pos (repeat One (g .count) (placed end)) ∙ ap₂ (λ (i j : ℕ). measured (total actionSize) (inEach actionSize actionTrace) pos (repeat One i (placed j))) c m);
+            each = λ pos. rw (body-step terms b at d, k, actions-as terms b (readBody terms b d) (g .count) (placed end)) (list-each (g .entries) pos (repeat One (g .count) (placed end)) ∙ ap₂ (λ (i j : ℕ). measured (total actionSize) (inEach actionSize actionTrace) pos (repeat One i (placed j))) c m);
           }
 
-      go : (y : Read Front) → readFront b (placed at) ≡ y → Opened at
-      go (got g p) k = at-end (p .at) k (front-read b at (p .at) g h k)
+      go : (y : Read Front) → readFront terms b (placed at) ≡ y → Opened at
+      go (got g p) k = at-end (p .at) k (front-read terms b at (p .at) g h k)
       go (bad f p) k =
-          let y : readBody edition1 b (d + 1) (placed at) ≡ bad f p = body-step b at d ∙ rw k in
+          let y : readBody terms b (d + 1) (placed at) ≡ bad f p = body-step terms b at d ∙ rw k in
           no-reading y e
 
 -- a measure that was made is of something that was read
@@ -159,36 +159,37 @@ module _ {A : Type 0} (s : A → ℕ) (t : A → Position → List Event) (pos :
   measured-of e = rw e
 
 -- the loop over a body's actions
-module _ (b : List ℕ) (d at : ℕ) (pos : BytePosition) (mode : Mode) (tab homes : List ℕ) (j : Judgeable (readBody edition1 b d (placed at)) b at pos mode tab homes) where
+module _ (terms : Terms) (b : List ℕ) (d at : ℕ) (pos : BytePosition) (mode : Mode) (tab homes : List ℕ) (j : Judgeable terms (readBody terms b d (placed at)) b at pos mode tab homes) where
   pub is-deep : 0 < d
   is-deep = go d refl
     where
       go : (n : ℕ) → d ≡ n → 0 < d
-      go zero e = no-reading (body-deep b at d e) (j .reads)
+      go zero e = no-reading (body-deep terms b at d e) (j .reads)
       go (suc n) e = omega (arith, e)
 
-  whole : readBody edition1 b (d - 1 + 1) (placed at) ≡ readBody edition1 b d (placed at)
-  whole = body-less b at d (λ e. omega (arith, e, is-deep))
+  whole : readBody terms b (d - 1 + 1) (placed at) ≡ readBody terms b d (placed at)
+  whole = body-less terms b at d (λ e. omega (arith, e, is-deep))
 
-  opened : Opened b (d - 1) at
-  opened = open-body b (d - 1) at (j .roomy .inside) (j .value) (j .next) (whole ∙ j .reads)
+  opened : Opened terms b (d - 1) at
+  opened = open-body terms b (d - 1) at (j .roomy .inside) (j .value) (j .next) (whole ∙ j .reads)
 
   pub front-inside : at + 4 + 4 * u16At b at ≤ length b
   front-inside = opened .inside
 
   pub body-start : (home : BytePosition) (n front count p : ℕ) → n ≡ u16At b at → front ≡ at + 2 + 4 * n → count ≡ u16At b front → p ≡ front + 2
-      → Acting b (d - 1) home mode tab homes (λ r. Judging mode tab homes (measured bodyLength bodyEvents (positionOf pos home) (readBody edition1 b d (placed at))) r) count p pos
+      → Acting terms b (d - 1) home mode tab homes (λ r. Judging mode tab homes (measured bodyLength bodyEvents (positionOf pos home) (readBody terms b d (placed at))) r) count p pos
   body-start home n front count p e f g h =
       let k : front ≡ at + 2 + 4 * u16At b at = omega (arith, e, f) in
       let c : u16At b (at + 2 + 4 * u16At b at) ≡ count = sym (g ∙ ap (u16At b) k) in
       let m : at + 2 + 4 * u16At b at + 2 ≡ p = omega (arith, h, k) in
-      let i : measured bodyLength bodyEvents (positionOf pos home) (readBody edition1 b d (placed at)) ≡ measured (total actionSize) (inEach actionSize actionTrace) (positionOf pos home) (repeat (One b (d - 1)) count (placed p)) = ap (measured bodyLength bodyEvents (positionOf pos home)) (sym whole) ∙ opened .each (positionOf pos home) ∙ ap₂ (λ (i j : ℕ). measured (total actionSize) (inEach actionSize actionTrace) (positionOf pos home) (repeat (One b (d - 1)) i (placed j))) c m in
-      let y = measured-read (total actionSize) (inEach actionSize actionTrace) (positionOf pos home) (repeat (One b (d - 1)) count (placed p)) (sym i ∙ measured-of bodyLength bodyEvents (positionOf pos home) (j .reads)) in
+      let i : measured bodyLength bodyEvents (positionOf pos home) (readBody terms b d (placed at)) ≡ measured (total actionSize) (inEach actionSize actionTrace) (positionOf pos home) (repeat (One terms b (d - 1)) count (placed p)) = ap (measured bodyLength bodyEvents (positionOf pos home)) (sym whole) ∙ opened .each (positionOf pos home) ∙ ap₂ (λ (i j : ℕ). measured (total actionSize) (inEach actionSize actionTrace) (positionOf pos home) (repeat (One terms b (d - 1)) i (placed j))) c m in
+      let y = measured-read (total actionSize) (inEach actionSize actionTrace) (positionOf pos home) (repeat (One terms b (d - 1)) count (placed p)) (sym i ∙ measured-of bodyLength bodyEvents (positionOf pos home) (j .reads)) in
       record {
         rest = λ r v. rw i v;
         judgeable = record {
           roomy = record { bytes = j .roomy .bytes; inside = omega (arith, front-inside, m); room = omega (arith, j .roomy .room, j .roomy .inside, front-inside, m) };
-          table = j .table;
+          slots = j .slots;
+          small = j .small;
           lent = j .lent;
           value = y .0;
           next = j .next;
@@ -203,13 +204,13 @@ unfolding inBodies inEach
 bodies-as [] s = refl
 bodies-as (x ∷ xs) s = ap (λ (l : List Event). bodyEvents x s ++ l) (bodies-as xs (moved (bodyLength x) s))
 
-module _ (b : List ℕ) (d : ℕ) where
+module _ (terms : Terms) (b : List ℕ) (d : ℕ) where
   abbrev pub Inner : (home : BytePosition) (mode : Mode) (tab homes : List ℕ) → (Judged → Type 0) → ℕ → ℕ → BytePosition → Type 0
-  Inner home mode tab homes = Looping (readBody edition1 b d) bodyLength bodyEvents b home mode tab homes (body-onward b d)
+  Inner home mode tab homes = Looping terms (readBody terms b d) bodyLength bodyEvents b home mode tab homes (body-onward terms b d)
 
-  pub bodies-start : (n at : ℕ) (pos home : BytePosition) (mode : Mode) (tab homes : List ℕ) → Judgeable (repeat (readBody edition1 b d) n (placed at)) b at pos mode tab homes
-      → Inner home mode tab homes (λ r. Judging mode tab homes (measured (total bodyLength) inBodies (positionOf pos home) (repeat (readBody edition1 b d) n (placed at))) r) n at pos
-  bodies-start n at pos home mode tab homes j = record { rest = λ r v. rw (same (repeat (readBody edition1 b d) n (placed at))) v; judgeable = j }
+  pub bodies-start : (n at : ℕ) (pos home : BytePosition) (mode : Mode) (tab homes : List ℕ) → Judgeable terms (repeat (readBody terms b d) n (placed at)) b at pos mode tab homes
+      → Inner home mode tab homes (λ r. Judging mode tab homes (measured (total bodyLength) inBodies (positionOf pos home) (repeat (readBody terms b d) n (placed at))) r) n at pos
+  bodies-start n at pos home mode tab homes j = record { rest = λ r v. rw (same (repeat (readBody terms b d) n (placed at))) v; judgeable = j }
     where
       same : (x : Read (List (ActionsOf Text ℕ))) → measured (total bodyLength) inBodies (positionOf pos home) x ≡ measured (total bodyLength) (inEach bodyLength bodyEvents) (positionOf pos home) x
       same (got xs q) = unfold measured in ap (λ (l : List Event). got (measure (pos .0 + total bodyLength xs) (branches l)) q) (bodies-as xs (positionOf pos home))
@@ -234,30 +235,30 @@ one-byte (branch k l) pos e = absurd (omega (arith, e))
 one-byte (owner o x) pos e = absurd (omega (arith, e))
 one-byte (Try x c f) pos e = absurd (omega (arith, e))
 
-module _ (b : List ℕ) (d at : ℕ) (pos : BytePosition) (mode : Mode) (tab homes : List ℕ) (j : Judgeable (readAction edition1 b (readBody edition1 b d) (placed at)) b at pos mode tab homes) where
+module _ (terms : Terms) (b : List ℕ) (d at : ℕ) (pos : BytePosition) (mode : Mode) (tab homes : List ℕ) (j : Judgeable terms (readAction terms b (readBody terms b d) (placed at)) b at pos mode tab homes) where
   abbrev Goal : BytePosition → Judged → Type 0
-  Goal home r = Judging mode tab homes (measured actionSize actionTrace (positionOf pos home) (readAction edition1 b (readBody edition1 b d) (placed at))) r
+  Goal home r = Judging mode tab homes (measured actionSize actionTrace (positionOf pos home) (readAction terms b (readBody terms b d) (placed at))) r
 
   pub opcode-inside : at < length b
   opcode-inside = go (ltb at (length b)) refl
     where
       go : (t : Bool) → ltb at (length b) ≡ t → at < length b
       go true e = ltb-true at (length b) e
-      go false e = no-reading (action-out b d at (ltb-false at (length b) e)) (j .reads)
+      go false e = no-reading (action-out terms b d at (ltb-false at (length b) e)) (j .reads)
 
   module _ (home : BytePosition) where
     abbrev here : Position
     here = positionOf pos home
 
     -- nothing else was read
-    no-fault : {X : Type 0} (s : State) {f : Fault} {p : ℕ} → outcome actionSize actionTrace here s (readAction edition1 b (readBody edition1 b d) (placed at)) ≡ fault f p → X
+    no-fault : {X : Type 0} (s : State) {f : Fault} {p : ℕ} → outcome actionSize actionTrace here s (readAction terms b (readBody terms b d) (placed at)) ≡ fault f p → X
     unfolding outcome
     no-fault s e =
         let y = rw (j .reads) at e in
         let z : _≡_ {A = ℕ} 0 1 = cc in
         absurd (omega arith)
 
-    is-passed : {q : ℕ} {w : BytePosition} → measured actionSize actionTrace here (readAction edition1 b (readBody edition1 b d) (placed at)) ≡ got (measure (w .0) []) (placed q) → Goal home (code.Ends q w)
+    is-passed : {q : ℕ} {w : BytePosition} → measured actionSize actionTrace here (readAction terms b (readBody terms b d) (placed at)) ≡ got (measure (w .0) []) (placed q) → Goal home (code.Ends q w)
     unfolding firstRefused
     is-passed {q = q} {w = w} e = rw e (passed {m = measure (w .0) []} {q = placed q} {w = w} refl refl)
 
@@ -266,32 +267,32 @@ module _ (b : List ℕ) (d at : ℕ) (pos : BytePosition) (mode : Mode) (tab hom
       where
         go : (t : Bool) → listed (getD b at 0) ≡ t → Goal home (code.Ends (at + 1) (record { 0 = pos .0 + 1 }))
         go true e =
-            let o = outcome-is actionSize actionTrace here (state (tables [] []) []) (readAction edition1 b (readBody edition1 b d) (placed at)) (ran-is (did-small b d at pos home (tables [] []) [] opcode-inside h e) refl) in
+            let o = outcome-is actionSize actionTrace here (state (tables [] []) []) (readAction terms b (readBody terms b d) (placed at)) (ran-is (did-small terms b d at pos home (tables [] []) [] opcode-inside h e) refl) in
             is-passed {q = at + 1} {w = record { 0 = pos .0 + 1 }} (measured-of actionSize actionTrace here (o .1) ∙ ap₂ (λ (n : ℕ) (l : List Event). got (measure n l) (placed (at + 1))) (sym (o .2)) (one-byte (o .0) here (omega (arith, o .2))))
-        go false e = no-fault _ (ran-bad (did-unknown b d at pos home (tables [] []) [] opcode-inside e) refl)
+        go false e = no-fault _ (ran-bad (did-unknown terms b d at pos home (tables [] []) [] opcode-inside e) refl)
 
   module _ (l : Laid) (over over′ : List ℕ)
-      (y : Laying (λ inner. readFieldsIf edition1 b inner (opcodeOf (getD b at 0)) (placed at) (placed (at + 1))) at (length b) (pos .0) over over′ l) where
+      (y : Laying (terms .labelBound) (λ inner. readFieldsIf terms b inner (opcodeOf (getD b at 0)) (placed at) (placed (at + 1))) at (length b) (pos .0) over over′ l) where
     abbrev Here : Laid → Type 0
-    Here l = Laying (λ inner. readFieldsIf edition1 b inner (opcodeOf (getD b at 0)) (placed at) (placed (at + 1))) at (length b) (pos .0) over over′ l
+    Here l = Laying (terms .labelBound) (λ inner. readFieldsIf terms b inner (opcodeOf (getD b at 0)) (placed at) (placed (at + 1))) at (length b) (pos .0) over over′ l
 
-    fields : readAction edition1 b (readBody edition1 b d) (placed at) ≡ readFieldsIf edition1 b (readBody edition1 b d) (opcodeOf (getD b at 0)) (placed at) (placed (at + 1))
-    fields = action-in b d at opcode-inside
+    fields : readAction terms b (readBody terms b d) (placed at) ≡ readFieldsIf terms b (readBody terms b d) (opcodeOf (getD b at 0)) (placed at) (placed (at + 1))
+    fields = action-in terms b d at opcode-inside
 
     pub never-stops : {X : Type 0} (f : Fault) (p : ℕ) → l ≡ laid.Stops f p → X
-    never-stops f p e = no-fault pos _ (ran-bad (did-stops b d at pos pos (tables [] []) over opcode-inside l over′ y f p e) refl)
+    never-stops f p e = no-fault pos _ (ran-bad (did-stops terms b d at pos pos (tables [] []) over opcode-inside l over′ y f p e) refl)
 
     pub flat-passed : (home : BytePosition) (q : ℕ) (w : BytePosition) → l ≡ laid.Flat q w → Goal home (code.Ends q w)
     flat-passed home q w e = go (rw e at y)
       where
         go : Here (laid.Flat q w) → Goal home (code.Ends q w)
-        go (flat g m) = is-passed home (rw fields (m (readBody edition1 b d) (home .0)))
+        go (flat g m) = is-passed home (rw fields (m (readBody terms b d) (home .0)))
 
     -- a branch's label, and where its operand stands
-    pub branch-asks : (q : ℕ) (w : BytePosition) (n : ℕ) → l ≡ laid.Branch q w n → (n < 1024) × (pos .0 + 3 + 2 ≤ 1099511627776)
+    pub branch-asks : (q : ℕ) (w : BytePosition) (n : ℕ) → l ≡ laid.Branch q w n → (n < terms .labelBound) × (pos .0 + 3 + 2 ≤ 1099511627776)
     branch-asks q w n e = go (rw e at y)
       where
-        go : Here (laid.Branch q w n) → (n < 1024) × (pos .0 + 3 + 2 ≤ 1099511627776)
+        go : Here (laid.Branch q w n) → (n < terms .labelBound) × (pos .0 + 3 + 2 ≤ 1099511627776)
         go (to-label i u v g) = (u, omega (arith, i, j .roomy .room, opcode-inside))
 
     pub branch-found : (home : BytePosition) (q : ℕ) (w : BytePosition) (n : ℕ) (r : Judged) → l ≡ laid.Branch q w n → BranchJudged mode tab homes n q (position (pos .0 + 3) (home .0)) r → Goal home r
@@ -303,8 +304,8 @@ module _ (b : List ℕ) (d at : ℕ) (pos : BytePosition) (mode : Mode) (tab hom
         seen : Measure
         seen = measure (pos .0 + 5) (branchAt n operand ∷ [])
 
-        is-seen : (k : _) → readAction edition1 b (readBody edition1 b d) (placed at) ≡ got (branch k n) (placed q)
-            → measured actionSize actionTrace (positionOf pos home) (readAction edition1 b (readBody edition1 b d) (placed at)) ≡ got seen (placed q)
+        is-seen : (k : _) → readAction terms b (readBody terms b d) (placed at) ≡ got (branch k n) (placed q)
+            → measured actionSize actionTrace (positionOf pos home) (readAction terms b (readBody terms b d) (placed at)) ≡ got seen (placed q)
         is-seen k e = measured-of actionSize actionTrace (positionOf pos home) e ∙ (unfold size trace mapAction branches moved in refl)
 
         only : badBy mode (recordIn tab homes) (seen .branching) ≡ judgedIn mode (recordIn tab homes n) operand
@@ -312,24 +313,25 @@ module _ (b : List ℕ) (d at : ℕ) (pos : BytePosition) (mode : Mode) (tab hom
 
         go : {r : Judged} → Here (laid.Branch q w n) → BranchJudged mode tab homes n q operand r → Goal home r
         go (to-label {k = k} i u v g) (BranchJudged.passed {w = x} h m) =
-            rw (is-seen k (fields ∙ g (readBody edition1 b d))) (passed {m = seen} {q = placed q} {w = x} (only ∙ h) (omega (arith, m)))
-        go (to-label {k = k} i u v g) (BranchJudged.refused {bad = x} h) = rw (is-seen k (fields ∙ g (readBody edition1 b d))) (refused {m = seen} {q = placed q} {bad = x} (only ∙ h))
+            rw (is-seen k (fields ∙ g (readBody terms b d))) (passed {m = seen} {q = placed q} {w = x} (only ∙ h) (omega (arith, m)))
+        go (to-label {k = k} i u v g) (BranchJudged.refused {bad = x} h) = rw (is-seen k (fields ∙ g (readBody terms b d))) (refused {m = seen} {q = placed q} {bad = x} (only ∙ h))
 
     -- bodies follow, whose home is made from the action's
     module _ (q : ℕ) (w : BytePosition) (n : ℕ) (inside : ℕ → ℕ)
-        (o : Owning (λ inner. readFieldsIf edition1 b inner (opcodeOf (getD b at 0)) (placed at) (placed (at + 1))) at (length b) (pos .0) over over′ q w n inside) where
+        (o : Owning (λ inner. readFieldsIf terms b inner (opcodeOf (getD b at 0)) (placed at) (placed (at + 1))) at (length b) (pos .0) over over′ q w n inside) where
       abbrev Inside : ℕ → Read Measure
-      Inside home = measured (total bodyLength) inBodies (position (w .0) (inside home)) (repeat (readBody edition1 b d) n (placed q))
+      Inside home = measured (total bodyLength) inBodies (position (w .0) (inside home)) (repeat (readBody terms b d) n (placed q))
 
-      owned-measures : (home : BytePosition) → measured actionSize actionTrace (positionOf pos home) (readAction edition1 b (readBody edition1 b d) (placed at)) ≡ Inside (home .0)
-      owned-measures home = rw fields (o .measures (readBody edition1 b d) (home .0))
+      owned-measures : (home : BytePosition) → measured actionSize actionTrace (positionOf pos home) (readAction terms b (readBody terms b d) (placed at)) ≡ Inside (home .0)
+      owned-measures home = rw fields (o .measures (readBody terms b d) (home .0))
 
-      owned-asks : Judgeable (repeat (readBody edition1 b d) n (placed q)) b q w mode tab homes
+      owned-asks : Judgeable terms (repeat (readBody terms b d) n (placed q)) b q w mode tab homes
       owned-asks =
-          let r = measured-read (total bodyLength) inBodies _ (repeat (readBody edition1 b d) n (placed q)) (sym (owned-measures pos) ∙ measured-of actionSize actionTrace (positionOf pos pos) (j .reads)) in
+          let r = measured-read (total bodyLength) inBodies _ (repeat (readBody terms b d) n (placed q)) (sym (owned-measures pos) ∙ measured-of actionSize actionTrace (positionOf pos pos) (j .reads)) in
           record {
             roomy = owned-place o (j .roomy);
-            table = j .table;
+            slots = j .slots;
+            small = j .small;
             lent = j .lent;
             value = r .0;
             next = j .next;
@@ -339,16 +341,16 @@ module _ (b : List ℕ) (d at : ℕ) (pos : BytePosition) (mode : Mode) (tab hom
       owned-found : (home : BytePosition) (r : Judged) → Judging mode tab homes (Inside (home .0)) r → Goal home r
       owned-found home r k = rw (owned-measures home) k
 
-    pub bodies-asks : (q : ℕ) (w : BytePosition) (n : ℕ) → l ≡ laid.Bodies q w n → Judgeable (repeat (readBody edition1 b d) n (placed q)) b q w mode tab homes
+    pub bodies-asks : (q : ℕ) (w : BytePosition) (n : ℕ) → l ≡ laid.Bodies q w n → Judgeable terms (repeat (readBody terms b d) n (placed q)) b q w mode tab homes
     bodies-asks q w n e = owned-asks q w n _ (did-bodies y e)
 
     pub bodies-found : (home : BytePosition) (q : ℕ) (w : BytePosition) (n : ℕ) (r : Judged) → l ≡ laid.Bodies q w n
-        → Judging mode tab homes (measured (total bodyLength) inBodies (positionOf w home) (repeat (readBody edition1 b d) n (placed q))) r → Goal home r
+        → Judging mode tab homes (measured (total bodyLength) inBodies (positionOf w home) (repeat (readBody terms b d) n (placed q))) r → Goal home r
     bodies-found home q w n r e k = owned-found q w n _ (did-bodies y e) home r k
 
-    pub function-asks : (q : ℕ) (w : BytePosition) → l ≡ laid.Function q w → Judgeable (repeat (readBody edition1 b d) 1 (placed q)) b q w mode tab homes
+    pub function-asks : (q : ℕ) (w : BytePosition) → l ≡ laid.Function q w → Judgeable terms (repeat (readBody terms b d) 1 (placed q)) b q w mode tab homes
     function-asks q w e = owned-asks q w 1 _ (did-function y e)
 
     pub function-found : (home : BytePosition) (q : ℕ) (w : BytePosition) (r : Judged) → l ≡ laid.Function q w
-        → Judging mode tab homes (measured (total bodyLength) inBodies (positionOf w w) (repeat (readBody edition1 b d) 1 (placed q))) r → Goal home r
+        → Judging mode tab homes (measured (total bodyLength) inBodies (positionOf w w) (repeat (readBody terms b d) 1 (placed q))) r → Goal home r
     function-found home q w r e k = owned-found q w 1 _ (did-function y e) home r k

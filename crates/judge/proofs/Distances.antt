@@ -21,7 +21,7 @@ use Rattle.positions.specs.declared.BytePosition.{BytePosition}
 use Rattle.judge.specs.declared.BadBranch.the-variants as branch
 use Rattle.judge.specs.declared.Judged.{Judged}
 use Rattle.judge.specs.declared.Judged.the-variants as code
-use Rattle.judge.specs.Judging.{refusalOf, Table, BranchJudged}
+use Rattle.judge.specs.Judging.{refusalOf, Small, BranchJudged}
 
 -- a distance between two positions is what an i64 can hold
 signed-sub : (to after : ℕ) → to < 9223372036854775808 → after < 9223372036854775808 → signed64 (bits64 (subℕ to after)) ≡ subℕ to after
@@ -89,18 +89,18 @@ module _ (mode : Mode) (tab homes : List ℕ) (label next : ℕ) (operand home :
     branch-stray f = BranchJudged.refused {bad = branch.StrayBranch operand} (rw (is-barred, f))
 
     -- ---- a branch that it takes, by its distance's bits
-    module _ (f : stray ≡ false) (bits : ℕ) (far : Bool) (t : Table tab) (h : operand .0 + 2 ≤ 1099511627776)
+    module _ (f : stray ≡ false) (bits : ℕ) (far : Bool) (small : Small tab) (h : operand .0 + 2 ≤ 1099511627776)
         (k : bits ≡ bits64 (distance (recordAt tab label) (operand .0 + 2))) (l : far ≡ isFar bits) where
       is-judged : judgedIn mode o (positionOf operand home) ≡ farUnless (not far) (distance (recordAt tab label) (operand .0 + 2))
       unfolding judgedIn orElse refusalIf
       is-judged =
           rw (is-barred, f) (homed-judged (getD homes label 0) (recordAt tab label) (operand .0 + 2)
-          ∙ judged-by (getD tab label 0) (operand .0 + 2) (omega (arith, t .small label)) (omega (arith, h)) l k)
+          ∙ judged-by (getD tab label 0) (operand .0 + 2) (omega (arith, small label)) (omega (arith, h)) l k)
 
       pub branch-far : far ≡ true → Goal (code.Refused (branch.Far bits))
       unfolding farUnless refusalOf
       branch-far g =
-          let s : signed64 bits ≡ distance (recordAt tab label) (operand .0 + 2) = ap signed64 k ∙ signed-distance (getD tab label 0) (operand .0 + 2) (omega (arith, t .small label)) (omega (arith, h)) in
+          let s : signed64 bits ≡ distance (recordAt tab label) (operand .0 + 2) = ap signed64 k ∙ signed-distance (getD tab label 0) (operand .0 + 2) (omega (arith, small label)) (omega (arith, h)) in
           BranchJudged.refused {bad = branch.Far bits} (is-judged ∙ rw (g, s))
 
       pub branch-near : far ≡ false → Goal (code.Ends next (record { 0 = operand .0 + 2 }))

@@ -4,7 +4,7 @@ use Prim.Native.Nat.{ℕ, _+_, _-_, _≤_, _<_}
 use native.Mathlib.Omega.{arith}
 use mathlib.Core.Option.{none, some}
 use mathlib.Core.List.{List, [], _∷_, _++_}
-use Rattle.layout.specs.Read.{Place, placed, Read, got, Reader, repeat}
+use Rattle.layout.specs.Read.{Terms, Place, placed, Read, got, Reader, repeat}
 use Rattle.layout.specs.Read as read
 use Rattle.layout.specs.Write.{Position, position, moved, Event}
 use Rattle.layout.specs.Judge.{Mode, orElse, judgedIn, firstRefused, badBy}
@@ -58,7 +58,7 @@ unfoldable pub inEach : {A : Type 0} → (A → ℕ) → (A → Position → Lis
 inEach size trace [] s = []
 inEach size trace (x ∷ xs) s = trace x s ++ inEach size trace xs (moved (size x) s)
 
-module _ {A : Type 0} (one : Reader A) (size : A → ℕ) (trace : A → Position → List Event) (b : List ℕ) (home : BytePosition) (mode : Mode) (tab homes : List ℕ)
+module _ {A : Type 0} (terms : Terms) (one : Reader A) (size : A → ℕ) (trace : A → Position → List Event) (b : List ℕ) (home : BytePosition) (mode : Mode) (tab homes : List ℕ)
     (onward : (p : ℕ) (w x : BytePosition) (a : A) (q : Place) → Roomy b p w → one (placed p) ≡ got a q → x .0 ≡ w .0 + size a → Roomy b (q .at) x) where
   abbrev pub Each : ℕ → ℕ → BytePosition → Read Measure
   Each n p w = measured (total size) (inEach size trace) (positionOf w home) (repeat one n (placed p))
@@ -66,7 +66,7 @@ module _ {A : Type 0} (one : Reader A) (size : A → ℕ) (trace : A → Positio
   -- the loop: `left` of them are left, and what is found in those is what is found in all
   pub record Looping (goal : Judged → Type 0) (left p : ℕ) (w : BytePosition) : Type 0 where
     pub rest : (r : Judged) → Judging mode tab homes (Each left p w) r → goal r
-    pub judgeable : Judgeable (repeat one left (placed p)) b p w mode tab homes
+    pub judgeable : Judgeable terms (repeat one left (placed p)) b p w mode tab homes
 
   -- the first of those left, and the others
   record First (left p : ℕ) : Type 0 where
@@ -106,8 +106,8 @@ module _ {A : Type 0} (one : Reader A) (size : A → ℕ) (trace : A → Positio
       next : First left p
       next = split left p h (g .judgeable .value) (g .judgeable .next) (g .judgeable .reads)
 
-      pub loop-one : Judgeable (one (placed p)) b p w mode tab homes
-      loop-one = record { roomy = g .judgeable .roomy; table = g .judgeable .table; lent = g .judgeable .lent; value = next .first; next = next .place; reads = next .is-first }
+      pub loop-one : Judgeable terms (one (placed p)) b p w mode tab homes
+      loop-one = record { roomy = g .judgeable .roomy; slots = g .judgeable .slots; small = g .judgeable .small; lent = g .judgeable .lent; value = next .first; next = next .place; reads = next .is-first }
 
       module _ (r : Judged) (j : Judging mode tab homes (measured size trace (positionOf w home) (one (placed p))) r) where
         here : Judging mode tab homes (got (measure (w .0 + size (next .first)) (branches (trace (next .first) (positionOf w home)))) (next .place)) r
@@ -145,7 +145,8 @@ module _ {A : Type 0} (one : Reader A) (size : A → ℕ) (trace : A → Positio
               rest = λ r k. g .rest r (again r q x (f .is-passed) (f .is-end) i k);
               judgeable = record {
                 roomy = rw (f .is-next) (onward p w x (next .first) (next .place) (g .judgeable .roomy) (next .is-first) (f .is-end));
-                table = g .judgeable .table;
+                slots = g .judgeable .slots;
+                small = g .judgeable .small;
                 lent = g .judgeable .lent;
                 value = next .others;
                 next = next .last;

@@ -6,11 +6,11 @@ use native.Mathlib.Omega.{arith}
 use mathlib.Core.Bool.{Bool, true, false, not, _&&_, and-eq-true-iff}
 use mathlib.Core.Option.{Option, none, some}
 use mathlib.Core.List.{List, [], _∷_}
-use lib.ListN.{getD, List·getD-eq-default}
+use lib.ListN.{length, getD, List·getD-eq-default}
 use lib.Dec.{leb, ltb}
 use borrow.Author.Tests.{ltb-true, ltb-false, leb-true, le-leb, not-true}
 use Rattle.layout.specs.Tree.{Actions}
-use Rattle.layout.specs.Read.{edition1, placed, got, readBody}
+use Rattle.layout.specs.Read.{Terms, placed, got, readBody}
 use Rattle.layout.specs.Write.{bodySize, Position, blockStart, Event, labelAt, branchAt, payloadTooLong, bodyTooLong, traceBody, events, lookup}
 use Rattle.layout.specs.Judge.{distance, isNear, farUnless, judged, orElse, Mode, plainMode, refusalIf, barred, judgedIn, firstRefused, tooFar, badBy, badBranch}
 use Rattle.layout.specs.Answers.{Refusal}
@@ -68,17 +68,17 @@ only-branches rule final (payloadTooLong n s ∷ es) = only-branches rule final 
 only-branches rule final (bodyTooLong n s ∷ es) = only-branches rule final es
 
 -- every slot of a table that holds such events is small
-slots-small : (end : ℕ) (tab : List ℕ) (es : List Event) → end ≤ 1099511627776 → TableHolds 1024 tab es → AllWithin end es → (l : ℕ) → getD tab l 0 ≤ 1099511627777
-slots-small end tab es m h k l = go (ltb l 1024) refl
+slots-small : (end : ℕ) (tab : List ℕ) (es : List Event) → end ≤ 1099511627776 → TableHolds tab es → AllWithin end es → (l : ℕ) → getD tab l 0 ≤ 1099511627777
+slots-small end tab es m h k l = go (ltb l (length tab)) refl
   where
     slot-within : (o : Option Position) → Recorded end o → kept slotOf o ≤ end + 1
     slot-within none h = unfold kept in omega arith
     slot-within (some s) h = unfold kept in omega (arith, h)
 
-    go : (t : Bool) → ltb l 1024 ≡ t → getD tab l 0 ≤ 1099511627777
-    go true e = omega (arith, m, h .holds l (ltb-true l 1024 e), slot-within (lookup l es) (lookup-within end l es k))
+    go : (t : Bool) → ltb l (length tab) ≡ t → getD tab l 0 ≤ 1099511627777
+    go true e = omega (arith, m, h .holds l (ltb-true l (length tab) e), slot-within (lookup l es) (lookup-within end l es k))
     go false e =
-        let z : getD tab l 0 ≡ 0 = List·getD-eq-default tab 0 (omega (arith, ltb-false l 1024 e, h .slots)) in
+        let z : getD tab l 0 ≡ 0 = List·getD-eq-default tab 0 (ltb-false l (length tab) e) in
         omega (arith, z)
 
 -- a mode that is not contained does not ask for a record's home
@@ -89,45 +89,46 @@ unhomed mode e home (some r) s = rw e
 
 -- ---- a main body
 
-module _ (b : List ℕ) (end : BytePosition) (mode : Mode) (tab homes : List ℕ) (g : MainJudgeable b end mode tab homes) where
-  abbrev m : MainMeasured b end tab
+module _ (terms : Terms) (b : List ℕ) (end : BytePosition) (mode : Mode) (tab homes : List ℕ) (g : MainJudgeable terms b end mode tab homes) where
+  abbrev m : MainMeasured terms b end tab
   m = g .measured
 
   abbrev all : List Event
   all = events (m .tree)
 
-  is-body : readBody edition1 b 16 (placed 0) ≡ got (m .reads .read) (m .reads .next)
-  is-body = main-body b (m .reads .read) (m .reads .next) (m .reads .is-read)
+  is-body : readBody terms b 16 (placed 0) ≡ got (m .reads .read) (m .reads .next)
+  is-body = main-body terms b (m .reads .read) (m .reads .next) (m .reads .is-read)
 
   within : AllWithin (end .0) all
   unfolding events
   within = body-within (end .0) (m .tree) blockStart (omega (arith, m .is-end))
 
-  under : BranchesUnder 1024 all
+  under : BranchesUnder (terms .labelBound) all
   unfolding events
-  under = labels.body-under 1024 (m .tree) blockStart (subst (UnderBody 1024) (m .reads .is-tree) (given (body-under b 16 (placed 0)) is-body))
+  under = labels.body-under (terms .labelBound) (m .tree) blockStart (subst (UnderBody (terms .labelBound)) (m .reads .is-tree) (given (body-under terms b 16 (placed 0)) is-body))
 
   -- it is written in at most three bytes for each byte read
   end-small : end .0 ≤ 1099511627776
   end-small =
-      let g = good-got (m .reads .read) (m .reads .next) (body-good edition1 b (m .bytes) spelling (Unit {0}) (spells b (m .bytes) edition1) 16 (placed 0) (omega arith)) is-body in
+      let g = good-got (m .reads .read) (m .reads .next) (body-good terms b (m .bytes) spelling (Unit {0}) (spells b (m .bytes) terms) 16 (placed 0) (omega arith)) is-body in
       omega (arith, m .is-end, ap bodySize (m .reads .is-tree), g .0 .1 tt, g .1, m .limited)
 
-  pub main-asks : Judgeable (readBody edition1 b 16 (placed 0)) b 0 (record { 0 = 0 }) mode tab homes
+  pub main-asks : Judgeable terms (readBody terms b 16 (placed 0)) b 0 (record { 0 = 0 }) mode tab homes
   main-asks = record {
     roomy = record { bytes = m .bytes; inside = omega arith; room = omega (arith, m .limited) };
-    table = record { slots = m .holds .slots; small = slots-small (end .0) tab all end-small (m .holds) within };
+    slots = m .slots;
+    small = slots-small (end .0) tab all end-small (m .holds) within;
     lent = g .lent;
     value = m .reads .read;
     next = m .reads .next;
     reads = is-body;
   }
 
-  judged-main : (r : Verdict) → Says (badBranch mode all all) r → MainJudged mode b r
-  judged-main r s = record { says = λ t h. subst (λ (u : Actions). Says (badBranch mode (events u) (events u)) r) (same-tree b (m .tree) t (m .reads) h) s }
+  judged-main : (r : Verdict) → Says (badBranch mode all all) r → MainJudged terms mode b r
+  judged-main r s = record { says = λ t h. subst (λ (u : Actions). Says (badBranch mode (events u) (events u)) r) (same-tree terms b (m .tree) t (m .reads) h) s }
 
   -- In plain mode only a distance is refused.
-  pub main-clear : (clear : Bool) → clear ≡ (not (mode .strict) && (not (mode .contained) && leb (end .0) 32768)) → clear ≡ true → MainJudged mode b verdict.Passed
+  pub main-clear : (clear : Bool) → clear ≡ (not (mode .strict) && (not (mode .contained) && leb (end .0) 32768)) → clear ≡ true → MainJudged terms mode b verdict.Passed
   main-clear clear e f =
       let k = and-eq-true-iff (not (mode .strict)) (not (mode .contained) && leb (end .0) 32768) .0 (sym e ∙ f) in
       let i = and-eq-true-iff (not (mode .contained)) (leb (end .0) 32768) .0 (k .1) in
@@ -135,26 +136,26 @@ module _ (b : List ℕ) (end : BytePosition) (mode : Mode) (tab homes : List ℕ
       let n = none-far-short (end .0) all all within within (leb-true (end .0) 32768 (i .1)) in
       judged-main verdict.Passed (rw (ap (λ (x : Mode). badBranch x all all) p ∙ plain-far (λ l. lookup l all) all ∙ n) Says.passed)
 
-  branch-same : (l : ℕ) (s : Position) → l < 1024 → judgedIn mode (recordIn tab homes l) s ≡ judgedIn mode (lookup l all) s
+  branch-same : (l : ℕ) (s : Position) → l < terms .labelBound → judgedIn mode (recordIn tab homes l) s ≡ judgedIn mode (lookup l all) s
   branch-same l s h = go (mode .contained) refl
     where
       go : (t : Bool) → mode .contained ≡ t → judgedIn mode (recordIn tab homes l) s ≡ judgedIn mode (lookup l all) s
-      go true e = ap (λ o. judgedIn mode o s) (both-record 1024 tab homes all (m .holds) (g .holds) l h (omega (arith, g .lent e)))
-      go false e = ap (λ o. judgedIn mode (homed (getD homes l 0) o) s) (table-record 1024 tab all (m .holds) l h) ∙ unhomed mode e (getD homes l 0) (lookup l all) s
+      go true e = ap (λ o. judgedIn mode o s) (both-record tab homes all (m .holds) (g .holds) l (omega (arith, h, m .slots)) (omega (arith, h, g .lent e)))
+      go false e = ap (λ o. judgedIn mode (homed (getD homes l 0) o) s) (table-record tab all (m .holds) l (omega (arith, h, m .slots))) ∙ unhomed mode e (getD homes l 0) (lookup l all) s
 
   by-tables : badBy mode (recordIn tab homes) (branches (bodyEvents (m .reads .read) blockStart)) ≡ badBranch mode all all
   by-tables =
       only-branches (judgedIn mode) (recordIn tab homes) (bodyEvents (m .reads .read) blockStart)
       ∙ ap (λ (t : Actions). badBy mode (recordIn tab homes) (traceBody t blockStart)) (m .reads .is-tree)
-      ∙ (unfold events in refused-same (judgedIn mode) (judgedIn mode) (recordIn tab homes) (λ l. lookup l all) all (each-then (λ l s. l < 1024) _ branch-same all under))
+      ∙ (unfold events in refused-same (judgedIn mode) (judgedIn mode) (recordIn tab homes) (λ l. lookup l all) all (each-then (λ l s. l < terms .labelBound) _ branch-same all under))
 
-  module _ (r : Judged) (j : Judging mode tab homes (measured bodyLength bodyEvents blockStart (readBody edition1 b 16 (placed 0))) r) where
+  module _ (r : Judged) (j : Judging mode tab homes (measured bodyLength bodyEvents blockStart (readBody terms b 16 (placed 0))) r) where
     here : Judging mode tab homes (got (measure (0 + bodyLength (m .reads .read)) (branches (bodyEvents (m .reads .read) blockStart))) (m .reads .next)) r
     unfolding measured
     here = rw is-body at j
 
-    pub main-passed : (q : ℕ) (w : BytePosition) → r ≡ code.Ends q w → MainJudged mode b verdict.Passed
+    pub main-passed : (q : ℕ) (w : BytePosition) → r ≡ code.Ends q w → MainJudged terms mode b verdict.Passed
     main-passed q w e = judged-main verdict.Passed (rw (sym by-tables ∙ found here e .is-passed) Says.passed)
 
-    pub main-bad : (bad : BadBranch) → r ≡ code.Refused bad → MainJudged mode b (verdict.Refused bad)
+    pub main-bad : (bad : BadBranch) → r ≡ code.Refused bad → MainJudged terms mode b (verdict.Refused bad)
     main-bad bad e = judged-main (verdict.Refused bad) (rw (sym by-tables ∙ found-bad here e) (Says.refused {bad = bad}))

@@ -9,7 +9,7 @@ use lib.ListN.{length, getD}
 use Rattle.layout.specs.Answers.{Refusal, JumpOffsetOverflow, NeverRecorded, StrayBranch}
 use Rattle.layout.specs.Order.{signed64}
 use Rattle.layout.specs.Tree.{Actions}
-use Rattle.layout.specs.Read.{Place, Read, got}
+use Rattle.layout.specs.Read.{Terms, Place, Read, got}
 use Rattle.layout.specs.Write.{Position, events}
 use Rattle.layout.specs.Judge.{Mode, judgedIn, badBy, badBranch}
 use Rattle.laws.specs.Packed.{ReadsMain}
@@ -39,25 +39,25 @@ refusalOf (branch.StrayBranch w) = StrayBranch (w .0)
 
 -- ---- by the tables
 
--- a slot for each label, and every position far from overflow
-pub record Table (tab : List ℕ) : Type 0 where
-  pub slots : length tab ≡ 1024
-  pub small : (l : ℕ) → getD tab l 0 ≤ 1099511627777
+-- every position in a table is far from overflow
+abbrev pub Small : List ℕ → Type 0
+Small tab = (l : ℕ) → getD tab l 0 ≤ 1099511627777
 
--- where the mode is contained, a home for each label
-abbrev pub HomesLent : Mode → List ℕ → Type 0
-HomesLent mode homes = mode .contained ≡ true → length homes ≡ 1024
+-- where the mode is contained, a home for each label that the terms allow
+abbrev pub HomesLent : Terms → Mode → List ℕ → Type 0
+HomesLent terms mode homes = mode .contained ≡ true → terms .labelBound ≤ length homes
 
 -- one branch to a label, whose operand stands at a position and ends at a place
 pub data BranchJudged (mode : Mode) (tab homes : List ℕ) (label next : ℕ) (operand : Position) : Judged → Type 0 where
   passed : {w : BytePosition} → judgedIn mode (recordIn tab homes label) operand ≡ none → w .0 ≡ operand .at + 2 → BranchJudged mode tab homes label next operand (code.Ends next w)
   refused : {bad : BadBranch} → judgedIn mode (recordIn tab homes label) operand ≡ some (refusalOf bad) → BranchJudged mode tab homes label next operand (code.Refused bad)
 
--- what is asked of a place and a position: that something reads there
-pub record Judgeable {A : Type 0} (read : Read A) (b : List ℕ) (at : ℕ) (pos : BytePosition) (mode : Mode) (tab homes : List ℕ) : Type 0 where
+-- what is asked of a place and a position: that something reads there, with a slot for each label that the terms allow
+pub record Judgeable {A : Type 0} (terms : Terms) (read : Read A) (b : List ℕ) (at : ℕ) (pos : BytePosition) (mode : Mode) (tab homes : List ℕ) : Type 0 where
   pub roomy : Roomy b at pos
-  pub table : Table tab
-  pub lent : HomesLent mode homes
+  pub slots : terms .labelBound ≤ length tab
+  pub small : Small tab
+  pub lent : HomesLent terms mode homes
   pub value : A
   pub next : Place
   pub reads : read ≡ got value next
@@ -70,10 +70,10 @@ pub data Judging (mode : Mode) (tab homes : List ℕ) : Read Measure → Judged 
 -- ---- a whole main body
 
 -- what is asked of it: its label tables
-pub record MainJudgeable (b : List ℕ) (end : BytePosition) (mode : Mode) (tab homes : List ℕ) : Type 0 where
-  pub measured : MainMeasured b end tab
+pub record MainJudgeable (terms : Terms) (b : List ℕ) (end : BytePosition) (mode : Mode) (tab homes : List ℕ) : Type 0 where
+  pub measured : MainMeasured terms b end tab
   pub holds : HomesHold homes (events (measured .tree))
-  pub lent : HomesLent mode homes
+  pub lent : HomesLent terms mode homes
 
 -- what the verdict says: no branch is refused, or the refusal
 pub data Says : Option Refusal → Verdict → Type 0 where
@@ -81,5 +81,5 @@ pub data Says : Option Refusal → Verdict → Type 0 where
   refused : {bad : BadBranch} → Says (some (refusalOf bad)) (verdict.Refused bad)
 
 -- for whatever tree it is found to read as
-pub record MainJudged (mode : Mode) (b : List ℕ) (r : Verdict) : Type 0 where
-  pub says : (t : Actions) → ReadsMain b t → Says (badBranch mode (events t) (events t)) r
+pub record MainJudged (terms : Terms) (mode : Mode) (b : List ℕ) (r : Verdict) : Type 0 where
+  pub says : (t : Actions) → ReadsMain terms b t → Says (badBranch mode (events t) (events t)) r

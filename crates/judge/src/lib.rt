@@ -5,12 +5,14 @@ ghost use mathlib.Core.Bool.{true, _&&_, not};
 ghost use Prim.Native.Nat.{_+_, _≤_, _<_};
 ghost use lib.Dec.{leb};
 ghost use lib.ListN.{length};
-ghost use Rattle.layout.specs.Read.{edition1, placed, readAction, readBody, repeat};
+ghost use Rattle.layout.specs.Read.{placed, readAction, readBody, repeat};
 ghost use Rattle.layout.specs.Lengths.{total};
 ghost use Rattle.laws.specs.Resolved.{actionSize, actionTrace, bodyLength, bodyEvents};
 ghost use Rattle.measure.specs.Walk.{measured, inBodies};
-ghost use Rattle.judge.specs.Judging.{modeOf, Table, HomesLent, Judgeable, Judging, BranchJudged, MainJudgeable, MainJudged};
+ghost use Rattle.editions.specs.Allowed.{termsOf};
+ghost use Rattle.judge.specs.Judging.{modeOf, Small, Judgeable, Judging, BranchJudged, MainJudgeable, MainJudged};
 ghost use Rattle.labels.specs.Table.{isRecorded, isAtHome, recordAt, recordIn, positionOf};
+use editions::Terms;
 use fields::u16_at;
 use labels::distance;
 use labels::is_at_home;
@@ -80,7 +82,7 @@ fn judge_branch(
     tab: &[usize],
     homes: &[usize],
 ) -> Judged
-    requires { ⌜ Table (now tab) × HomesLent (modeOf mode) (now homes) × (label < 1024) × (operand .0 + 2 ≤ 1099511627776) ⌝ }
+    requires { ⌜ (label < length (now tab)) × (mode .contained ≡ true → label < length (now homes)) × Small (now tab) × (operand .0 + 2 ≤ 1099511627776) ⌝ }
     ensures { λ r. ⌜ BranchJudged (modeOf mode) (now (tab .entry)) (now (homes .entry)) label next (positionOf operand home) r ⌝ }
 {
     if is_unrecorded(mode, label, tab) {
@@ -100,6 +102,7 @@ fn judge_branch(
 // A body with `depth` levels allowed, itself included. Its label entries are stepped over.
 fn judge_body(
     b: &[u8],
+    terms: Terms,
     at: usize,
     depth: usize,
     pos: BytePosition,
@@ -108,15 +111,15 @@ fn judge_body(
     tab: &[usize],
     homes: &[usize],
 ) -> Judged
-    requires { ⌜ Judgeable (readBody edition1 (now b) depth (placed at)) (now b) at pos (modeOf mode) (now tab) (now homes) ⌝ }
-    ensures { λ r. ⌜ Judging (modeOf mode) (now (tab .entry)) (now (homes .entry)) (measured bodyLength bodyEvents (positionOf pos home) (readBody edition1 (now (b .entry)) depth (placed at))) r ⌝ }
+    requires { ⌜ Judgeable (termsOf terms) (readBody (termsOf terms) (now b) depth (placed at)) (now b) at pos (modeOf mode) (now tab) (now homes) ⌝ }
+    ensures { λ r. ⌜ Judging (modeOf mode) (now (tab .entry)) (now (homes .entry)) (measured bodyLength bodyEvents (positionOf pos home) (readBody (termsOf terms) (now (b .entry)) depth (placed at))) r ⌝ }
 {
     let front = at + 2 + 4 * u16_at(b, at);
     let mut left = u16_at(b, front);
     let mut p = front + 2;
     let mut w = pos;
     while 0 < left {
-        match judge_action(b, p, depth - 1, w, home, mode, tab, homes) {
+        match judge_action(b, terms, p, depth - 1, w, home, mode, tab, homes) {
             Judged::Refused(bad) => {
                 return Judged::Refused(bad);
             }
@@ -133,6 +136,7 @@ fn judge_body(
 // The n bodies after a payload.
 fn judge_bodies(
     b: &[u8],
+    terms: Terms,
     at: usize,
     depth: usize,
     pos: BytePosition,
@@ -142,14 +146,14 @@ fn judge_bodies(
     tab: &[usize],
     homes: &[usize],
 ) -> Judged
-    requires { ⌜ Judgeable (repeat (readBody edition1 (now b) depth) n (placed at)) (now b) at pos (modeOf mode) (now tab) (now homes) ⌝ }
-    ensures { λ r. ⌜ Judging (modeOf mode) (now (tab .entry)) (now (homes .entry)) (measured (total bodyLength) inBodies (positionOf pos home) (repeat (readBody edition1 (now (b .entry)) depth) n (placed at))) r ⌝ }
+    requires { ⌜ Judgeable (termsOf terms) (repeat (readBody (termsOf terms) (now b) depth) n (placed at)) (now b) at pos (modeOf mode) (now tab) (now homes) ⌝ }
+    ensures { λ r. ⌜ Judging (modeOf mode) (now (tab .entry)) (now (homes .entry)) (measured (total bodyLength) inBodies (positionOf pos home) (repeat (readBody (termsOf terms) (now (b .entry)) depth) n (placed at))) r ⌝ }
 {
     let mut left = n;
     let mut p = at;
     let mut w = pos;
     while 0 < left {
-        match judge_body(b, p, depth, w, home, mode, tab, homes) {
+        match judge_body(b, terms, p, depth, w, home, mode, tab, homes) {
             Judged::Refused(bad) => {
                 return Judged::Refused(bad);
             }
@@ -167,6 +171,7 @@ fn judge_bodies(
 // length was known before.
 fn judge_action(
     b: &[u8],
+    terms: Terms,
     at: usize,
     depth: usize,
     pos: BytePosition,
@@ -175,8 +180,8 @@ fn judge_action(
     tab: &[usize],
     homes: &[usize],
 ) -> Judged
-    requires { ⌜ Judgeable (readAction edition1 (now b) (readBody edition1 (now b) depth) (placed at)) (now b) at pos (modeOf mode) (now tab) (now homes) ⌝ }
-    ensures { λ r. ⌜ Judging (modeOf mode) (now (tab .entry)) (now (homes .entry)) (measured actionSize actionTrace (positionOf pos home) (readAction edition1 (now (b .entry)) (readBody edition1 (now (b .entry)) depth) (placed at))) r ⌝ }
+    requires { ⌜ Judgeable (termsOf terms) (readAction (termsOf terms) (now b) (readBody (termsOf terms) (now b) depth) (placed at)) (now b) at pos (modeOf mode) (now tab) (now homes) ⌝ }
+    ensures { λ r. ⌜ Judging (modeOf mode) (now (tab .entry)) (now (homes .entry)) (measured actionSize actionTrace (positionOf pos home) (readAction (termsOf terms) (now (b .entry)) (readBody (termsOf terms) (now (b .entry)) depth) (placed at))) r ⌝ }
 {
     let op = b[at];
     if op < 0x80 {
@@ -185,15 +190,15 @@ fn judge_action(
         return Judged::Ends(next, BytePosition(after));
     }
     let mut over = [0; 2];
-    match scan_payload(b, op, at, pos, &mut over) {
+    match scan_payload(b, terms, op, at, pos, &mut over) {
         Laid::Stops(_, p) => Judged::Ends(p, pos),
         Laid::Flat(p, w) => Judged::Ends(p, w),
         Laid::Branch(p, _, label) => {
             let operand = pos.0 + OpCode::HEADER_LEN;
             judge_branch(label, p, BytePosition(operand), home, mode, tab, homes)
         }
-        Laid::Bodies(p, w, n) => judge_bodies(b, p, depth, w, home, n, mode, tab, homes),
-        Laid::Function(p, w) => judge_bodies(b, p, depth, w, w, 1, mode, tab, homes),
+        Laid::Bodies(p, w, n) => judge_bodies(b, terms, p, depth, w, home, n, mode, tab, homes),
+        Laid::Function(p, w) => judge_bodies(b, terms, p, depth, w, w, 1, mode, tab, homes),
     }
 }
 
@@ -214,18 +219,29 @@ fn is_clear(mode: Mode, end: BytePosition) -> bool
 // A main body that is written as far as position `end`.
 pub fn judge_main(
     b: &[u8],
+    terms: Terms,
     end: BytePosition,
     mode: Mode,
     tab: &[usize],
     homes: &[usize],
 ) -> Verdict
-    requires { ⌜ MainJudgeable (now b) end (modeOf mode) (now tab) (now homes) ⌝ }
-    ensures { λ r. ⌜ MainJudged (modeOf mode) (now (b .entry)) r ⌝ }
+    requires { ⌜ MainJudgeable (termsOf terms) (now b) end (modeOf mode) (now tab) (now homes) ⌝ }
+    ensures { λ r. ⌜ MainJudged (termsOf terms) (modeOf mode) (now (b .entry)) r ⌝ }
 {
     if is_clear(mode, end) {
         return Verdict::Passed;
     }
-    match judge_body(b, 0, 16, BytePosition(0), BytePosition(0), mode, tab, homes) {
+    match judge_body(
+        b,
+        terms,
+        0,
+        16,
+        BytePosition(0),
+        BytePosition(0),
+        mode,
+        tab,
+        homes,
+    ) {
         Judged::Refused(bad) => Verdict::Refused(bad),
         Judged::Ends(_, _) => Verdict::Passed,
     }

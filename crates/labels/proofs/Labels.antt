@@ -16,7 +16,7 @@ use Rattle.layout.specs.Read.{Terms, Place, ahead, got, ifWhole, ifWithin, test
 use Rattle.layout.specs.Write.{Position, Event, labelAt, branchAt, payloadTooLong, bodyTooLong, later, recordIf, lookup, distanceBits}
 use Rattle.layout.specs.Judge.{distance, isNear, farUnless, judged}
 use Rattle.laws.specs.ReadFits.{Good, fine, refused, good-then, good-got}
-use Rattle.labels.specs.Table.{slotOf, recordOf, recordAt, homeOf, homed, recordIn, recordAll, Tables, tables, recorded, Cleared, kept, Keeps, TableHolds, HomesHold, isFar, entriesAt, Rising, end, next}
+use Rattle.labels.specs.Table.{slotOf, recordOf, recordAt, homeOf, homed, recordIn, recordAll, Tables, tables, recorded, Cleared, kept, Keeps, TableHolds, HomesHold, Slots, isFar, entriesAt, Rising, end, next}
 use Rattle.labels.proofs.Distances.{far-unless-near}
 
 -- ---- the table
@@ -66,14 +66,20 @@ unfolding recorded
 recorded-append xs ys t = ap₂ tables (recordAll-append slotOf xs ys (t .positions)) (recordAll-append homeOf xs ys (t .homes))
 
 -- a table that held nothing holds what it keeps of each label's last record in the end
-pub keeps : (keep : Position → ℕ) (es : List Event) (tab new : List ℕ) (bound : ℕ) → Cleared tab → bound ≡ length tab → new ≡ recordAll keep es tab → Keeps keep bound new es
+pub keeps : (keep : Position → ℕ) (es : List Event) (tab new : List ℕ) → Cleared tab → new ≡ recordAll keep es tab → Keeps keep new es
 unfolding kept slotAfter
-keeps keep es tab new bound z b e =
-    rw (b, e) (record { slots = length-recordAll keep es tab; holds = λ l h. slot-holds keep l es tab h ∙ go (lookup l es) (z l h) })
+keeps keep es tab new z e = rw e (record { holds = λ l h. held l (rw (← length-recordAll keep es tab) h) })
   where
     go : (o : Option Position) {n : ℕ} → n ≡ 0 → slotAfter keep n o ≡ kept keep o
     go none h = h
     go (some s) h = refl
+
+    held : (l : ℕ) → l < length tab → getD (recordAll keep es tab) l 0 ≡ kept keep (lookup l es)
+    held l h = slot-holds keep l es tab h ∙ go (lookup l es) (z l h)
+
+-- a table has a slot for each label as long as its length is kept
+pub slots-kept : {terms : Terms} {tab new : List ℕ} → Slots terms tab → length new ≡ length tab → Slots terms new
+slots-kept h e = record { few = h .few; enough = omega (arith, h .enough, e) }
 
 -- a slot gives its record back, but for its home
 pub record-of-slot : (o : Option Position) → recordOf (kept slotOf o) ≡ homed 0 o
@@ -82,14 +88,14 @@ record-of-slot none = refl
 record-of-slot (some s) = rw add-one
 
 -- and a table's record of a label is the events', but for its home
-pub table-record : (bound : ℕ) (tab : List ℕ) (es : List Event) → TableHolds bound tab es → (l : ℕ) → l < bound → recordAt tab l ≡ homed 0 (lookup l es)
-table-record bound tab es h l k = ap recordOf (h .holds l k) ∙ record-of-slot (lookup l es)
+pub table-record : (tab : List ℕ) (es : List Event) → TableHolds tab es → (l : ℕ) → l < length tab → recordAt tab l ≡ homed 0 (lookup l es)
+table-record tab es h l k = ap recordOf (h .holds l k) ∙ record-of-slot (lookup l es)
 
 -- with the table of homes it is the events' record
-pub both-record : (bound : ℕ) (tab homes : List ℕ) (es : List Event) → TableHolds bound tab es → HomesHold homes es → (l : ℕ) → l < bound → l < length homes
+pub both-record : (tab homes : List ℕ) (es : List Event) → TableHolds tab es → HomesHold homes es → (l : ℕ) → l < length tab → l < length homes
     → recordIn tab homes l ≡ lookup l es
 unfolding homed kept
-both-record bound tab homes es h g l k m = ap (homed (getD homes l 0)) (table-record bound tab es h l k) ∙ go (lookup l es) refl
+both-record tab homes es h g l k m = ap (homed (getD homes l 0)) (table-record tab es h l k) ∙ go (lookup l es) refl
   where
     go : (o : Option Position) → lookup l es ≡ o → homed (getD homes l 0) (homed 0 o) ≡ o
     go none e = refl

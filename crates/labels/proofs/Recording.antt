@@ -233,7 +233,7 @@ module _ {es : List Entry} {first : ℕ} {i : ActionIndex} {s : Position} {old :
         high = omega arith;
         most = omega (arith, h .index-fits);
         is-due = h .is-due;
-        to-do = ap (λ xs. recorded xs old) (left-all (h .slots) i s es (h .rising));
+        to-do = ap (λ xs. recorded xs old) (left-all (h .slots .few) i s es (h .rising));
         full = refl;
         homes-full = refl;
       }
@@ -245,7 +245,7 @@ module _ {es : List Entry} {first : ℕ} {i : ActionIndex} {s : Position} {old :
 
     -- the label of what is due has a slot
     pub within : (n ≡ noneLeft → ⊥) → n % 65536 < length (now .positions)
-    within h = omega (arith, at .full, due-label (at .ready .slots) es (at .from) (at .ready .rising) (at .is-due) (some-due h))
+    within h = omega (arith, at .full, at .ready .slots .enough, due-label (at .ready .slots .few) es (at .from) (at .ready .rising) (at .is-due) (some-due h))
 
     -- what is due after it is greater
     pub rises : {m : ℕ} → (n ≡ noneLeft → ⊥) → m ≡ due es (n + 1) → n < m
@@ -257,7 +257,7 @@ module _ {es : List Entry} {first : ℕ} {i : ActionIndex} {s : Position} {old :
     unfolding recorded recordAll
     more e h d =
         let k : n < noneLeft = some-due h in
-        let first-left = left-due (at .ready .slots) i s es (at .from) n (at .ready .rising) (at .most) (at .is-due) k e in
+        let first-left = left-due (at .ready .slots .few) i s es (at .from) n (at .ready .rising) (at .most) (at .is-due) k e in
         record {
           ready = at .ready;
           from = n + 1;
@@ -274,7 +274,7 @@ module _ {es : List Entry} {first : ℕ} {i : ActionIndex} {s : Position} {old :
     nothing-left : 65536 * (i .index + 1) ≤ n + 1 → now ≡ recorded (labelsAt es i s) old
     unfolding recorded recordAll
     nothing-left h =
-        let none-left = left-none (at .ready .slots) i s es (at .from) (at .ready .rising) (omega (arith, at .is-due)) in
+        let none-left = left-none (at .ready .slots .few) i s es (at .from) (at .ready .rising) (omega (arith, at .is-due)) in
         ap (λ xs. recorded xs now) (sym none-left) ∙ at .to-do
 
     -- the loop ends where no entry is left

@@ -9,6 +9,7 @@ use lib.Dec.{ltb, eqb}
 use Rattle.layout.specs.Lists.{pick}
 use Rattle.layout.specs.Numbers.{u16At}
 use Rattle.layout.specs.Tree.{ActionIndex, Entry, entry}
+use Rattle.layout.specs.Read.{Terms}
 use Rattle.layout.specs.Write.{Position, position, Event, labelAt, branchAt, payloadTooLong, bodyTooLong, labelsAt, lookup}
 
 -- ---- the table of positions
@@ -82,18 +83,22 @@ unfoldable pub kept : (Position → ℕ) → Option Position → ℕ
 kept keep none = 0
 kept keep (some s) = keep s
 
--- a table of `bound` slots holds this of each label's final record among these events
-pub record Keeps (keep : Position → ℕ) (bound : ℕ) (tab : List ℕ) (es : List Event) : Type 0 where
-  pub slots : length tab ≡ bound
-  pub holds : (l : ℕ) → l < bound → getD tab l 0 ≡ kept keep (lookup l es)
+-- a table holds this of each label's final record among these events, for as many labels as it has slots
+pub record Keeps (keep : Position → ℕ) (tab : List ℕ) (es : List Event) : Type 0 where
+  pub holds : (l : ℕ) → l < length tab → getD tab l 0 ≡ kept keep (lookup l es)
 
 -- the table of positions does
-abbrev pub TableHolds : ℕ → List ℕ → List Event → Type 0
-TableHolds bound tab es = Keeps slotOf bound tab es
+abbrev pub TableHolds : List ℕ → List Event → Type 0
+TableHolds tab es = Keeps slotOf tab es
 
--- and that of homes, for as many labels as it has slots
+-- and that of homes
 abbrev pub HomesHold : List ℕ → List Event → Type 0
-HomesHold homes es = Keeps homeOf (length homes) homes es
+HomesHold homes es = Keeps homeOf homes es
+
+-- a slot for each label number that the terms allow; 65,535 is none of these numbers
+pub record Slots (terms : Terms) (tab : List ℕ) : Type 0 where
+  pub few : terms .labelBound < 65536
+  pub enough : terms .labelBound ≤ length tab
 
 -- ---- the entries
 
@@ -135,11 +140,12 @@ positionOf p home = position (p .0) (home .0)
 
 -- ---- the recording of the entries es with index i, at position s
 
--- what it asks: `first` is the first entry due, and the table has a slot for each label
+-- what it asks: `first` is the first entry due, and the table has a slot for each label that the terms allow
 pub record Recordable (es : List Entry) (first : ℕ) (i : ActionIndex) (s : Position) (tab : List ℕ) : Type 0 where
+  pub terms : Terms
   pub is-due : first ≡ due es (65536 * i .index)
-  pub rising : Rising (length tab) 0 es
-  pub slots : length tab < 65536
+  pub rising : Rising (terms .labelBound) 0 es
+  pub slots : Slots terms tab
   pub index-fits : i .index < 65536
   pub position-fits : s .at < 9223372036854775808
 

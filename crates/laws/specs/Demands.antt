@@ -16,7 +16,7 @@ use Rattle.layout.specs.Tree.{ActionOf, ActionListOf, ActionsOf, CatchOf, Final
 use Rattle.layout.specs.Payload.{ownerFields, catchName}
 use Rattle.layout.specs.Write.{bodySize, catchSize, finallySize, Position, blockStart, Event, moved, toBody, toTry, toCatch, toFinally, past, payloadTest, bodyTest, labelsAt, trace, traces, traceBody, traceCatch, traceFinally, events, lookup, distanceBits, branchBits, bodyBytes, blockBytes, blockSize}
 use Rattle.layout.specs.Judge.{distance, isNear, judged, tooFar, Mode}
-use Rattle.layout.specs.Cut.{Cut, main, uncut, sheetLimit, trailerDistance, isMarked, cutIf, cutAt, cutIfTrailer, cutIfShort, cut}
+use Rattle.layout.specs.Cut.{Edition, Cut, main, uncut, sheetLimit, trailerDistance, trailerEdition, isMarked, cutIf, cutAt, cutIfTrailer, cutIfShort, cut}
 use Rattle.layout.specs.Pack.{packCut, pack, output, ReadsAs}
 use Rattle.layout.specs.Lengths.{length-block}
 use Rattle.laws.specs.Meaning.{told, toldActions, toldBody, toldCatch, toldFinally, branchDistance, meaning}
@@ -165,7 +165,7 @@ body-same t t′ e = snoc-same (bodyBytes (branchBits t) t 0) (bodyBytes (branch
 
 -- Demand 3: two accepted sheets that give the same bytes hold the same actions, order, nesting and operands, floats by their
 -- bits, each branch with the same distance. Only label numbers, label entries, notes and the upper six bits of a GetUrl2
--- method may differ, and the mode
+-- method may differ, and the mode and the edition
 pub same-meaning : (m m′ : Mode) (s s′ : List ℕ) (room room′ : ℕ) (q : List ℕ) (t t′ : Actions) → Bytes s → Bytes s′ → ReadsAs s t → ReadsAs s′ t′
     → pack m s room ≡ Done q → pack m′ s′ room′ ≡ Done q → meaning t ≡ meaning t′
 same-meaning m m′ s s′ room room′ q t t′ small small′ h h′ e e′ =
@@ -188,7 +188,7 @@ length-done m s room q small e =
       ap length (sym (k .written .is-block)),
       length-block (k .tree),
       tree-good s (k .tree) small h .1,
-      is-main s (h .start) (h .bytes) (h .is-cut) .is-distance,
+      is-main s (h .edition) (h .start) (h .bytes) (h .is-cut) .is-distance,
     )
 
 -- ---- the note, in document 01's words: "the bytes of the note change nothing, so two sheets that differ only there, at equal
@@ -207,11 +207,12 @@ module _ (s s′ : List ℕ) (same-length : length s ≡ length s′) (same-rest
       let m : n - d + (n - (n - d)) ≡ n = omega arith in
       let e : drop n s ≡ drop n s′ =
       ap (λ (i : ℕ). drop i s) (sym m) ∙ sym (drop-drop (n - (n - d)) (n - d) s) ∙ ap (drop (n - (n - d))) same-rest ∙ drop-drop (n - (n - d)) (n - d) s′ ∙ ap (λ (i : ℕ). drop i s′) m in
-      by (isMarked (drop n s) && leb d n) ∙ ap (λ (t : List ℕ). cutIf (isMarked t && leb (trailerDistance t) n) s′ n (trailerDistance t)) e
+      by (isMarked (drop n s) && leb d n) (trailerEdition (drop n s)) ∙ ap (λ (t : List ℕ). cutIf (isMarked t && leb (trailerDistance t) n) (trailerEdition t) s′ n (trailerDistance t)) e
     where
-      by : (z : Bool) → cutIf z s (length s - 8) (trailerDistance (drop (length s - 8) s)) ≡ cutIf z s′ (length s - 8) (trailerDistance (drop (length s - 8) s))
-      by true = unfold cutIf in ap (λ (l : List ℕ). main (length s - 8 - trailerDistance (drop (length s - 8) s)) (take (trailerDistance (drop (length s - 8) s)) l)) same-rest
-      by false = unfold cutIf in refl
+      by : (z : Bool) (o : Option Edition) → cutIf z o s (length s - 8) (trailerDistance (drop (length s - 8) s)) ≡ cutIf z o s′ (length s - 8) (trailerDistance (drop (length s - 8) s))
+      by true (some i) = unfold cutIf in ap (λ (l : List ℕ). main i (length s - 8 - trailerDistance (drop (length s - 8) s)) (take (trailerDistance (drop (length s - 8) s)) l)) same-rest
+      by true none = unfold cutIf in refl
+      by false o = unfold cutIf in refl
 
   same-cut : cut s ≡ cut s′
   unfolding cut

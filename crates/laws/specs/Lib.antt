@@ -13,3 +13,4 @@ pub mod Packed
 pub mod Resolved
 pub mod Demands
 pub mod Values
+pub mod Editions

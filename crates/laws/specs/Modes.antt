@@ -9,12 +9,12 @@ use mathlib.Core.List.{List}
 use lib.Dec.{eqb}
 use Rattle.layout.specs.Answers.{Refusal, NeverRecorded, StrayBranch, Answer, Done, Refused}
 use Rattle.layout.specs.Tree.{Actions, ActionsOf}
-use Rattle.layout.specs.Read.{Text, Read, got, bad, edition1, deepest, readMain}
+use Rattle.layout.specs.Read.{Text, Read, got, bad, deepest, readMain}
 use Rattle.layout.specs.Strings.{mapBody}
 use Rattle.layout.specs.Write.{Position, Event, lookup, events}
 use Rattle.layout.specs.Judge.{judged, orElse, tooLong, Mode, plainMode, refusalIf, barred, judgedIn, farBy, badBy, judge}
 use Rattle.layout.specs.Cut.{Cut, main, uncut, cut}
-use Rattle.layout.specs.Pack.{unless, blockIn, packTree, spelling, packRead, packCut, pack, ReadsAs}
+use Rattle.layout.specs.Pack.{unless, blockIn, packTree, editionTerms, spelling, packRead, packCut, pack, ReadsAs}
 use Rattle.layout.specs.Order.{tree-next}
 use Rattle.laws.specs.Branches.{or-left, or-right, EachBranch, each-of, each-then, each-refused, refused-same, none-refused}
 
@@ -121,7 +121,7 @@ module _ (m m′ : Mode) where
 
     cut-weaker : (c : Cut) (room : ℕ) → AsWeaker m m′ (packCut m′ c room) (packCut m c room)
     unfolding packCut
-    cut-weaker (main start b) room = read-weaker start (readMain edition1 b deepest) room
+    cut-weaker (main i start b) room = read-weaker start (readMain (editionTerms i) b deepest) room
     cut-weaker (uncut r) room = same
 
     -- "usable with or without strict": a mode that asks for more refuses more, and answers the same otherwise

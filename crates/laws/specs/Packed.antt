@@ -12,13 +12,13 @@ use borrow.Author.Tests.{ltb-false, leb-true}
 use Rattle.layout.specs.Lists.{all-take, all-drop}
 use Rattle.layout.specs.Answers.{Refusal, ActionLenOverflow, BlockLenOverflow, Done, Refused}
 use Rattle.layout.specs.Tree.{Actions, ActionsOf, ActionIndex, firstAction, nextAction, Entry, Action, flat, branch, owner, Try, ActionList, empty, more, body, Catch, noCatch, catch, Finally, noFinally, finally}
-use Rattle.layout.specs.Read.{Text, plain, Terms, edition1, deepest, Place, Read, got, bad, readMain, readString}
+use Rattle.layout.specs.Read.{Text, plain, Terms, deepest, Place, Read, got, bad, readMain, readString}
 use Rattle.layout.specs.Strings.{mapBody}
 use Rattle.layout.specs.Payload.{payload, ownerFields, catchName}
 use Rattle.layout.specs.Write.{bodySize, catchSize, finallySize, Position, Event, labelAt, branchAt, payloadTooLong, bodyTooLong, blockStart, toBody, toTry, toCatch, toFinally, past, eventIf, payloadTest, bodyTest, labelsAt, trace, traces, traceBody, traceCatch, traceFinally, events, lookup, blockBytes, blockSize}
 use Rattle.layout.specs.Judge.{tooLong, tooFar, orElse, Mode, badBranch, judge}
-use Rattle.layout.specs.Cut.{Cut, main, uncut, sheetLimit, trailerDistance, isMarked, cutIf, cutAt, cutIfTrailer, cutIfShort, cut}
-use Rattle.layout.specs.Pack.{unless, ifRoom, packTree, spelling, packRead, packCut, pack, ReadsAs}
+use Rattle.layout.specs.Cut.{Edition, Cut, main, uncut, sheetLimit, trailerDistance, trailerEdition, isMarked, cutIf, cutAt, cutIfTrailer, cutIfShort, cut}
+use Rattle.layout.specs.Pack.{unless, ifRoom, packTree, editionTerms, spelling, packRead, packCut, pack, ReadsAs}
 use Rattle.layout.specs.Order.{tree-next}
 use Rattle.laws.specs.Fits.{Bytes, Well, WellActions, WellBody, WellCatch, WellFinally, Fits, ActionsFit, BodyFits, CatchFits, FinallyFits}
 use Rattle.laws.specs.Modes.{none-far}
@@ -52,19 +52,19 @@ tree-written m t room q e = go (tooLong (events t)) (badBranch m (events t) (eve
 
 -- ---- a main body that reads whole
 
--- its tree, with the strings resolved
-pub record ReadsMain (b : List ℕ) (t : Actions) : Type 0 where
+-- its tree by these terms, with the strings resolved
+pub record ReadsMain (terms : Terms) (b : List ℕ) (t : Actions) : Type 0 where
   pub read : ActionsOf Text ℕ
   pub next : Place
-  pub is-read : readMain edition1 b deepest ≡ got read next
+  pub is-read : readMain terms b deepest ≡ got read next
   pub is-tree : mapBody spelling read ≡ t
 
 -- a main body reads as one tree
-pub same-tree : (b : List ℕ) (t u : Actions) → ReadsMain b t → ReadsMain b u → t ≡ u
-same-tree b t u h k = go (h .read) (h .next) (h .is-read) (h .is-tree) (k .read) (k .next) (k .is-read) (k .is-tree)
+pub same-tree : (k : Terms) (b : List ℕ) (t u : Actions) → ReadsMain k b t → ReadsMain k b u → t ≡ u
+same-tree k b t u h g = go (h .read) (h .next) (h .is-read) (h .is-tree) (g .read) (g .next) (g .is-read) (g .is-tree)
   where
-    go : (x : ActionsOf Text ℕ) (p : Place) → readMain edition1 b deepest ≡ got x p → mapBody spelling x ≡ t
-        → (y : ActionsOf Text ℕ) (q : Place) → readMain edition1 b deepest ≡ got y q → mapBody spelling y ≡ u → t ≡ u
+    go : (x : ActionsOf Text ℕ) (p : Place) → readMain k b deepest ≡ got x p → mapBody spelling x ≡ t
+        → (y : ActionsOf Text ℕ) (q : Place) → readMain k b deepest ≡ got y q → mapBody spelling y ≡ u → t ≡ u
     go x p d i y q f j = cc
 
 -- ---- a sheet that is packed
@@ -76,20 +76,20 @@ pub record Packed (s : List ℕ) (room : ℕ) (q : List ℕ) : Type 0 where
   pub written : Written tree room q
 
 module _ (m : Mode) (s : List ℕ) (room : ℕ) (q : List ℕ) where
-  read-packed : (start : ℕ) (b : List ℕ) (r : Read (ActionsOf Text ℕ)) → cut s ≡ main start b → readMain edition1 b deepest ≡ r
+  read-packed : (i : Edition) (start : ℕ) (b : List ℕ) (r : Read (ActionsOf Text ℕ)) → cut s ≡ main i start b → readMain (editionTerms i) b deepest ≡ r
       → packRead m start r room ≡ Done q → Packed s room q
   unfolding packRead
-  read-packed start b (got t p) c e k =
+  read-packed i start b (got t p) c e k =
       record {
         tree = mapBody spelling t;
-        reads = record { start = start; bytes = b; read = t; next = p; is-cut = c; is-read = e; is-tree = refl };
+        reads = record { edition = i; start = start; bytes = b; read = t; next = p; is-cut = c; is-read = e; is-tree = refl };
         written = tree-written m (mapBody spelling t) room q k;
       }
-  read-packed start b (bad f p) c e k = refused-done k
+  read-packed i start b (bad f p) c e k = refused-done k
 
   cut-packed : (c : Cut) → cut s ≡ c → packCut m c room ≡ Done q → Packed s room q
   unfolding packCut
-  cut-packed (main start b) e k = read-packed start b (readMain edition1 b deepest) e refl k
+  cut-packed (main i start b) e k = read-packed i start b (readMain (editionTerms i) b deepest) e refl k
   cut-packed (uncut r) e k = refused-done k
 
   pub is-packed : pack m s room ≡ Done q → Packed s room q
@@ -113,7 +113,7 @@ pub record IsMain (s : List ℕ) (start : ℕ) (b : List ℕ) : Type 0 where
   pub is-part : b ≡ take (length b) (drop start s)
   pub is-limited : length s ≤ sheetLimit
 
-uncut-main : {X : Type 0} {r : Refusal} {n : ℕ} {b : List ℕ} → uncut r ≡ main n b → X
+uncut-main : {X : Type 0} {r : Refusal} {i : Edition} {n : ℕ} {b : List ℕ} → uncut r ≡ main i n b → X
 uncut-main k =
     let z : _≡_ {A = ℕ} 0 1 = cc in
     absurd (omega arith)
@@ -122,36 +122,37 @@ and-right : (x y : Bool) → (x && y) ≡ true → y ≡ true
 and-right true y e = e
 and-right false y e = cc
 
-module _ (s : List ℕ) (start : ℕ) (b : List ℕ) where
-  main-if : (z : Bool) (n d : ℕ) → (z ≡ true → d ≤ n) → d ≡ sheetDistance s → length s ≡ n + 8 → length s ≤ sheetLimit → cutIf z s n d ≡ main start b → IsMain s start b
+module _ (s : List ℕ) (i : Edition) (start : ℕ) (b : List ℕ) where
+  main-if : (z : Bool) (o : Option Edition) (n d : ℕ) → (z ≡ true → d ≤ n) → d ≡ sheetDistance s → length s ≡ n + 8 → length s ≤ sheetLimit → cutIf z o s n d ≡ main i start b → IsMain s start b
   unfolding cutIf
-  main-if true n d h g l m e =
+  main-if true (some j) n d h g l m e =
       let k : d ≤ n = h refl in
       let es : n - d ≡ start = cc in
       let eb : take d (drop (n - d) s) ≡ b = cc in
       let el : length b ≡ d = ap length (sym eb) ∙ simp (length-take, length-drop) (omega arith) in
       record { is-distance = el ∙ g; is-long = omega arith; is-part = sym eb ∙ ap₂ (λ (i j : ℕ). take i (drop j s)) (sym el) es; is-limited = m }
-  main-if false n d h g l m e = uncut-main e
+  main-if true none n d h g l m e = uncut-main e
+  main-if false o n d h g l m e = uncut-main e
 
-  main-trailer : (y : Bool) → leb 8 (length s) ≡ y → length s ≤ sheetLimit → cutIfTrailer y s ≡ main start b → IsMain s start b
+  main-trailer : (y : Bool) → leb 8 (length s) ≡ y → length s ≤ sheetLimit → cutIfTrailer y s ≡ main i start b → IsMain s start b
   unfolding cutIfTrailer cutAt
   main-trailer true h m e =
       let n : ℕ = length s - 8 in
       let d : ℕ = trailerDistance (drop n s) in
-      main-if (isMarked (drop n s) && leb d n) n d (λ z. leb-true d n (and-right (isMarked (drop n s)) (leb d n) z)) (unfold sheetDistance in refl)
+      main-if (isMarked (drop n s) && leb d n) (trailerEdition (drop n s)) n d (λ z. leb-true d n (and-right (isMarked (drop n s)) (leb d n) z)) (unfold sheetDistance in refl)
       (omega (arith, leb-true 8 (length s) h)) m e
   main-trailer false h m e = uncut-main e
 
-  main-short : (x : Bool) → leb (length s) sheetLimit ≡ x → cutIfShort x s ≡ main start b → IsMain s start b
+  main-short : (x : Bool) → leb (length s) sheetLimit ≡ x → cutIfShort x s ≡ main i start b → IsMain s start b
   unfolding cutIfShort
   main-short true h e = main-trailer (leb 8 (length s)) refl (leb-true (length s) sheetLimit h) e
   main-short false h e = uncut-main e
 
-  pub is-main : cut s ≡ main start b → IsMain s start b
+  pub is-main : cut s ≡ main i start b → IsMain s start b
   unfolding cut
   is-main e = main-short (leb (length s) sheetLimit) refl e
 
-  pub main-bytes : Bytes s → cut s ≡ main start b → Bytes b
+  pub main-bytes : Bytes s → cut s ≡ main i start b → Bytes b
   main-bytes h e = subst Bytes (sym ((is-main e) .is-part)) (all-take _ (length b) (drop start s) (all-drop _ start s h))
 
 -- ---- nothing is too long
@@ -263,8 +264,8 @@ module _ (s : List ℕ) (t : Actions) (small : Bytes s) (h : ReadsAs s t) where
   -- its fields fit, and it is written in at most three bytes for each byte of the main body, less twelve
   pub tree-good : WellBody t × (bodySize t + 12 ≤ 3 * length (h .bytes))
   tree-good =
-      let b : Bytes (h .bytes) = main-bytes s (h .start) (h .bytes) small (h .is-cut) in
-      let g = (good-got (h .read) (h .next) (main-good edition1 (h .bytes) b spelling (Unit {0}) (spells (h .bytes) b edition1) deepest) (h .is-read)) .0 in
+      let b : Bytes (h .bytes) = main-bytes s (h .edition) (h .start) (h .bytes) small (h .is-cut) in
+      let g = (good-got (h .read) (h .next) (main-good (editionTerms (h .edition)) (h .bytes) b spelling (Unit {0}) (spells (h .bytes) b (editionTerms (h .edition))) deepest) (h .is-read)) .0 in
       subst (λ (x : Actions). WellBody x × (bodySize x + 12 ≤ 3 * length (h .bytes))) (h .is-tree) (g .0, g .1 tt)
 
   -- and where nothing is too long, its lengths fit too

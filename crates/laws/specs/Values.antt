@@ -11,12 +11,12 @@ use lib.Dec.{leb, ltb, eqb}
 use borrow.Author.Tests.{ltb-true, ltb-false}
 use Rattle.layout.specs.Answers.{Refusal, NeverRecorded, StrayBranch, refusalValue, Answer, value, lengthOf}
 use Rattle.layout.specs.Tree.{Actions, ActionsOf}
-use Rattle.layout.specs.Read.{Text, edition1, deepest, Read}
+use Rattle.layout.specs.Read.{Text, deepest, Read}
 use Rattle.layout.specs.Strings.{mapBody}
 use Rattle.layout.specs.Write.{bodySize, Position, blockStart, Event, labelAt, branchAt, payloadTooLong, bodyTooLong, events, lookup, blockBytes, blockSize}
 use Rattle.layout.specs.Judge.{tooLong, distance, isNear, farUnless, judged, orElse, Mode, refusalIf, barred, judgedIn, firstRefused, badBy, judge}
-use Rattle.layout.specs.Cut.{Cut, main, uncut, sheetLimit, trailerDistance, isMarked, cutIf, cutAt, cutIfTrailer, cutIfShort, cut}
-use Rattle.layout.specs.Pack.{unless, ifRoom, packTree, spelling, packRead, packCut, pack}
+use Rattle.layout.specs.Cut.{Edition, Cut, main, uncut, sheetLimit, trailerDistance, trailerEdition, isMarked, cutIf, cutAt, cutIfTrailer, cutIfShort, cut}
+use Rattle.layout.specs.Pack.{unless, ifRoom, packTree, editionTerms, spelling, packRead, packCut, pack}
 use Rattle.layout.specs.Step.{step}
 use Rattle.layout.specs.Stepping.{AtMost, made, unclean, step-most}
 use Rattle.layout.specs.Lengths.{length-block}
@@ -111,19 +111,20 @@ tree-i64 m t room small = go (judge m t) (leb (blockSize t) room) judge-held
 -- ---- the answer of a sheet
 
 abbrev CutHeld : Cut → Type 0
-CutHeld (main start b) = Unit {0}
+CutHeld (main i start b) = Unit {0}
 CutHeld (uncut r) = IsI64 (refusalValue r)
 
 cut-held : (s : List ℕ) → length s < 9223372036854775808 → CutHeld (cut s)
 unfolding cut cutIfShort cutIfTrailer cutAt cutIf refusalValue
 cut-held s h = short (leb (length s) sheetLimit)
   where
-    marked : (z : Bool) (n d : ℕ) → CutHeld (cutIf z s n d)
-    marked true n d = tt
-    marked false n d = zeroUp {n = 0} (omega arith)
+    marked : (z : Bool) (o : Option Edition) (n d : ℕ) → CutHeld (cutIf z o s n d)
+    marked true (some i) n d = tt
+    marked true none n d = zeroUp {n = 0} (omega arith)
+    marked false o n d = zeroUp {n = 0} (omega arith)
 
     trailer : (y : Bool) → CutHeld (cutIfTrailer y s)
-    trailer true = marked (isMarked (drop (length s - 8) s) && leb (trailerDistance (drop (length s - 8) s)) (length s - 8)) (length s - 8) (trailerDistance (drop (length s - 8) s))
+    trailer true = marked (isMarked (drop (length s - 8) s) && leb (trailerDistance (drop (length s - 8) s)) (length s - 8)) (trailerEdition (drop (length s - 8) s)) (length s - 8) (trailerDistance (drop (length s - 8) s))
     trailer false = zeroUp {n = 0} (omega arith)
 
     short : (x : Bool) → CutHeld (cutIfShort x s)
@@ -144,10 +145,10 @@ unfolding pack packCut
 pack-i64 m s room small h = go (cut s) refl (cut-held s h)
   where
     go : (c : Cut) → cut s ≡ c → CutHeld c → IsI64 (value lengthOf (packCut m c room))
-    go (main start b) e k =
-        let i : IsMain s start b = is-main s start b e in
-        let bytes : Bytes b = main-bytes s start b small e in
-        read-i64 m start (length b) room (omega (arith, i .is-long, i .is-limited)) (main-good edition1 b bytes spelling (Unit {0}) (spells b bytes edition1) deepest)
+    go (main j start b) e k =
+        let i : IsMain s start b = is-main s j start b e in
+        let bytes : Bytes b = main-bytes s j start b small e in
+        read-i64 m start (length b) room (omega (arith, i .is-long, i .is-limited)) (main-good (editionTerms j) b bytes spelling (Unit {0}) (spells b bytes (editionTerms j)) deepest)
     go (uncut r) e k = unfold value in k
 
 -- ---- the stepping check, of a byte string that is as short

@@ -12,11 +12,11 @@ use Rattle.layout.specs.Lists.{pick}
 use Rattle.layout.specs.Numbers.{le16, le32, le64, bits64, i64Bytes, u64At}
 use Rattle.layout.specs.Answers.{Refusal, ReadingFault, NoRoom, Answer, Done, Refused, Told, Fault}
 use Rattle.layout.specs.Tree.{Actions}
-use Rattle.layout.specs.Read.{edition1, deepest, Place, bad, readMain}
+use Rattle.layout.specs.Read.{deepest, Place, bad, readMain}
 use Rattle.layout.specs.Write.{events, blockBytes, blockSize}
 use Rattle.layout.specs.Judge.{tooLong, orElse, Mode, badBranch, judge}
-use Rattle.layout.specs.Cut.{main, uncut, cut}
-use Rattle.layout.specs.Pack.{unless, ifRoom, blockIn, packTree, packRead, packCut, pack, Outcome, ReadsAs}
+use Rattle.layout.specs.Cut.{Edition, main, uncut, cut}
+use Rattle.layout.specs.Pack.{unless, ifRoom, blockIn, packTree, editionTerms, packRead, packCut, pack, Outcome, ReadsAs}
 
 -- ---- 1, 2; then 3 to 7; then 8 and 9; then 10, 14 and 15; then 11
 
@@ -26,10 +26,11 @@ unfolding pack packCut
 uncut-first m s room r e = ap (λ c. packCut m c room) e
 
 -- then what reading meets, whatever the room
-pub fault-next : (m : Mode) (s : List ℕ) (room start : ℕ) (b : List ℕ) (f : Fault) (p : Place) → cut s ≡ main start b → readMain edition1 b deepest ≡ bad f p
+pub fault-next : (m : Mode) (s : List ℕ) (room : ℕ) (i : Edition) (start : ℕ) (b : List ℕ) (f : Fault) (p : Place) → cut s ≡ main i start b
+    → readMain (editionTerms i) b deepest ≡ bad f p
     → pack m s room ≡ Refused (ReadingFault f (start + p .at))
 unfolding pack packCut packRead
-fault-next m s room start b f p c e = ap (λ x. packCut m x room) c ∙ ap (λ x. packRead m start x room) e
+fault-next m s room i start b f p c e = ap (λ x. packCut m x room) c ∙ ap (λ x. packRead m start x room) e
 
 -- and a sheet that reads whole is answered by its tree alone
 pub tree-next : (m : Mode) (s : List ℕ) (room : ℕ) (t : Actions) → ReadsAs s t → pack m s room ≡ packTree m t room

@@ -10,11 +10,11 @@ use lib.IntN.{ℤ}
 use lib.Dec.{leb}
 use Rattle.layout.specs.Answers.{Refusal, ReadingFault, NoRoom, Answer, Done, Refused, Told, lengthOf}
 use Rattle.layout.specs.Tree.{Actions, ActionsOf}
-use Rattle.layout.specs.Read.{Text, plain, edition1, deepest, Place, Read, got, bad, readMain}
+use Rattle.layout.specs.Read.{Text, plain, Terms, edition1, edition2, deepest, Place, Read, got, bad, readMain}
 use Rattle.layout.specs.Strings.{mapBody}
 use Rattle.layout.specs.Write.{blockBytes, blockSize}
 use Rattle.layout.specs.Judge.{Mode, judge}
-use Rattle.layout.specs.Cut.{Cut, main, uncut, cut}
+use Rattle.layout.specs.Cut.{Edition, First, Second, Cut, main, uncut, cut}
 
 -- ---- a tree that was read
 
@@ -36,6 +36,11 @@ packTree mode t room = unless (judge mode t) (blockIn t room)
 
 -- ---- a sheet
 
+-- what an edition allows
+unfoldable pub editionTerms : Edition → Terms
+editionTerms First = edition1
+editionTerms Second = edition2
+
 -- the bytes of a string
 unfoldable pub spelling : Text → List ℕ
 spelling (plain s) = s
@@ -46,7 +51,7 @@ packRead mode start (got t p) room = packTree mode (mapBody spelling t) room
 packRead mode start (bad f p) room = Refused (ReadingFault f (start + p .at))
 
 unfoldable pub packCut : Mode → Cut → ℕ → Answer (List ℕ)
-packCut mode (main start b) room = packRead mode start (readMain edition1 b deepest) room
+packCut mode (main edition start b) room = packRead mode start (readMain (editionTerms edition) b deepest) room
 packCut mode (uncut r) room = Refused r
 
 -- the whole: the block, or the refusal
@@ -55,12 +60,13 @@ pack mode s room = packCut mode (cut s) room
 
 -- the sheet reads whole, as this tree
 pub record ReadsAs (s : List ℕ) (t : Actions) : Type 0 where
+  pub edition : Edition
   pub start : ℕ
   pub bytes : List ℕ
   pub read : ActionsOf Text ℕ
   pub next : Place
-  pub is-cut : cut s ≡ main start bytes
-  pub is-read : readMain edition1 bytes deepest ≡ got read next
+  pub is-cut : cut s ≡ main edition start bytes
+  pub is-read : readMain (editionTerms edition) bytes deepest ≡ got read next
   pub is-tree : mapBody spelling read ≡ t
 
 -- ---- the output

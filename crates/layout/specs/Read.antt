@@ -26,6 +26,10 @@ pub record Terms : Type 0 where
 unfoldable pub edition1 : Terms
 edition1 = record { labelBound = 1024 }
 
+-- "Raise label numbers to 4,095"
+unfoldable pub edition2 : Terms
+edition2 = record { labelBound = 4096 }
+
 -- "the main body has depth 1 and the deepest body 16"
 abbrev pub deepest : ℕ
 deepest = 16

@@ -1,4 +1,5 @@
--- The sums worked by hand: P1 to P12, each sheet, without note, and the block that it packs to; and answers by the mode.
+-- The sums worked by hand: P1 to P12, each sheet, without note, and the block that it packs to; and answers by the mode and by
+-- the edition.
 -- Assumes nothing.
 use mathlib.Core.Path.{_≡_, refl}
 use Prim.Native.Nat.{ℕ}
@@ -9,24 +10,24 @@ use lib.ListN.{length}
 use lib.IntN.{ℤ, pos}
 use Rattle.layout.specs.Lists.{All, each, pick, firstWith}
 use Rattle.layout.specs.Numbers.{le16, le32, bit}
-use Rattle.layout.specs.Answers.{NeverRecorded, StrayBranch, JumpOffsetOverflow, Done, refusalNumber, refusalValue, number, value, lengthOf}
+use Rattle.layout.specs.Answers.{NeverRecorded, StrayBranch, JumpOffsetOverflow, Done, faultNumber, refusalNumber, refusalValue, number, value, lengthOf}
 use Rattle.layout.specs.OpCode.{smallByte, byte, smallOpCodes, opcodes, opcodeOf}
 use Rattle.layout.specs.PushKind.{kindByte, pushKinds, kindOf}
-use Rattle.layout.specs.Read.{edition1, ifWhole, ifWithin, tested, repeat, firstZero, ifNoZero, ifNothingLeft, readU8, readU16, readU32, readU64, readBytes, readFlag, readSpelling, readCounted, hasCatch, hasFinally, hasRegister, isShape, readString, readValueOf, readValueIf, readValue, readParam, readLabel, readEntries, readCatchTarget, readCatch, readFinally, readTry, readFields, readFieldsIf, readAction, readActions, readBodyWith, readBody, readMain}
+use Rattle.layout.specs.Read.{edition1, edition2, ifWhole, ifWithin, tested, repeat, firstZero, ifNoZero, ifNothingLeft, readU8, readU16, readU32, readU64, readBytes, readFlag, readSpelling, readCounted, hasCatch, hasFinally, hasRegister, isShape, readString, readValueOf, readValueIf, readValue, readParam, readLabel, readEntries, readCatchTarget, readCatch, readFinally, readTry, readFields, readFieldsIf, readAction, readActions, readBodyWith, readBody, readMain}
 use Rattle.layout.specs.Strings.{mapValue, mapParam, mapFlat, mapOwner, mapTarget, mapAction}
 use Rattle.layout.specs.Payload.{zeroEnded, stringsBytes, constantBytes, doubleBytes, pushBytes, pushesBytes, opcode, gotoFrame2Bytes, getUrl2Bits, payload, ownerOpCode, paramsBytes, ownerFields, ownerPayload, branchOpCode, catchShape, finallyShape, catchName, tryPayload, headed, framed}
 use Rattle.layout.specs.Write.{Event, labelAt, branchAt, position, homeIn, moved, eventIf, payloadTest, bodyTest, labelsAt, events, later, recordIf, lookup, distanceBits, branchBits, blockBytes, blockSize, size, trace, bytes}
 use Rattle.layout.specs.Judge.{tooLong, distance, isNear, farUnless, judged, orElse, Mode, plainMode, refusalIf, barred, judgedIn, firstRefused, badBranch, judge}
-use Rattle.layout.specs.Cut.{trailerDistance, isMarked, cutIf, cutAt, cutIfTrailer, cutIfShort, cut}
-use Rattle.layout.specs.Pack.{unless, ifRoom, packTree, spelling, packRead, packCut, pack, output}
+use Rattle.layout.specs.Cut.{editionNumber, editions, editionOf, trailerDistance, trailerEdition, isMarked, cutIf, cutAt, cutIfTrailer, cutIfShort, cut}
+use Rattle.layout.specs.Pack.{unless, ifRoom, packTree, editionTerms, spelling, packRead, packCut, pack, output}
 
 -- a main body, and the block
 pub data Sum : Type 0 where
   sum : (main block : List ℕ) → Sum
 
--- the sheet without note that has this main body
-unfoldable pub sheetOf : List ℕ → List ℕ
-sheetOf main = main ++ (le32 (length main) ++ (0x01 ∷ 0x00 ∷ 0x41 ∷ 0x31 ∷ []))
+-- the sheet without note that has this edition number and this main body
+unfoldable pub sheetOf : ℕ → List ℕ → List ℕ
+sheetOf edition main = main ++ (le32 (length main) ++ (le16 edition ++ (0x41 ∷ 0x31 ∷ [])))
 
 unfoldable pub byHand : List Sum
 byHand =
@@ -126,24 +127,58 @@ byMode =
     ∷ case strictMode (0x00 ∷ 0x00 ∷ 0x03 ∷ 0x00 ∷ 0x9B ∷ 0x01 ∷ 0x00 ∷ 0x66 ∷ 0x00 ∷ 0x00 ∷ 0x01 ∷ 0x00 ∷ 0x00 ∷ 0x00 ∷ 0x00 ∷ 0x00 ∷ 0x01 ∷ 0x00 ∷ 0x06 ∷ 0x99 ∷ 0x00 ∷ 0x00 ∷ 0x99 ∷ 0x01 ∷ 0x00 ∷ []) 21 14 (pos 18)
     ∷ []
 
+-- an edition number and a main body, in plain mode and with the room of 64 bytes; the number and the value
+pub data Dated : Type 0 where
+  dated : (edition : ℕ) (main : List ℕ) (number : ℕ) (value : ℤ) → Dated
+
+unfoldable pub byEdition : List Dated
+byEdition =
+    -- Jump 1,023 to its own start, in both editions
+    dated 1 (0x01 ∷ 0x00 ∷ 0xFF ∷ 0x03 ∷ 0x00 ∷ 0x00 ∷ 0x01 ∷ 0x00 ∷ 0x99 ∷ 0xFF ∷ 0x03 ∷ []) 0 (pos 6)
+    ∷ dated 2 (0x01 ∷ 0x00 ∷ 0xFF ∷ 0x03 ∷ 0x00 ∷ 0x00 ∷ 0x01 ∷ 0x00 ∷ 0x99 ∷ 0xFF ∷ 0x03 ∷ []) 0 (pos 6)
+    -- the entry 1,024, and Jump 1,024 without an entry
+    ∷ dated 1 (0x01 ∷ 0x00 ∷ 0x00 ∷ 0x04 ∷ 0x00 ∷ 0x00 ∷ 0x00 ∷ 0x00 ∷ []) 5 (pos 2)
+    ∷ dated 2 (0x01 ∷ 0x00 ∷ 0x00 ∷ 0x04 ∷ 0x00 ∷ 0x00 ∷ 0x00 ∷ 0x00 ∷ []) 0 (pos 1)
+    ∷ dated 1 (0x00 ∷ 0x00 ∷ 0x01 ∷ 0x00 ∷ 0x99 ∷ 0x00 ∷ 0x04 ∷ []) 5 (pos 5)
+    ∷ dated 2 (0x00 ∷ 0x00 ∷ 0x01 ∷ 0x00 ∷ 0x99 ∷ 0x00 ∷ 0x04 ∷ []) 0 (pos 6)
+    -- Jump 4,095 to its own start
+    ∷ dated 2 (0x01 ∷ 0x00 ∷ 0xFF ∷ 0x0F ∷ 0x00 ∷ 0x00 ∷ 0x01 ∷ 0x00 ∷ 0x99 ∷ 0xFF ∷ 0x0F ∷ []) 0 (pos 6)
+    -- the entry 4,096, and Jump 4,096
+    ∷ dated 2 (0x01 ∷ 0x00 ∷ 0x00 ∷ 0x10 ∷ 0x00 ∷ 0x00 ∷ 0x00 ∷ 0x00 ∷ []) 5 (pos 2)
+    ∷ dated 2 (0x00 ∷ 0x00 ∷ 0x01 ∷ 0x00 ∷ 0x99 ∷ 0x00 ∷ 0x10 ∷ []) 5 (pos 5)
+    -- no such edition
+    ∷ dated 0 (0x00 ∷ 0x00 ∷ 0x00 ∷ 0x00 ∷ []) 2 (pos 0)
+    ∷ dated 3 (0x00 ∷ 0x00 ∷ 0x00 ∷ 0x00 ∷ []) 2 (pos 0)
+    ∷ dated 256 (0x00 ∷ 0x00 ∷ 0x00 ∷ 0x00 ∷ []) 2 (pos 0)
+    ∷ []
+
 -- a sum holds where the sheet packs to the block, with no room to spare
 abbrev pub Holds : Sum → Type 0
-Holds (sum main block) = pack plainMode (sheetOf main) (length block) ≡ Done block
+Holds (sum main block) = pack plainMode (sheetOf 1 main) (length block) ≡ Done block
 
--- a case is answered by its number and value
+-- what a main body is answered: by its number and value
+abbrev pub Answered : Mode → ℕ → List ℕ → ℕ → ℕ → ℤ → Type 0
+Answered mode edition main room n v = (number (pack mode (sheetOf edition main) room) ≡ n) × (value lengthOf (pack mode (sheetOf edition main) room) ≡ v)
+
 abbrev pub Answers : Case → Type 0
-Answers (case mode main room n v) = (number (pack mode (sheetOf main) room) ≡ n) × (value lengthOf (pack mode (sheetOf main) room) ≡ v)
+Answers (case mode main room n v) = Answered mode 1 main room n v
 
--- both tables, so that what is unfolded is listed once
-both : All Holds byHand × All Answers byMode
-unfolding byMode byHand sheetOf each pick firstWith le16 le32 bit smallByte byte smallOpCodes opcodes opcodeOf kindByte pushKinds kindOf edition1 ifWhole ifWithin tested repeat firstZero ifNoZero ifNothingLeft readU8 readU16 readU32 readU64 readBytes readFlag readSpelling readCounted hasCatch hasFinally hasRegister isShape readString readValueOf readValueIf readValue readParam readLabel readEntries readCatchTarget readCatch readFinally readTry readFields readFieldsIf readAction readActions readBodyWith readBody readMain mapValue mapParam mapFlat mapOwner mapTarget mapAction zeroEnded stringsBytes constantBytes doubleBytes pushBytes pushesBytes opcode gotoFrame2Bytes getUrl2Bits payload ownerOpCode paramsBytes ownerFields ownerPayload branchOpCode catchShape finallyShape catchName tryPayload headed framed homeIn moved eventIf payloadTest bodyTest labelsAt events later recordIf lookup distanceBits branchBits blockBytes blockSize size trace bytes tooLong distance isNear farUnless judged orElse refusalIf barred judgedIn firstRefused judge trailerDistance isMarked cutIf cutAt cutIfTrailer cutIfShort cut unless ifRoom packTree spelling packRead packCut pack output number value refusalNumber refusalValue
-both = ((refl, (refl, (refl, (refl, (refl, (refl, (refl, (refl, (refl, (refl, (refl, (refl, tt)))))))))))), ((refl, refl), ((refl, refl), ((refl, refl), ((refl, refl), ((refl, refl), ((refl, refl), ((refl, refl), ((refl, refl), ((refl, refl), ((refl, refl), ((refl, refl), ((refl, refl), ((refl, refl), ((refl, refl), ((refl, refl), ((refl, refl), ((refl, refl), ((refl, refl), ((refl, refl), ((refl, refl), ((refl, refl), ((refl, refl), ((refl, refl), ((refl, refl), tt)))))))))))))))))))))))))
+abbrev pub AnswersIn : Dated → Type 0
+AnswersIn (dated edition main n v) = Answered plainMode edition main 64 n v
+
+-- the three tables, so that what is unfolded is listed once
+all : All Holds byHand × All Answers byMode × All AnswersIn byEdition
+unfolding byEdition byMode byHand sheetOf each pick firstWith le16 le32 bit smallByte byte smallOpCodes opcodes opcodeOf kindByte pushKinds kindOf edition1 edition2 ifWhole ifWithin tested repeat firstZero ifNoZero ifNothingLeft readU8 readU16 readU32 readU64 readBytes readFlag readSpelling readCounted hasCatch hasFinally hasRegister isShape readString readValueOf readValueIf readValue readParam readLabel readEntries readCatchTarget readCatch readFinally readTry readFields readFieldsIf readAction readActions readBodyWith readBody readMain mapValue mapParam mapFlat mapOwner mapTarget mapAction zeroEnded stringsBytes constantBytes doubleBytes pushBytes pushesBytes opcode gotoFrame2Bytes getUrl2Bits payload ownerOpCode paramsBytes ownerFields ownerPayload branchOpCode catchShape finallyShape catchName tryPayload headed framed homeIn moved eventIf payloadTest bodyTest labelsAt events later recordIf lookup distanceBits branchBits blockBytes blockSize size trace bytes tooLong distance isNear farUnless judged orElse refusalIf barred judgedIn firstRefused judge editionNumber editions editionOf trailerDistance trailerEdition isMarked cutIf cutAt cutIfTrailer cutIfShort cut unless ifRoom packTree editionTerms spelling packRead packCut pack output number value refusalNumber refusalValue faultNumber
+all = ((refl, (refl, (refl, (refl, (refl, (refl, (refl, (refl, (refl, (refl, (refl, (refl, tt)))))))))))), ((refl, refl), ((refl, refl), ((refl, refl), ((refl, refl), ((refl, refl), ((refl, refl), ((refl, refl), ((refl, refl), ((refl, refl), ((refl, refl), ((refl, refl), ((refl, refl), ((refl, refl), ((refl, refl), ((refl, refl), ((refl, refl), ((refl, refl), ((refl, refl), ((refl, refl), ((refl, refl), ((refl, refl), ((refl, refl), ((refl, refl), ((refl, refl), tt)))))))))))))))))))))))), ((refl, refl), ((refl, refl), ((refl, refl), ((refl, refl), ((refl, refl), ((refl, refl), ((refl, refl), ((refl, refl), ((refl, refl), ((refl, refl), ((refl, refl), ((refl, refl), tt)))))))))))))
 
 pub sums-hold : All Holds byHand
-sums-hold = both .0
+sums-hold = all .0
 
 pub cases-answer : All Answers byMode
-cases-answer = both .1
+cases-answer = all .1
+
+pub editions-answer : All AnswersIn byEdition
+editions-answer = all .2
 
 -- ---- "first branch in writing order", among branches of the main block
 

@@ -10,7 +10,7 @@ use borrow.Author.Tests.{leb-true}
 use mathlib.Core.Bool.{Bool, true, false}
 use Rattle.layout.specs.Numbers.{u16At}
 use Rattle.layout.specs.Answers as answers
-use Rattle.layout.specs.Read.{edition1, Place, placed, ahead, Read, got, bad, Reader, chain, ifWhole, repeat, readU16, readString, readCounted, readValue}
+use Rattle.layout.specs.Read.{Terms, Place, placed, ahead, Read, got, bad, Reader, chain, ifWhole, repeat, readU16, readString, readCounted, readValue}
 use Rattle.layout.specs.Lengths.{total, stringLength}
 use Rattle.layout.specs.Pack.{spelling}
 use Rattle.laws.specs.Fits.{Bytes}
@@ -151,26 +151,26 @@ module _ {A : Type 0} (b : List ℕ) (read : Reader A) (size : A → ℕ) (grows
 
 -- ---- the two kinds of element
 
-module _ (b : List ℕ) (small : Bytes b) where
-  pub named-grows : (skip : ℕ) → Grows b (readNamed b skip) (namedSize skip)
+module _ (terms : Terms) (b : List ℕ) (small : Bytes b) where
+  pub named-grows : (skip : ℕ) → Grows b (readNamed terms b skip) (namedSize skip)
   unfolding readNamed namedSize stringSize
   named-grows skip p s q l e =
       let g =
       good-got {P = λ t r. p + skip + stringLength (spelling t) ≤ r .at} s (placed q)
       (good-then (bytes-good b small skip (placed p) l)
-      (λ x r h m. good-as (text-good edition1 b small spelling (Unit {0}) (spells b small edition1) r m) (λ t u k. omega (arith, h .1, k .1 tt)))) e in
+      (λ x r h m. good-as (text-good terms b small spelling (Unit {0}) (spells b small terms) r m) (λ t u k. omega (arith, h .1, k .1 tt)))) e in
       (omega (arith, g .0), g .1)
 
-  pub values-grow : Grows b (readValue edition1 b) valueSize
+  pub values-grow : Grows b (readValue terms b) valueSize
   unfolding valueSize
   values-grow p v q l e =
-      let g = good-got v (placed q) (value-good edition1 b small spelling (Unit {0}) (spells b small edition1) (placed p) l) e in
+      let g = good-got v (placed q) (value-good terms b small spelling (Unit {0}) (spells b small terms) (placed p) l) e in
       (omega (arith, g .0 .1 tt), g .1)
 
-  pub text-grows : Grows b (readString edition1 b) stringSize
+  pub text-grows : Grows b (readString terms b) stringSize
   unfolding stringSize
   text-grows p s q l e =
-      let g = good-got s (placed q) (text-good edition1 b small spelling (Unit {0}) (spells b small edition1) (placed p) l) e in
+      let g = good-got s (placed q) (text-good terms b small spelling (Unit {0}) (spells b small terms) (placed p) l) e in
       (omega (arith, g .0 .1 tt), g .1)
 
 -- the next scan may start where one ended, even some bytes further on in the block where something was written
@@ -181,24 +181,24 @@ roomy-after b read size extra g some m p q w x y r h e f i =
     let n = g p (k .0) q (h .inside) (k .1) in
     record { bytes = h .bytes; inside = n .1; room = omega (arith, h .inside, h .room, n .0, n .1, k .2, some (k .0)) }
 
-pub text-after : (b : List ℕ) (extra : ℕ) → extra ≤ 65000 → (p q : ℕ) (w x y : BytePosition) (r : Scan) → Roomy b p w
-    → r ≡ scanned stringSize (w .0) (readString edition1 b (placed p)) → r ≡ scan.Ends q x → y .0 ≡ x .0 + extra → Roomy b q y
-text-after b extra m p q w x y r h e f i =
-    roomy-after b (readString edition1 b) stringSize extra (text-grows b (h .bytes)) (λ s. unfold stringSize stringLength in omega arith) m p q w x y r h e f i
+pub text-after : (terms : Terms) (b : List ℕ) (extra : ℕ) → extra ≤ 65000 → (p q : ℕ) (w x y : BytePosition) (r : Scan) → Roomy b p w
+    → r ≡ scanned stringSize (w .0) (readString terms b (placed p)) → r ≡ scan.Ends q x → y .0 ≡ x .0 + extra → Roomy b q y
+text-after terms b extra m p q w x y r h e f i =
+    roomy-after b (readString terms b) stringSize extra (text-grows terms b (h .bytes)) (λ s. unfold stringSize stringLength in omega arith) m p q w x y r h e f i
 
 -- a text that was scanned has the length that stands before it
-pub text-told : (b : List ℕ) (p q : ℕ) (w x : BytePosition) (r : Scan) → r ≡ scanned stringSize (w .0) (readString edition1 b (placed p)) → r ≡ scan.Ends q x
+pub text-told : (terms : Terms) (b : List ℕ) (p q : ℕ) (w x : BytePosition) (r : Scan) → r ≡ scanned stringSize (w .0) (readString terms b (placed p)) → r ≡ scan.Ends q x
     → (p + 2 ≤ length b) × (x .0 ≡ w .0 + (u16At b p + 1))
-text-told b p q w x r e f =
-    let k = ends-is stringSize (w .0) (readString edition1 b (placed p)) e f in
-    let t = reading.string-read b p (k .1) in
+text-told terms b p q w x r e f =
+    let k = ends-is stringSize (w .0) (readString terms b (placed p)) e f in
+    let t = reading.string-read terms b p (k .1) in
     (t .0, omega (arith, t .1, k .2))
 
 -- and some bytes more can be counted
-pub text-room : (b : List ℕ) (p q : ℕ) (w x : BytePosition) (r : Scan) → Roomy b p w → r ≡ scanned stringSize (w .0) (readString edition1 b (placed p)) → r ≡ scan.Ends q x
+pub text-room : (terms : Terms) (b : List ℕ) (p q : ℕ) (w x : BytePosition) (r : Scan) → Roomy b p w → r ≡ scanned stringSize (w .0) (readString terms b (placed p)) → r ≡ scan.Ends q x
     → x .0 + 65000 ≤ 1099511627776
-text-room b p q w x r h e f =
-    let y : Roomy b q (record { 0 = x .0 + 65000 }) = text-after b 65000 (omega arith) p q w x (record { 0 = x .0 + 65000 }) r h e f refl in
+text-room terms b p q w x r h e f =
+    let y : Roomy b q (record { 0 = x .0 + 65000 }) = text-after terms b 65000 (omega arith) p q w x (record { 0 = x .0 + 65000 }) r h e f refl in
     omega (arith, y .room)
 
 -- the next scan may start where a counted list ended

@@ -13,7 +13,7 @@ use Rattle.layout.specs.Numbers.{u16At}
 use Rattle.layout.specs.Answers.{CutShort, UnknownCode}
 use Rattle.layout.specs.PushKind.{PushKind, kindByte, pushKinds, kindOf}
 use Rattle.layout.specs.Tree.{PushValueOf, String, Null, Undefined, Register, Boolean, Float, Integer, Constant}
-use Rattle.layout.specs.Read.{Text, edition1, placed, Read, got, chain, readU8, readU16, readU32, readU64, readBytes, readFlag, readString, readValueOf, readValueIf, readValue}
+use Rattle.layout.specs.Read.{Text, Terms, placed, Read, got, chain, readU8, readU16, readU32, readU64, readBytes, readFlag, readString, readValueOf, readValueIf, readValue}
 use Rattle.layout.specs.Strings.{mapValue}
 use Rattle.layout.specs.Lengths.{pushLength, stringLength}
 use Rattle.positions.specs.declared.Scan.{Scan}
@@ -27,18 +27,18 @@ use Rattle.operands.proofs.Reading as reading
 
 -- ---- a string after some bytes
 
-module _ (b : List ℕ) (at skip pos : ℕ) where
-  pub named-out : length b < at + skip → scan.Stops fault.CutShort at ≡ scanned (namedSize skip) pos (readNamed b skip (placed at))
+module _ (terms : Terms) (b : List ℕ) (at skip pos : ℕ) where
+  pub named-out : length b < at + skip → scan.Stops fault.CutShort at ≡ scanned (namedSize skip) pos (readNamed terms b skip (placed at))
   unfolding readNamed faultOf
-  named-out h = stops (namedSize skip) pos (ap (λ x. chain x (λ s q. readString edition1 b q)) (reading.bytes-out b at skip h))
+  named-out h = stops (namedSize skip) pos (ap (λ x. chain x (λ s q. readString terms b q)) (reading.bytes-out b at skip h))
 
-  pub named-in : (r : Scan) → at + skip ≤ length b → r ≡ scanned stringSize (pos + skip) (readString edition1 b (placed (at + skip)))
-      → r ≡ scanned (namedSize skip) pos (readNamed b skip (placed at))
+  pub named-in : (r : Scan) → at + skip ≤ length b → r ≡ scanned stringSize (pos + skip) (readString terms b (placed (at + skip)))
+      → r ≡ scanned (namedSize skip) pos (readNamed terms b skip (placed at))
   unfolding readNamed namedSize
   named-in r h e =
       e
-      ∙ scanned-from (namedSize skip) pos stringSize (pos + skip) (readString edition1 b (placed (at + skip))) (λ s. omega arith)
-      ∙ ap (λ x. scanned (namedSize skip) pos (chain x (λ s q. readString edition1 b q))) (sym (reading.bytes-in b at skip h))
+      ∙ scanned-from (namedSize skip) pos stringSize (pos + skip) (readString terms b (placed (at + skip))) (λ s. omega arith)
+      ∙ ap (λ x. scanned (namedSize skip) pos (chain x (λ s q. readString terms b q))) (sym (reading.bytes-in b at skip h))
 
 -- ---- a pushed constant
 
@@ -50,58 +50,58 @@ constant-in b at pos n l h e f = ends constantSize pos (reading.u16-in b at h) (
 
 -- ---- push values, by their kind
 
-module _ (b : List ℕ) (at pos : ℕ) where
-  pub value-out : length b < at + 1 → scan.Stops fault.CutShort at ≡ scanned valueSize pos (readValue edition1 b (placed at))
+module _ (terms : Terms) (b : List ℕ) (at pos : ℕ) where
+  pub value-out : length b < at + 1 → scan.Stops fault.CutShort at ≡ scanned valueSize pos (readValue terms b (placed at))
   unfolding readValue faultOf
-  value-out h = stops valueSize pos (ap (λ x. chain x (λ n q. readValueIf edition1 b (kindOf n) (placed at) q)) (reading.u8-out b at h))
+  value-out h = stops valueSize pos (ap (λ x. chain x (λ n q. readValueIf terms b (kindOf n) (placed at) q)) (reading.u8-out b at h))
 
   module _ (h : at + 1 ≤ length b) where
     -- the kind decides
-    value-if : (n : ℕ) (o : Option PushKind) → getD b at 0 ≡ n → kindOf n ≡ o → readValue edition1 b (placed at) ≡ readValueIf edition1 b o (placed at) (placed (at + 1))
+    value-if : (n : ℕ) (o : Option PushKind) → getD b at 0 ≡ n → kindOf n ≡ o → readValue terms b (placed at) ≡ readValueIf terms b o (placed at) (placed (at + 1))
     unfolding readValue
     value-if n o e k = rw (reading.u8-in b at h, e, k)
 
     -- a value of one field, which the code measured from w on
     field-value : {A : Type 0} (n : ℕ) (j : PushKind) (g : A → PushValueOf Text) (s : A → ℕ) (w : ℕ) (x : Read A) (r : Scan) → getD b at 0 ≡ n → kindOf n ≡ some j
-        → readValueOf edition1 b j (placed (at + 1)) ≡ chain x (λ a q. got (g a) q) → ((a : A) → pos + valueSize (g a) ≡ w + s a) → r ≡ scanned s w x
-        → r ≡ scanned valueSize pos (readValue edition1 b (placed at))
+        → readValueOf terms b j (placed (at + 1)) ≡ chain x (λ a q. got (g a) q) → ((a : A) → pos + valueSize (g a) ≡ w + s a) → r ≡ scanned s w x
+        → r ≡ scanned valueSize pos (readValue terms b (placed at))
     unfolding readValueIf
     field-value n j g s w x r e k f l m = m ∙ scanned-as valueSize pos g s w x l ∙ ap (scanned valueSize pos) (sym (value-if n (some j) e k ∙ f))
 
-    pub value-string : (r : Scan) → getD b at 0 ≡ 0 → r ≡ scanned stringSize (pos + 1) (readString edition1 b (placed (at + 1))) → r ≡ scanned valueSize pos (readValue edition1 b (placed at))
+    pub value-string : (r : Scan) → getD b at 0 ≡ 0 → r ≡ scanned stringSize (pos + 1) (readString terms b (placed (at + 1))) → r ≡ scanned valueSize pos (readValue terms b (placed at))
     unfolding readValueOf kindOf firstWith pushKinds kindByte pick valueSize mapValue pushLength stringSize stringLength
-    value-string r e m = field-value 0 PushKind.String String stringSize (pos + 1) (readString edition1 b (placed (at + 1))) r e refl refl (λ s. omega arith) m
+    value-string r e m = field-value 0 PushKind.String String stringSize (pos + 1) (readString terms b (placed (at + 1))) r e refl refl (λ s. omega arith) m
 
-    pub value-null : getD b at 0 ≡ 2 → scan.Ends (at + 1) (record { 0 = pos + 1 }) ≡ scanned valueSize pos (readValue edition1 b (placed at))
+    pub value-null : getD b at 0 ≡ 2 → scan.Ends (at + 1) (record { 0 = pos + 1 }) ≡ scanned valueSize pos (readValue terms b (placed at))
     unfolding readValueOf readValueIf kindOf firstWith pushKinds kindByte pick valueSize mapValue pushLength
     value-null e = ends valueSize pos (value-if 2 (some PushKind.Null) e refl) refl
 
-    pub value-undefined : getD b at 0 ≡ 3 → scan.Ends (at + 1) (record { 0 = pos + 1 }) ≡ scanned valueSize pos (readValue edition1 b (placed at))
+    pub value-undefined : getD b at 0 ≡ 3 → scan.Ends (at + 1) (record { 0 = pos + 1 }) ≡ scanned valueSize pos (readValue terms b (placed at))
     unfolding readValueOf readValueIf kindOf firstWith pushKinds kindByte pick valueSize mapValue pushLength
     value-undefined e = ends valueSize pos (value-if 3 (some PushKind.Undefined) e refl) refl
 
-    pub value-register : (r : Scan) → getD b at 0 ≡ 4 → r ≡ scanned (λ _. 0) (pos + 2) (readBytes b 1 (placed (at + 1))) → r ≡ scanned valueSize pos (readValue edition1 b (placed at))
+    pub value-register : (r : Scan) → getD b at 0 ≡ 4 → r ≡ scanned (λ _. 0) (pos + 2) (readBytes b 1 (placed (at + 1))) → r ≡ scanned valueSize pos (readValue terms b (placed at))
     unfolding readValueOf kindOf firstWith pushKinds kindByte pick valueSize mapValue pushLength readBytes readU8
     value-register r e m = field-value 4 PushKind.Register Register (λ _. 0) (pos + 2) (readU8 b (placed (at + 1))) r e refl refl (λ s. omega arith) (m ∙ number-as _ _ _ _ _ _)
 
-    pub value-boolean : (r : Scan) → getD b at 0 ≡ 5 → r ≡ scanned (λ _. 0) (pos + 2) (readFlag b (placed (at + 1))) → r ≡ scanned valueSize pos (readValue edition1 b (placed at))
+    pub value-boolean : (r : Scan) → getD b at 0 ≡ 5 → r ≡ scanned (λ _. 0) (pos + 2) (readFlag b (placed (at + 1))) → r ≡ scanned valueSize pos (readValue terms b (placed at))
     unfolding readValueOf kindOf firstWith pushKinds kindByte pick valueSize mapValue pushLength
     value-boolean r e m = field-value 5 PushKind.Boolean Boolean (λ _. 0) (pos + 2) (readFlag b (placed (at + 1))) r e refl refl (λ s. omega arith) m
 
-    pub value-double : (r : Scan) → getD b at 0 ≡ 6 → r ≡ scanned (λ _. 0) (pos + 9) (readBytes b 8 (placed (at + 1))) → r ≡ scanned valueSize pos (readValue edition1 b (placed at))
+    pub value-double : (r : Scan) → getD b at 0 ≡ 6 → r ≡ scanned (λ _. 0) (pos + 9) (readBytes b 8 (placed (at + 1))) → r ≡ scanned valueSize pos (readValue terms b (placed at))
     unfolding readValueOf kindOf firstWith pushKinds kindByte pick valueSize mapValue pushLength readBytes readU64
     value-double r e m = field-value 6 PushKind.Float Float (λ _. 0) (pos + 9) (readU64 b (placed (at + 1))) r e refl refl (λ s. omega arith) (m ∙ number-as _ _ _ _ _ _)
 
-    pub value-integer : (r : Scan) → getD b at 0 ≡ 7 → r ≡ scanned (λ _. 0) (pos + 5) (readBytes b 4 (placed (at + 1))) → r ≡ scanned valueSize pos (readValue edition1 b (placed at))
+    pub value-integer : (r : Scan) → getD b at 0 ≡ 7 → r ≡ scanned (λ _. 0) (pos + 5) (readBytes b 4 (placed (at + 1))) → r ≡ scanned valueSize pos (readValue terms b (placed at))
     unfolding readValueOf kindOf firstWith pushKinds kindByte pick valueSize mapValue pushLength readBytes readU32
     value-integer r e m = field-value 7 PushKind.Integer Integer (λ _. 0) (pos + 5) (readU32 b (placed (at + 1))) r e refl refl (λ s. omega arith) (m ∙ number-as _ _ _ _ _ _)
 
-    pub value-constant : (r : Scan) → getD b at 0 ≡ 8 → r ≡ scanned constantSize pos (readU16 b (placed (at + 1))) → r ≡ scanned valueSize pos (readValue edition1 b (placed at))
+    pub value-constant : (r : Scan) → getD b at 0 ≡ 8 → r ≡ scanned constantSize pos (readU16 b (placed (at + 1))) → r ≡ scanned valueSize pos (readValue terms b (placed at))
     unfolding readValueOf kindOf firstWith pushKinds kindByte pick valueSize mapValue pushLength constantSize
     value-constant r e m = field-value 8 PushKind.Constant Constant constantSize pos (readU16 b (placed (at + 1))) r e refl refl (λ s. refl) m
 
     pub value-unknown : (getD b at 0 ≡ 0 → ⊥) → (getD b at 0 ≡ 2 → ⊥) → (getD b at 0 ≡ 3 → ⊥) → (getD b at 0 ≡ 4 → ⊥) → (getD b at 0 ≡ 5 → ⊥) → (getD b at 0 ≡ 6 → ⊥)
-        → (getD b at 0 ≡ 7 → ⊥) → (getD b at 0 ≡ 8 → ⊥) → scan.Stops fault.UnknownCode at ≡ scanned valueSize pos (readValue edition1 b (placed at))
+        → (getD b at 0 ≡ 7 → ⊥) → (getD b at 0 ≡ 8 → ⊥) → scan.Stops fault.UnknownCode at ≡ scanned valueSize pos (readValue terms b (placed at))
     unfolding readValueIf faultOf
     value-unknown n₀ n₂ n₃ n₄ n₅ n₆ n₇ n₈ = stops valueSize pos (value-if (getD b at 0) none refl (no-kind (getD b at 0) n₀ n₂ n₃ n₄ n₅ n₆ n₇ n₈))
       where

@@ -1,10 +1,12 @@
 // Lists of strings, of parameters and of push values: read, checked (3 to 5) and measured.
 ghost use mathlib.Core.Path.{_≡_};
 ghost use Prim.Native.Nat.{_≤_};
-ghost use Rattle.layout.specs.Read.{edition1, placed, readU16, readCounted, readValue};
+ghost use Rattle.layout.specs.Read.{placed, readU16, readCounted, readValue};
 ghost use Rattle.layout.specs.Lengths.{total};
 ghost use Rattle.positions.specs.Scanned.{scanned, Roomy};
+ghost use Rattle.editions.specs.Allowed.{termsOf};
 ghost use Rattle.lists.specs.Elements.{namedSize, readNamed, constantSize, valueSize};
+use editions::Terms;
 use fields::u16_at;
 use opcode::OpCode;
 use operands::scan_bytes;
@@ -15,20 +17,20 @@ use positions::Fault;
 use positions::Scan;
 
 // A string after `skip` bytes: 0, or 1 for a parameter's register.
-pub fn scan_named(b: &[u8], at: usize, skip: usize, pos: BytePosition) -> Scan
+pub fn scan_named(b: &[u8], terms: Terms, at: usize, skip: usize, pos: BytePosition) -> Scan
     requires { ⌜ Roomy (now b) at pos × (skip ≤ 1) ⌝ }
-    ensures { λ r. ⌜ r ≡ scanned (namedSize skip) (pos .0) (readNamed (now (b .entry)) skip (placed at)) ⌝ }
+    ensures { λ r. ⌜ r ≡ scanned (namedSize skip) (pos .0) (readNamed (termsOf terms) (now (b .entry)) skip (placed at)) ⌝ }
 {
     if b.len() - at < skip {
         return Scan::Stops(Fault::CutShort, at);
     }
-    scan_string(b, at + skip, BytePosition(pos.0 + skip))
+    scan_string(b, terms, at + skip, BytePosition(pos.0 + skip))
 }
 
 // A count, then that many strings, each after `skip` bytes; `pos` is the position after the written count.
-pub fn scan_strings(b: &[u8], at: usize, skip: usize, pos: BytePosition) -> Scan
+pub fn scan_strings(b: &[u8], terms: Terms, at: usize, skip: usize, pos: BytePosition) -> Scan
     requires { ⌜ Roomy (now b) at pos × (skip ≤ 1) ⌝ }
-    ensures { λ r. ⌜ r ≡ scanned (total (namedSize skip)) (pos .0) (readCounted (now (b .entry)) (readNamed (now (b .entry)) skip) (placed at)) ⌝ }
+    ensures { λ r. ⌜ r ≡ scanned (total (namedSize skip)) (pos .0) (readCounted (now (b .entry)) (readNamed (termsOf terms) (now (b .entry)) skip) (placed at)) ⌝ }
 {
     if b.len() - at < 2 {
         return Scan::Stops(Fault::CutShort, at);
@@ -37,7 +39,7 @@ pub fn scan_strings(b: &[u8], at: usize, skip: usize, pos: BytePosition) -> Scan
     let mut p = at + 2;
     let mut w = pos;
     while 0 < left {
-        match scan_named(b, p, skip, w) {
+        match scan_named(b, terms, p, skip, w) {
             Scan::Stops(f, q) => {
                 return Scan::Stops(f, q);
             }
@@ -64,16 +66,16 @@ fn scan_constant(b: &[u8], at: usize, pos: BytePosition) -> Scan
 }
 
 // A push value: its kind, then what the kind says.
-pub fn scan_push_value(b: &[u8], at: usize, pos: BytePosition) -> Scan
+pub fn scan_push_value(b: &[u8], terms: Terms, at: usize, pos: BytePosition) -> Scan
     requires { ⌜ Roomy (now b) at pos ⌝ }
-    ensures { λ r. ⌜ r ≡ scanned valueSize (pos .0) (readValue edition1 (now (b .entry)) (placed at)) ⌝ }
+    ensures { λ r. ⌜ r ≡ scanned valueSize (pos .0) (readValue (termsOf terms) (now (b .entry)) (placed at)) ⌝ }
 {
     if b.len() <= at {
         return Scan::Stops(Fault::CutShort, at);
     }
     let p = at + 1;
     match b[at] {
-        0 => scan_string(b, p, BytePosition(pos.0 + OpCode::PUSH_KIND_LEN)),
+        0 => scan_string(b, terms, p, BytePosition(pos.0 + OpCode::PUSH_KIND_LEN)),
         2 => Scan::Ends(p, BytePosition(pos.0 + OpCode::PUSH_KIND_LEN)),
         3 => Scan::Ends(p, BytePosition(pos.0 + OpCode::PUSH_KIND_LEN)),
         4 => scan_bytes(b, p, 1, BytePosition(pos.0 + OpCode::PUSH_U8_LEN)),
@@ -86,9 +88,9 @@ pub fn scan_push_value(b: &[u8], at: usize, pos: BytePosition) -> Scan
 }
 
 // A count, then that many push values.
-pub fn scan_push(b: &[u8], at: usize, pos: BytePosition) -> Scan
+pub fn scan_push(b: &[u8], terms: Terms, at: usize, pos: BytePosition) -> Scan
     requires { ⌜ Roomy (now b) at pos ⌝ }
-    ensures { λ r. ⌜ r ≡ scanned (total valueSize) (pos .0) (readCounted (now (b .entry)) (readValue edition1 (now (b .entry))) (placed at)) ⌝ }
+    ensures { λ r. ⌜ r ≡ scanned (total valueSize) (pos .0) (readCounted (now (b .entry)) (readValue (termsOf terms) (now (b .entry))) (placed at)) ⌝ }
 {
     if b.len() - at < 2 {
         return Scan::Stops(Fault::CutShort, at);
@@ -97,7 +99,7 @@ pub fn scan_push(b: &[u8], at: usize, pos: BytePosition) -> Scan
     let mut p = at + 2;
     let mut w = pos;
     while 0 < left {
-        match scan_push_value(b, p, w) {
+        match scan_push_value(b, terms, p, w) {
             Scan::Stops(f, q) => {
                 return Scan::Stops(f, q);
             }

@@ -11,7 +11,7 @@ use Rattle.layout.specs.Lists.{pick}
 use Rattle.layout.specs.OpCode.{byte}
 use Rattle.layout.specs.Answers as answers
 use Rattle.layout.specs.Tree.{FlatOf, OwnerOf, With, DefineFunction, DefineFunction2, ActionOf, flat, branch, Branch, owner, ActionsOf}
-use Rattle.layout.specs.Read.{Text, Place, placed, Read, got, bad, Reader, chain, repeat}
+use Rattle.layout.specs.Read.{Text, Terms, Place, placed, Read, got, bad, Reader, chain, repeat}
 use Rattle.layout.specs.Strings.{mapFlat, mapOwner, mapAction, mapBody}
 use Rattle.layout.specs.Payload.{opcode, payload, ownerFields}
 use Rattle.layout.specs.Write.{size, bodySize, Position, position, Event, moved, homeIn, toBody, payloadTest, bodyTest, trace, traceBody}
@@ -54,54 +54,55 @@ module _ {A : Type 0} (read : Reader (ActionsOf Text ℕ) → Read (ActionOf Tex
   abbrev Reads : Read A → Type 0
   Reads x = (inner : Reader (ActionsOf Text ℕ)) → read inner ≡ chain x (λ a q. got (flat (g a)) q)
 
-  long-got : (a : A) (q : Place) → Reads (got a q) → Long (g a)
-      → Laying read at end pos over (notedFrom (pos + 3) (scanned s w (got a q)) over) (laidAs 0 (scanned s w (got a q)))
-  unfolding scanned laidAs pick notedFrom
-  long-got a q h l =
-      Laying.flat {q = q .at} {w = record { 0 = w + s a }}
-      (λ inner tab home. outcome-got actionSize actionTrace (position pos home) (state tab over) (h inner) (omega (arith, is-size a, flat-size (g a) l))
-      (ap (λ (n : ℕ). state tab (notedIf 8 n over)) (omega (arith, is-size a)) ∙ sym (flat-run (g a) (position pos home) tab over)))
-      (λ inner home. measured-got actionSize actionTrace (position pos home) (h inner) (omega (arith, is-size a, flat-size (g a) l)) (flat-branches (g a) (position pos home)))
+  module _ {bound : ℕ} where
+    long-got : (a : A) (q : Place) → Reads (got a q) → Long (g a)
+        → Laying bound read at end pos over (notedFrom (pos + 3) (scanned s w (got a q)) over) (laidAs 0 (scanned s w (got a q)))
+    unfolding scanned laidAs pick notedFrom
+    long-got a q h l =
+        Laying.flat {q = q .at} {w = record { 0 = w + s a }}
+        (λ inner tab home. outcome-got actionSize actionTrace (position pos home) (state tab over) (h inner) (omega (arith, is-size a, flat-size (g a) l))
+        (ap (λ (n : ℕ). state tab (notedIf 8 n over)) (omega (arith, is-size a)) ∙ sym (flat-run (g a) (position pos home) tab over)))
+        (λ inner home. measured-got actionSize actionTrace (position pos home) (h inner) (omega (arith, is-size a, flat-size (g a) l)) (flat-branches (g a) (position pos home)))
 
-  flat-got : (a : A) (q : Place) → Reads (got a q) → Long (g a) → flatSize (g a) ≤ 65535 → Laying read at end pos over over (laidAs 0 (scanned s w (got a q)))
-  unfolding scanned laidAs pick
-  flat-got a q h l short =
-      Laying.flat {q = q .at} {w = record { 0 = w + s a }}
-      (λ inner tab home. outcome-got actionSize actionTrace (position pos home) (state tab over) (h inner) (omega (arith, is-size a, flat-size (g a) l))
-      (ap (state tab) (noted-short 8 (flatSize (g a)) over short) ∙ sym (flat-run (g a) (position pos home) tab over)))
-      (λ inner home. measured-got actionSize actionTrace (position pos home) (h inner) (omega (arith, is-size a, flat-size (g a) l)) (flat-branches (g a) (position pos home)))
+    flat-got : (a : A) (q : Place) → Reads (got a q) → Long (g a) → flatSize (g a) ≤ 65535 → Laying bound read at end pos over over (laidAs 0 (scanned s w (got a q)))
+    unfolding scanned laidAs pick
+    flat-got a q h l short =
+        Laying.flat {q = q .at} {w = record { 0 = w + s a }}
+        (λ inner tab home. outcome-got actionSize actionTrace (position pos home) (state tab over) (h inner) (omega (arith, is-size a, flat-size (g a) l))
+        (ap (state tab) (noted-short 8 (flatSize (g a)) over short) ∙ sym (flat-run (g a) (position pos home) tab over)))
+        (λ inner home. measured-got actionSize actionTrace (position pos home) (h inner) (omega (arith, is-size a, flat-size (g a) l)) (flat-branches (g a) (position pos home)))
 
-  flat-bad : (f : answers.Fault) (q : Place) (over′ : List ℕ) → Reads (bad f q) → Laying read at end pos over over′ (laidAs 0 (scanned s w (bad f q)))
-  unfolding scanned laidAs outcome
-  flat-bad f q over′ h = Laying.stops {f = faultOf f} {q = q .at} (λ inner t home. rw (h inner))
+    flat-bad : (f : answers.Fault) (q : Place) (over′ : List ℕ) → Reads (bad f q) → Laying bound read at end pos over over′ (laidAs 0 (scanned s w (bad f q)))
+    unfolding scanned laidAs outcome
+    flat-bad f q over′ h = Laying.stops {f = faultOf f} {q = q .at} (λ inner t home. rw (h inner))
 
-  -- its payload may be too long
-  pub lay-long : (x : Read A) → Reads x → ((a : A) (q : Place) → x ≡ got a q → Long (g a)) → (over′ : List ℕ) (r : Scan) (l : Laid)
-      → r ≡ scanned s w x → l ≡ laidAs 0 r → over′ ≡ notedFrom (pos + 3) r over → Laying read at end pos over over′ l
-  lay-long x h k over′ r l e m n = rw (m, n, e) (go x h k)
-    where
-      go : (x : Read A) → Reads x → ((a : A) (q : Place) → x ≡ got a q → Long (g a)) → Laying read at end pos over (notedFrom (pos + 3) (scanned s w x) over) (laidAs 0 (scanned s w x))
-      go (got a q) h k = long-got a q h (k a q refl)
-      go (bad f q) h k = flat-bad f q _ h
+    -- its payload may be too long
+    pub lay-long : (x : Read A) → Reads x → ((a : A) (q : Place) → x ≡ got a q → Long (g a)) → (over′ : List ℕ) (r : Scan) (l : Laid)
+        → r ≡ scanned s w x → l ≡ laidAs 0 r → over′ ≡ notedFrom (pos + 3) r over → Laying bound read at end pos over over′ l
+    lay-long x h k over′ r l e m n = rw (m, n, e) (go x h k)
+      where
+        go : (x : Read A) → Reads x → ((a : A) (q : Place) → x ≡ got a q → Long (g a)) → Laying bound read at end pos over (notedFrom (pos + 3) (scanned s w x) over) (laidAs 0 (scanned s w x))
+        go (got a q) h k = long-got a q h (k a q refl)
+        go (bad f q) h k = flat-bad f q _ h
 
-  -- it never is
-  pub lay-flat : (x : Read A) → Reads x → ((a : A) (q : Place) → x ≡ got a q → Long (g a) × (flatSize (g a) ≤ 65535)) → (r : Scan) (l : Laid)
-      → r ≡ scanned s w x → l ≡ laidAs 0 r → Laying read at end pos over over l
-  lay-flat x h k r l e m = rw (m, e) (go x h k)
-    where
-      go : (x : Read A) → Reads x → ((a : A) (q : Place) → x ≡ got a q → Long (g a) × (flatSize (g a) ≤ 65535)) → Laying read at end pos over over (laidAs 0 (scanned s w x))
-      go (got a q) h k = flat-got a q h (k a q refl .0) (k a q refl .1)
-      go (bad f q) h k = flat-bad f q over h
+    -- it never is
+    pub lay-flat : (x : Read A) → Reads x → ((a : A) (q : Place) → x ≡ got a q → Long (g a) × (flatSize (g a) ≤ 65535)) → (r : Scan) (l : Laid)
+        → r ≡ scanned s w x → l ≡ laidAs 0 r → Laying bound read at end pos over over l
+    lay-flat x h k r l e m = rw (m, e) (go x h k)
+      where
+        go : (x : Read A) → Reads x → ((a : A) (q : Place) → x ≡ got a q → Long (g a) × (flatSize (g a) ≤ 65535)) → Laying bound read at end pos over over (laidAs 0 (scanned s w x))
+        go (got a q) h k = flat-got a q h (k a q refl .0) (k a q refl .1)
+        go (bad f q) h k = flat-bad f q over h
 
 -- ---- a branch
 
-module _ (read : Reader (ActionsOf Text ℕ) → Read (ActionOf Text ℕ)) (k : Branch) (x : Read ℕ) (is-read : (inner : Reader (ActionsOf Text ℕ)) → read inner ≡ chain x (λ l q. got (branch k l) q))
-    (under : (l : ℕ) (q : Place) → x ≡ got l q → l < 1024) where
-  pub lay-branch : (at end pos w : ℕ) (over : List ℕ) (l : Laid) → w ≡ pos + 3 → l ≡ branchLaid w x → Laying read at end pos over over l
+module _ {bound : ℕ} (read : Reader (ActionsOf Text ℕ) → Read (ActionOf Text ℕ)) (k : Branch) (x : Read ℕ) (is-read : (inner : Reader (ActionsOf Text ℕ)) → read inner ≡ chain x (λ l q. got (branch k l) q))
+    (under : (l : ℕ) (q : Place) → x ≡ got l q → l < bound) where
+  pub lay-branch : (at end pos w : ℕ) (over : List ℕ) (l : Laid) → w ≡ pos + 3 → l ≡ branchLaid w x → Laying bound read at end pos over over l
   lay-branch at end pos w over l f m = rw (m, f) (go x is-read under)
     where
-      go : (x : Read ℕ) → ((inner : Reader (ActionsOf Text ℕ)) → read inner ≡ chain x (λ l q. got (branch k l) q)) → ((l : ℕ) (q : Place) → x ≡ got l q → l < 1024)
-          → Laying read at end pos over over (branchLaid (pos + 3) x)
+      go : (x : Read ℕ) → ((inner : Reader (ActionsOf Text ℕ)) → read inner ≡ chain x (λ l q. got (branch k l) q)) → ((l : ℕ) (q : Place) → x ≡ got l q → l < bound)
+          → Laying bound read at end pos over over (branchLaid (pos + 3) x)
       go (got n q) h u = unfold branchLaid in Laying.to-label {q = q .at} {label = n} {w = record { 0 = pos + 3 + 2 }} {k = k} (omega arith) (u n q refl) refl h
       go (bad f q) h u = unfold branchLaid in Laying.stops {f = faultOf f} {q = q .at} (λ inner t home. unfold outcome in rw (h inner))
 
@@ -204,15 +205,15 @@ function-home With k s = absurd k
 function-home (DefineFunction name ps) k s = refl
 function-home (DefineFunction2 name ps r f) k s = refl
 
-module _ (read : Reader (ActionsOf Text ℕ) → Read (ActionOf Text ℕ)) (x : Read (OwnerOf Text))
+module _ {bound : ℕ} (read : Reader (ActionsOf Text ℕ) → Read (ActionOf Text ℕ)) (x : Read (OwnerOf Text))
     (is-read : (inner : Reader (ActionsOf Text ℕ)) → read inner ≡ chain x (λ o q. chain (inner q) (λ y r. got (owner o y) r)))
     (at end pos : ℕ) (onward : (o : OwnerOf Text) (q : Place) → x ≡ got o q → IsFunction o × Onward at end pos (q .at) (pos + 3 + ownerSize o)) where
-  pub lay-function : (over over′ : List ℕ) (r : Scan) (l : Laid) → r ≡ scanned ownerSize (pos + 3) x → l ≡ laidFunction r → over′ ≡ notedFrom (pos + 3) r over → Laying read at end pos over over′ l
+  pub lay-function : (over over′ : List ℕ) (r : Scan) (l : Laid) → r ≡ scanned ownerSize (pos + 3) x → l ≡ laidFunction r → over′ ≡ notedFrom (pos + 3) r over → Laying bound read at end pos over over′ l
   lay-function over over′ r l e m n = rw (m, n, e) (go x is-read onward)
     where
       go : (x : Read (OwnerOf Text)) → ((inner : Reader (ActionsOf Text ℕ)) → read inner ≡ chain x (λ o q. chain (inner q) (λ y r. got (owner o y) r)))
           → ((o : OwnerOf Text) (q : Place) → x ≡ got o q → IsFunction o × Onward at end pos (q .at) (pos + 3 + ownerSize o))
-          → Laying read at end pos over (notedFrom (pos + 3) (scanned ownerSize (pos + 3) x) over) (laidFunction (scanned ownerSize (pos + 3) x))
+          → Laying bound read at end pos over (notedFrom (pos + 3) (scanned ownerSize (pos + 3) x) over) (laidFunction (scanned ownerSize (pos + 3) x))
       go (got o q) h i =
           unfold scanned laidFunction notedFrom in
           Laying.function {q = q .at} {w = record { 0 = pos + 3 + ownerSize o }}
@@ -270,13 +271,13 @@ scanned-from-start s from w x r e h = rw e (go x)
     go (bad f q) = unfold scanned in tt
 
 -- a Try whose shape was scanned has one
-pub caught-inside : (b : List ℕ) (at pos q : ℕ) (w : BytePosition) (r : Scan) → r ≡ scanned caughtSize pos (readCaught b (placed at)) → r ≡ scan.Ends q w → at < length b
-caught-inside b at pos q w r e f = go (ltb at (length b)) refl
+pub caught-inside : (terms : Terms) (b : List ℕ) (at pos q : ℕ) (w : BytePosition) (r : Scan) → r ≡ scanned caughtSize pos (readCaught terms b (placed at)) → r ≡ scan.Ends q w → at < length b
+caught-inside terms b at pos q w r e f = go (ltb at (length b)) refl
   where
     go : (t : Bool) → ltb at (length b) ≡ t → at < length b
     go true h = ltb-true at (length b) h
     go false h =
-        let x = caught-out b at pos (omega (arith, ltb-false at (length b) h)) in
+        let x = caught-out terms b at pos (omega (arith, ltb-false at (length b) h)) in
         let z : _≡_ {A = ℕ} 0 1 = cc in
         absurd (omega arith)
 

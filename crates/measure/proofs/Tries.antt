@@ -12,7 +12,7 @@ use Rattle.layout.specs.Numbers.{bit}
 use Rattle.layout.specs.OpCode.{OpCode}
 use Rattle.layout.specs.Answers as answers
 use Rattle.layout.specs.Tree.{CatchTargetOf, Variable, Register, ActionOf, Try, ActionsOf, CatchOf, noCatch, catch, FinallyOf, noFinally, finally}
-use Rattle.layout.specs.Read.{Text, plain, edition1, Place, placed, ahead, Read, got, bad, Reader, chain, ifWhole, repeat, tested, isShape, readU8, hasCatch, hasFinally, hasRegister, readCatchTarget, readCatch, readFinally, readTry, readFields}
+use Rattle.layout.specs.Read.{Text, plain, Terms, Place, placed, ahead, Read, got, bad, Reader, chain, ifWhole, repeat, tested, isShape, readU8, hasCatch, hasFinally, hasRegister, readCatchTarget, readCatch, readFinally, readTry, readFields}
 use Rattle.layout.specs.Strings.{mapTarget, mapAction, mapBody, mapCatch, mapFinally}
 use Rattle.layout.specs.Payload.{catchName}
 use Rattle.layout.specs.Write.{size, catchSize, finallySize, Position, position, Event, moved, toTry, payloadTest, bodyTest, trace, traceBody, traceCatch, traceFinally}
@@ -186,11 +186,11 @@ count-is n =
     omega (arith, count-bits (eqb (n % 2) 1) (eqb (n / 2 % 2) 1), c, f)
 
 -- whatever is told of a whole Try and of its bodies alike, its name m bytes long
-module _ {O : Type 0} (b : List ℕ) (inner : Reader (ActionsOf Text ℕ)) (target : CatchTargetOf Text) (m : ℕ) (whole : Read (ActionOf Text ℕ) → O) (parts : Read (List (ActionsOf Text ℕ)) → O)
+module _ {O : Type 0} (terms : Terms) (b : List ℕ) (inner : Reader (ActionsOf Text ℕ)) (target : CatchTargetOf Text) (m : ℕ) (whole : Read (ActionOf Text ℕ) → O) (parts : Read (List (ActionsOf Text ℕ)) → O)
     (try-alike : (t : ActionsOf Text ℕ) (c : CatchOf Text ℕ) (f : FinallyOf Text ℕ) → nameLength (mapCatch spelling c) ≡ m → (r : Place) → whole (got (Try t c f) r) ≡ parts (got (tryBodies t c f) r))
     (no-fault : (f : answers.Fault) (p : Place) → whole (bad f p) ≡ parts (bad f p)) where
   abbrev after-try : Bool → Bool → ActionsOf Text ℕ → Reader (ActionOf Text ℕ)
-  after-try c f t r = chain (readCatch edition1 b inner c target r) (λ x u. chain (readFinally edition1 b inner f u) (λ y v. got (Try t x y) v))
+  after-try c f t r = chain (readCatch terms b inner c target r) (λ x u. chain (readFinally terms b inner f u) (λ y v. got (Try t x y) v))
 
   -- the bodies after the first
   one : nameLength (mapCatch spelling noCatch) ≡ m → (t : ActionsOf Text ℕ) (r : Place) → whole (after-try false false t r) ≡ parts (got (t ∷ []) r)
@@ -214,7 +214,7 @@ module _ {O : Type 0} (b : List ℕ) (inner : Reader (ActionsOf Text ℕ)) (targ
   unfolding readCatch
   both h t (got x u) r e = rw e (last (inner u) refl)
     where
-      last : (z : Read (ActionsOf Text ℕ)) → inner u ≡ z → whole (chain (readFinally edition1 b inner true u) (λ y v. got (Try t (catch target x) y) v)) ≡ parts (chain z (λ z v. got (t ∷ x ∷ z ∷ []) v))
+      last : (z : Read (ActionsOf Text ℕ)) → inner u ≡ z → whole (chain (readFinally terms b inner true u) (λ y v. got (Try t (catch target x) y) v)) ≡ parts (chain z (λ z v. got (t ∷ x ∷ z ∷ []) v))
       last (got z v) g = unfold readFinally in rw g (try-alike t (catch target x) (finally z) (h x) v)
       last (bad f v) g = unfold readFinally in rw g (no-fault f v)
   both h t (bad f u) r e = rw e (no-fault f u)
@@ -264,7 +264,7 @@ module _ {O : Type 0} (b : List ℕ) (inner : Reader (ActionsOf Text ℕ)) (targ
 
 -- ---- what the payload says
 
-module _ (b : List ℕ) (small : Bytes b) where
+module _ (terms : Terms) (b : List ℕ) (small : Bytes b) where
   -- the byte that was read
   byte-read : (p : Place) → p .at ≤ length b → Good (length b) (λ n q. (n ≡ getD b (p .at) 0) × (q .at ≡ p .at + 1)) (readU8 b p)
   unfolding readU8 ifWhole
@@ -275,35 +275,35 @@ module _ (b : List ℕ) (small : Bytes b) where
       go false h = unfold ifWhole in refused l
 
   -- without a catch one zero byte stands for the name
-  one-byte : (c r : Bool) (p : Place) → p .at ≤ length b → Good (length b) (λ t q. (c ≡ false → targetSize t ≡ 1) × (targetSize t + p .at ≤ q .at + 2) × (p .at ≤ q .at)) (readCatchTarget edition1 b c r p)
+  one-byte : (c r : Bool) (p : Place) → p .at ≤ length b → Good (length b) (λ t q. (c ≡ false → targetSize t ≡ 1) × (targetSize t + p .at ≤ q .at + 2) × (p .at ≤ q .at)) (readCatchTarget terms b c r p)
   unfolding readCatchTarget targetSize stringSize stringLength spelling
   one-byte true true p l = good-then (u8-good b small p l) (λ n q h m. fine ((λ e. absurd (false≢true (sym e))), omega (arith, h .1), omega (arith, h .1)) m)
-  one-byte true false p l = good-then (text-good edition1 b small spelling (Unit {0}) (spells b small edition1) p l) (λ s q h m. fine ((λ e. absurd (false≢true (sym e))), omega (arith, h .1 tt), h .2) m)
+  one-byte true false p l = good-then (text-good terms b small spelling (Unit {0}) (spells b small terms) p l) (λ s q h m. fine ((λ e. absurd (false≢true (sym e))), omega (arith, h .1 tt), h .2) m)
   one-byte false r p l = fine {a = Variable (plain [])} {p = p} ((λ e. refl), omega arith, omega arith) l
 
   pub caught-good : (p : Place) → p .at ≤ length b
-      → Good (length b) (λ x q. (x .0 ≡ getD b (p .at) 0) × (hasCatch (x .0) ≡ false → targetSize (x .1) ≡ 1) × (targetSize (x .1) + p .at ≤ q .at + 1) × (p .at ≤ q .at)) (readCaught b p)
+      → Good (length b) (λ x q. (x .0 ≡ getD b (p .at) 0) × (hasCatch (x .0) ≡ false → targetSize (x .1) ≡ 1) × (targetSize (x .1) + p .at ≤ q .at + 1) × (p .at ≤ q .at)) (readCaught terms b p)
   unfolding readCaught
   caught-good p l =
       good-then (tested-good b small isShape (readU8 b) p l (byte-read p l))
       (λ n q h m. good-then (one-byte (hasCatch n) (hasRegister n) q m) (λ t r k o. fine {a = (n, t)} {p = r} (h .0 .0, k .0, omega (arith, h .0 .1, k .1), omega (arith, h .0 .1, k .2)) o))
 
 -- a Try's fields are its shape, its target and its bodies
-try-fields : (b : List ℕ) (inner : Reader (ActionsOf Text ℕ)) (p : Place)
-    → readFields edition1 b inner OpCode.Try p
-    ≡ chain (readCaught b p) (λ x q. chain (inner q) (λ t r. chain (readCatch edition1 b inner (hasCatch (x .0)) (x .1) r) (λ c u. chain (readFinally edition1 b inner (hasFinally (x .0)) u) (λ f v. got (Try t c f) v))))
+try-fields : (terms : Terms) (b : List ℕ) (inner : Reader (ActionsOf Text ℕ)) (p : Place)
+    → readFields terms b inner OpCode.Try p
+    ≡ chain (readCaught terms b p) (λ x q. chain (inner q) (λ t r. chain (readCatch terms b inner (hasCatch (x .0)) (x .1) r) (λ c u. chain (readFinally terms b inner (hasFinally (x .0)) u) (λ f v. got (Try t c f) v))))
 unfolding readFields readCaught readTry
-try-fields b inner p = go (tested isShape (readU8 b) p)
+try-fields terms b inner p = go (tested isShape (readU8 b) p)
   where
     rest : (n : ℕ) (y : Read (CatchTargetOf Text))
-        → chain y (λ t q. chain (inner q) (λ x r. chain (readCatch edition1 b inner (hasCatch n) t r) (λ c u. chain (readFinally edition1 b inner (hasFinally n) u) (λ f v. got (Try x c f) v))))
-        ≡ chain (chain {B = ℕ × CatchTargetOf Text} y (λ t q. got (n, t) q)) (λ x q. chain (inner q) (λ t r. chain (readCatch edition1 b inner (hasCatch (x .0)) (x .1) r) (λ c u. chain (readFinally edition1 b inner (hasFinally (x .0)) u) (λ f v. got (Try t c f) v))))
+        → chain y (λ t q. chain (inner q) (λ x r. chain (readCatch terms b inner (hasCatch n) t r) (λ c u. chain (readFinally terms b inner (hasFinally n) u) (λ f v. got (Try x c f) v))))
+        ≡ chain (chain {B = ℕ × CatchTargetOf Text} y (λ t q. got (n, t) q)) (λ x q. chain (inner q) (λ t r. chain (readCatch terms b inner (hasCatch (x .0)) (x .1) r) (λ c u. chain (readFinally terms b inner (hasFinally (x .0)) u) (λ f v. got (Try t c f) v))))
     rest n (got t q) = refl
     rest n (bad f q) = refl
 
-    go : (y : Read ℕ) → chain y (λ n q. chain (readCatchTarget edition1 b (hasCatch n) (hasRegister n) q) (λ t q. chain (inner q) (λ x r. chain (readCatch edition1 b inner (hasCatch n) t r) (λ c u. chain (readFinally edition1 b inner (hasFinally n) u) (λ f v. got (Try x c f) v)))))
-        ≡ chain (chain {B = ℕ × CatchTargetOf Text} y (λ n q. chain (readCatchTarget edition1 b (hasCatch n) (hasRegister n) q) (λ t q. got (n, t) q))) (λ x q. chain (inner q) (λ t r. chain (readCatch edition1 b inner (hasCatch (x .0)) (x .1) r) (λ c u. chain (readFinally edition1 b inner (hasFinally (x .0)) u) (λ f v. got (Try t c f) v))))
-    go (got n q) = rest n (readCatchTarget edition1 b (hasCatch n) (hasRegister n) q)
+    go : (y : Read ℕ) → chain y (λ n q. chain (readCatchTarget terms b (hasCatch n) (hasRegister n) q) (λ t q. chain (inner q) (λ x r. chain (readCatch terms b inner (hasCatch n) t r) (λ c u. chain (readFinally terms b inner (hasFinally n) u) (λ f v. got (Try x c f) v)))))
+        ≡ chain (chain {B = ℕ × CatchTargetOf Text} y (λ n q. chain (readCatchTarget terms b (hasCatch n) (hasRegister n) q) (λ t q. got (n, t) q))) (λ x q. chain (inner q) (λ t r. chain (readCatch terms b inner (hasCatch (x .0)) (x .1) r) (λ c u. chain (readFinally terms b inner (hasFinally (x .0)) u) (λ f v. got (Try t c f) v))))
+    go (got n q) = rest n (readCatchTarget terms b (hasCatch n) (hasRegister n) q)
     go (bad f q) = refl
 
 laid-some : (n q : ℕ) (w : BytePosition) → 1 ≤ n → laidAs n (scan.Ends q w) ≡ laid.Bodies q w n
@@ -315,42 +315,42 @@ unfolding bodiesAfter
 after-some n = omega arith
 
 -- a Try whose shape and target were read is told of as its bodies are
-module _ (b : List ℕ) (p pos home : ℕ) (x : ℕ × CatchTargetOf Text) (q : Place) (is-read : readCaught b (placed p) ≡ got x q) (inner : Reader (ActionsOf Text ℕ)) (one-byte : hasCatch (x .0) ≡ false → 1 ≡ targetSize (x .1)) where
+module _ (terms : Terms) (b : List ℕ) (p pos home : ℕ) (x : ℕ × CatchTargetOf Text) (q : Place) (is-read : readCaught terms b (placed p) ≡ got x q) (inner : Reader (ActionsOf Text ℕ)) (one-byte : hasCatch (x .0) ≡ false → 1 ≡ targetSize (x .1)) where
   abbrev named : ℕ
   named = targetSize (x .1)
 
   alike : {O : Type 0} (whole : Read (ActionOf Text ℕ) → O) (parts : Read (List (ActionsOf Text ℕ)) → O)
       → ((t : ActionsOf Text ℕ) (c : CatchOf Text ℕ) (f : FinallyOf Text ℕ) → nameLength (mapCatch spelling c) ≡ named → (r : Place) → whole (got (Try t c f) r) ≡ parts (got (tryBodies t c f) r))
       → ((f : answers.Fault) (r : Place) → whole (bad f r) ≡ parts (bad f r))
-      → whole (readFields edition1 b inner OpCode.Try (placed p)) ≡ parts (repeat inner (count (hasCatch (x .0)) (hasFinally (x .0))) q)
+      → whole (readFields terms b inner OpCode.Try (placed p)) ≡ parts (repeat inner (count (hasCatch (x .0)) (hasFinally (x .0))) q)
   alike whole parts h k =
-      rw (try-fields b inner (placed p), is-read) (try-bodies b inner (x .1) named whole parts h k (hasCatch (x .0)) (hasFinally (x .0)) q (λ c y. name-size (x .1) y) (λ c. no-name ∙ one-byte c))
+      rw (try-fields terms b inner (placed p), is-read) (try-bodies terms b inner (x .1) named whole parts h k (hasCatch (x .0)) (hasFinally (x .0)) q (λ c y. name-size (x .1) y) (λ c. no-name ∙ one-byte c))
     where
       no-name : nameLength (mapCatch spelling noCatch) ≡ 1
       no-name = unfold nameLength mapCatch in refl
 
   try-outcome : (over : List ℕ) (tab : Tables)
-      → outcome actionSize actionTrace (position pos home) (state tab over) (readFields edition1 b inner OpCode.Try (placed p))
+      → outcome actionSize actionTrace (position pos home) (state tab over) (readFields terms b inner OpCode.Try (placed p))
       ≡ outcome (total bodyLength) bodiesEvents (position (pos + 3 + (7 + named)) home) (state tab (notedIf 8 (7 + named) over)) (repeat inner (count (hasCatch (x .0)) (hasFinally (x .0))) q)
   try-outcome over tab =
       alike (outcome actionSize actionTrace (position pos home) (state tab over)) (outcome (total bodyLength) bodiesEvents (position (pos + 3 + (7 + named)) home) (state tab (notedIf 8 (7 + named) over)))
       (λ t c f h r. try-done t c f named pos (pos + 3 + (7 + named)) home h refl tab over r) (λ f r. unfold outcome in refl)
 
-  pub try-measure : measured actionSize actionTrace (position pos home) (readFields edition1 b inner OpCode.Try (placed p))
+  pub try-measure : measured actionSize actionTrace (position pos home) (readFields terms b inner OpCode.Try (placed p))
       ≡ measured (total bodyLength) inBodies (position (pos + 3 + (7 + named)) home) (repeat inner (count (hasCatch (x .0)) (hasFinally (x .0))) q)
   try-measure =
       alike (measured actionSize actionTrace (position pos home)) (measured (total bodyLength) inBodies (position (pos + 3 + (7 + named)) home))
       (λ t c f h r. try-measured t c f named pos (pos + 3 + (7 + named)) home h refl r) (λ f r. unfold measured in refl)
 
-module _ (b : List ℕ) (small : Bytes b) (at p pos : ℕ) (is-next : p ≡ at + 1) (inside : p ≤ length b) (over over′ : List ℕ) (l : Laid) where
+module _ (terms : Terms) (b : List ℕ) (small : Bytes b) (at p pos : ℕ) (is-next : p ≡ at + 1) (inside : p ≤ length b) (over over′ : List ℕ) (l : Laid) where
   onward : (x : ℕ × CatchTargetOf Text) (q : Place) → (x .0 ≡ getD b p 0) × (hasCatch (x .0) ≡ false → targetSize (x .1) ≡ 1) × (targetSize (x .1) + p ≤ q .at + 1) × (p ≤ q .at) → q .at ≤ length b
       → Onward at (length b) pos (q .at) (pos + 3 + caughtSize x)
   unfolding caughtSize
   onward x q g o = record { beyond = omega (arith, is-next, g .3); within = o; written = omega (arith, is-next, g .2, g .3) }
 
-  lay-caught : (x : ℕ × CatchTargetOf Text) (q : Place) → readCaught b (placed p) ≡ got x q
+  lay-caught : (x : ℕ × CatchTargetOf Text) (q : Place) → readCaught terms b (placed p) ≡ got x q
       → (x .0 ≡ getD b p 0) × (hasCatch (x .0) ≡ false → targetSize (x .1) ≡ 1) × (targetSize (x .1) + p ≤ q .at + 1) × (p ≤ q .at) → q .at ≤ length b
-      → Laying (λ inner. readFields edition1 b inner OpCode.Try (placed p)) at (length b) pos over (notedFrom (pos + 3) (scanned caughtSize (pos + 3) (got x q)) over)
+      → Laying (terms .labelBound) (λ inner. readFields terms b inner OpCode.Try (placed p)) at (length b) pos over (notedFrom (pos + 3) (scanned caughtSize (pos + 3) (got x q)) over)
       (laidAs (bodiesAfter (getD b p 0)) (scanned caughtSize (pos + 3) (got x q)))
   unfolding scanned notedFrom caughtSize
   lay-caught x q e g o =
@@ -359,25 +359,25 @@ module _ (b : List ℕ) (small : Bytes b) (at p pos : ℕ) (is-next : p ≡ at +
       rw (laid-some (bodiesAfter (getD b p 0)) (q .at) (record { 0 = pos + 3 + caughtSize x }) (after-some (getD b p 0)))
       (Laying.bodies {q = q .at} {n = bodiesAfter (getD b p 0)} {w = record { 0 = pos + 3 + caughtSize x }} (after-some (getD b p 0)) (record {
         onward = onward x q g o;
-        runs = λ inner tab home. try-outcome b p pos home x q e inner (λ c. sym (g .1 c)) over tab
+        runs = λ inner tab home. try-outcome terms b p pos home x q e inner (λ c. sym (g .1 c)) over tab
             ∙ ap₂ (λ (i j : ℕ). outcome (total bodyLength) bodiesEvents (position (pos + 3 + caughtSize x) home) (state tab (notedIf 8 i over)) (repeat inner j q)) m k;
-        measures = λ inner home. try-measure b p pos home x q e inner (λ c. sym (g .1 c))
+        measures = λ inner home. try-measure terms b p pos home x q e inner (λ c. sym (g .1 c))
             ∙ ap (λ (j : ℕ). measured (total bodyLength) inBodies (position (pos + 3 + caughtSize x) home) (repeat inner j q)) k;
       }))
 
-  lay-uncaught : (f : answers.Fault) (q : Place) → readCaught b (placed p) ≡ bad f q
-      → Laying (λ inner. readFields edition1 b inner OpCode.Try (placed p)) at (length b) pos over (notedFrom (pos + 3) (scanned caughtSize (pos + 3) (bad f q)) over)
+  lay-uncaught : (f : answers.Fault) (q : Place) → readCaught terms b (placed p) ≡ bad f q
+      → Laying (terms .labelBound) (λ inner. readFields terms b inner OpCode.Try (placed p)) at (length b) pos over (notedFrom (pos + 3) (scanned caughtSize (pos + 3) (bad f q)) over)
       (laidAs (bodiesAfter (getD b p 0)) (scanned caughtSize (pos + 3) (bad f q)))
   unfolding scanned notedFrom laidAs outcome
-  lay-uncaught f q e = Laying.stops {f = faultOf f} {q = q .at} (λ inner t home. rw (try-fields b inner (placed p), e))
+  lay-uncaught f q e = Laying.stops {f = faultOf f} {q = q .at} (λ inner t home. rw (try-fields terms b inner (placed p), e))
 
-  pub lay-try : Tried (scanned caughtSize (pos + 3) (readCaught b (placed p))) (bodiesAfter (getD b p 0)) (pos + 3) l over over′
-      → Laying (λ inner. readFields edition1 b inner OpCode.Try (placed p)) at (length b) pos over over′ l
-  lay-try h = rw (h .is-laid, h .is-noted) (go (readCaught b (placed p)) refl)
+  pub lay-try : Tried (scanned caughtSize (pos + 3) (readCaught terms b (placed p))) (bodiesAfter (getD b p 0)) (pos + 3) l over over′
+      → Laying (terms .labelBound) (λ inner. readFields terms b inner OpCode.Try (placed p)) at (length b) pos over over′ l
+  lay-try h = rw (h .is-laid, h .is-noted) (go (readCaught terms b (placed p)) refl)
     where
-      go : (x : Read (ℕ × CatchTargetOf Text)) → readCaught b (placed p) ≡ x
-          → Laying (λ inner. readFields edition1 b inner OpCode.Try (placed p)) at (length b) pos over (notedFrom (pos + 3) (scanned caughtSize (pos + 3) x) over) (laidAs (bodiesAfter (getD b p 0)) (scanned caughtSize (pos + 3) x))
+      go : (x : Read (ℕ × CatchTargetOf Text)) → readCaught terms b (placed p) ≡ x
+          → Laying (terms .labelBound) (λ inner. readFields terms b inner OpCode.Try (placed p)) at (length b) pos over (notedFrom (pos + 3) (scanned caughtSize (pos + 3) x) over) (laidAs (bodiesAfter (getD b p 0)) (scanned caughtSize (pos + 3) x))
       go (got x q) e =
-          let g = good-got x q (caught-good b small (placed p) inside) e in
+          let g = good-got x q (caught-good terms b small (placed p) inside) e in
           lay-caught x q e (g .0) (g .1)
       go (bad f q) e = lay-uncaught f q e

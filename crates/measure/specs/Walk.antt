@@ -118,19 +118,20 @@ pub record Owning (read : Reader (ActionsOf Text ℕ) → Read (ActionOf Text �
   pub measures : (inner : Reader (ActionsOf Text ℕ)) (home : ℕ)
       → measured actionSize actionTrace (position pos home) (read inner) ≡ measured (total bodyLength) inBodies (position (w .0) (inside home)) (repeat inner n (placed q))
 
-pub data Laying (read : Reader (ActionsOf Text ℕ) → Read (ActionOf Text ℕ)) (at end pos : ℕ) (over over′ : List ℕ) : Laid → Type 0 where
+-- where it is a branch, its label number is under a bound
+pub data Laying (bound : ℕ) (read : Reader (ActionsOf Text ℕ) → Read (ActionOf Text ℕ)) (at end pos : ℕ) (over over′ : List ℕ) : Laid → Type 0 where
   flat : {q : ℕ} {w : BytePosition}
       → ((inner : Reader (ActionsOf Text ℕ)) (tab : Tables) (home : ℕ) → outcome actionSize actionTrace (position pos home) (state tab over) (read inner) ≡ done q (w .0) (state tab over′))
       → ((inner : Reader (ActionsOf Text ℕ)) (home : ℕ) → measured actionSize actionTrace (position pos home) (read inner) ≡ got (measure (w .0) []) (placed q))
-      → Laying read at end pos over over′ (laid.Flat q w)
-  to-label : {q label : ℕ} {w : BytePosition} {k : Branch} → w .0 ≡ pos + 5 → label < 1024 → over ≡ over′
+      → Laying bound read at end pos over over′ (laid.Flat q w)
+  to-label : {q label : ℕ} {w : BytePosition} {k : Branch} → w .0 ≡ pos + 5 → label < bound → over ≡ over′
       → ((inner : Reader (ActionsOf Text ℕ)) → read inner ≡ got (branch k label) (placed q))
-      → Laying read at end pos over over′ (laid.Branch q w label)
-  bodies : {q n : ℕ} {w : BytePosition} → 1 ≤ n → Owning read at end pos over over′ q w n (λ home. home) → Laying read at end pos over over′ (laid.Bodies q w n)
-  function : {q : ℕ} {w : BytePosition} → Owning read at end pos over over′ q w 1 (λ home. w .0) → Laying read at end pos over over′ (laid.Function q w)
+      → Laying bound read at end pos over over′ (laid.Branch q w label)
+  bodies : {q n : ℕ} {w : BytePosition} → 1 ≤ n → Owning read at end pos over over′ q w n (λ home. home) → Laying bound read at end pos over over′ (laid.Bodies q w n)
+  function : {q : ℕ} {w : BytePosition} → Owning read at end pos over over′ q w 1 (λ home. w .0) → Laying bound read at end pos over over′ (laid.Function q w)
   stops : {f : Fault} {q : ℕ}
       → ((inner : Reader (ActionsOf Text ℕ)) (s : State) (home : ℕ) → outcome actionSize actionTrace (position pos home) s (read inner) ≡ fault f q)
-      → Laying read at end pos over over′ (laid.Stops f q)
+      → Laying bound read at end pos over over′ (laid.Stops f q)
 
 -- ---- what the scan of a payload is made into, where n bodies follow it
 

@@ -11,7 +11,7 @@ use lib.Dec.{leb, eqb}
 use borrow.Author.Tests.{le-leb, lt-leb, lt-ltb, le-ltb, leb-true, leb-false}
 use Rattle.layout.specs.Numbers.{u16At}
 use Rattle.layout.specs.Answers.{Fault, CutShort, BadField}
-use Rattle.layout.specs.Read.{Text, plain, edition1, ahead, Place, placed, got, bad, ifWhole, ifWithin, tested, firstZero, ifNoZero, readU8, readU16, readBytes, readFlag, readSpelling, readString, readLabel}
+use Rattle.layout.specs.Read.{Text, plain, Terms, ahead, Place, placed, got, bad, ifWhole, ifWithin, tested, firstZero, ifNoZero, readU8, readU16, readBytes, readFlag, readSpelling, readString, readLabel}
 use Rattle.layout.specs.Lengths.{stringLength}
 use Rattle.layout.specs.Pack.{spelling}
 use Rattle.fields.specs.Runs.{part, nulOr, firstNul}
@@ -74,29 +74,24 @@ module _ (b : List ℕ) (at : ℕ) where
       let l : getD b at 0 < 2 = omega arith in
       rw (u8-in h, lt-ltb (getD b at 0) 2 l)
 
-  -- ---- a label number, not under `least`: a branch's, with 0, or an entry's
+-- ---- a label number, not under `least`: a branch's, with 0, or an entry's
 
-  pub label-out : (least : ℕ) → length b < at + 2 → readLabel edition1 b least (placed at) ≡ bad CutShort (placed at)
+module _ (k : Terms) (b : List ℕ) (at : ℕ) where
+  pub label-out : (least : ℕ) → length b < at + 2 → readLabel k b least (placed at) ≡ bad CutShort (placed at)
   unfolding readLabel tested
-  label-out least h = rw (u16-out h)
+  label-out least h = rw (u16-out b at h)
 
-  pub label-big : (least : ℕ) → at + 2 ≤ length b → 1023 < u16At b at → readLabel edition1 b least (placed at) ≡ bad BadField (placed at)
-  unfolding readLabel tested ifWithin edition1
-  label-big least h k =
-      let l : 1024 ≤ u16At b at = omega arith in
-      rw (u16-in h, le-ltb (u16At b at) 1024 l)
+  pub label-big : (least : ℕ) → at + 2 ≤ length b → k .labelBound ≤ u16At b at → readLabel k b least (placed at) ≡ bad BadField (placed at)
+  unfolding readLabel tested ifWithin
+  label-big least h m = rw (u16-in b at h, le-ltb (u16At b at) (k .labelBound) m)
 
-  pub label-low : (least : ℕ) → at + 2 ≤ length b → u16At b at ≤ 1023 → u16At b at < least → readLabel edition1 b least (placed at) ≡ bad BadField (placed at)
-  unfolding readLabel tested ifWithin edition1
-  label-low least h k m =
-      let l : u16At b at < 1024 = omega arith in
-      rw (u16-in h, lt-ltb (u16At b at) 1024 l, lt-leb least (u16At b at) m)
+  pub label-low : (least : ℕ) → at + 2 ≤ length b → u16At b at < k .labelBound → u16At b at < least → readLabel k b least (placed at) ≡ bad BadField (placed at)
+  unfolding readLabel tested ifWithin
+  label-low least h l m = rw (u16-in b at h, lt-ltb (u16At b at) (k .labelBound) l, lt-leb least (u16At b at) m)
 
-  pub label-in : (least : ℕ) → at + 2 ≤ length b → u16At b at ≤ 1023 → least ≤ u16At b at → readLabel edition1 b least (placed at) ≡ got (u16At b at) (placed (at + 2))
-  unfolding readLabel tested ifWithin edition1
-  label-in least h k m =
-      let l : u16At b at < 1024 = omega arith in
-      rw (u16-in h, lt-ltb (u16At b at) 1024 l, le-leb least (u16At b at) m)
+  pub label-in : (least : ℕ) → at + 2 ≤ length b → u16At b at < k .labelBound → least ≤ u16At b at → readLabel k b least (placed at) ≡ got (u16At b at) (placed (at + 2))
+  unfolding readLabel tested ifWithin
+  label-in least h l m = rw (u16-in b at h, lt-ltb (u16At b at) (k .labelBound) l, le-leb least (u16At b at) m)
 
 -- ---- a string
 
@@ -121,50 +116,51 @@ zero-before m (zero ∷ s) z e =
     omega arith
 zero-before m (suc x ∷ s) z e = omega (arith, zero-before (suc m) s z e)
 
-module _ (b : List ℕ) (at : ℕ) where
-  pub string-out : length b < at + 2 → readString edition1 b (placed at) ≡ bad CutShort (placed at)
+module _ (b : List ℕ) (at : ℕ) (l : at + 2 + u16At b at ≤ length b) where
+  pub string-length : length (part b (at + 2) (u16At b at)) ≡ u16At b at
+  string-length = length-take-le (u16At b at) (drop (at + 2) b) (simp length-drop (omega arith))
+
+  within : (z : ℕ) → firstZero 0 (part b (at + 2) (u16At b at)) ≡ some z → z < u16At b at
+  within z e = omega (arith, zero-before 0 (part b (at + 2) (u16At b at)) z e, string-length)
+
+module _ (k : Terms) (b : List ℕ) (at : ℕ) where
+  pub string-out : length b < at + 2 → readString k b (placed at) ≡ bad CutShort (placed at)
   unfolding readString
   string-out h = rw (u16-out b at h)
 
   module _ (h : at + 2 ≤ length b) where
-    pub string-short : length b < at + 2 + u16At b at → readString edition1 b (placed at) ≡ bad CutShort (placed (at + 2))
+    pub string-short : length b < at + 2 + u16At b at → readString k b (placed at) ≡ bad CutShort (placed (at + 2))
     unfolding readString readSpelling
     string-short l = rw (u16-in b at h, bytes-out b (at + 2) (u16At b at) l)
 
     module _ (l : at + 2 + u16At b at ≤ length b) where
-      pub string-length : length (part b (at + 2) (u16At b at)) ≡ u16At b at
-      string-length = length-take-le (u16At b at) (drop (at + 2) b) (simp length-drop (omega arith))
-
-      within : (z : ℕ) → firstZero 0 (part b (at + 2) (u16At b at)) ≡ some z → z < u16At b at
-      within z e = omega (arith, zero-before 0 (part b (at + 2) (u16At b at)) z e, string-length)
-
       pub string-nul : firstNul b (at + 2) (u16At b at) < at + 2 + u16At b at
-          → readString edition1 b (placed at) ≡ bad BadField (placed (firstNul b (at + 2) (u16At b at)))
+          → readString k b (placed at) ≡ bad BadField (placed (firstNul b (at + 2) (u16At b at)))
       unfolding readString readSpelling ifNoZero firstNul
-      string-nul k =
-          let n = nul-at (at + 2) (u16At b at) (firstZero 0 (part b (at + 2) (u16At b at))) within k in
+      string-nul m =
+          let n = nul-at (at + 2) (u16At b at) (firstZero 0 (part b (at + 2) (u16At b at))) (within b at l) m in
           go (n .0) (n .1) (n .2)
         where
           go : (z : ℕ) → firstZero 0 (part b (at + 2) (u16At b at)) ≡ some z → nulOr (at + 2) (u16At b at) (firstZero 0 (part b (at + 2) (u16At b at))) ≡ at + 2 + z
-              → readString edition1 b (placed at) ≡ bad BadField (placed (nulOr (at + 2) (u16At b at) (firstZero 0 (part b (at + 2) (u16At b at)))))
+              → readString k b (placed at) ≡ bad BadField (placed (nulOr (at + 2) (u16At b at) (firstZero 0 (part b (at + 2) (u16At b at)))))
           go z x y = rw (y, u16-in b at h, bytes-in b (at + 2) (u16At b at) l, x)
 
       pub string-in : at + 2 + u16At b at ≤ firstNul b (at + 2) (u16At b at)
-          → readString edition1 b (placed at) ≡ got (plain (part b (at + 2) (u16At b at))) (placed (at + 2 + u16At b at))
+          → readString k b (placed at) ≡ got (plain (part b (at + 2) (u16At b at))) (placed (at + 2 + u16At b at))
       unfolding readString readSpelling ifNoZero firstNul
-      string-in k = rw (u16-in b at h, bytes-in b (at + 2) (u16At b at) l, nul-none (at + 2) (u16At b at) (firstZero 0 (part b (at + 2) (u16At b at))) within k)
+      string-in m = rw (u16-in b at h, bytes-in b (at + 2) (u16At b at) l, nul-none (at + 2) (u16At b at) (firstZero 0 (part b (at + 2) (u16At b at))) (within b at l) m)
 
 -- a string that was read has the length that stands before it
-module _ (b : List ℕ) (at : ℕ) {s : Text} {q : Place} (e : readString edition1 b (placed at) ≡ got s q) where
+module _ (k : Terms) (b : List ℕ) (at : ℕ) {s : Text} {q : Place} (e : readString k b (placed at) ≡ got s q) where
   abbrev Told : Type 0
   Told = (at + 2 ≤ length b) × (stringSize s ≡ u16At b at + 1)
 
-  no : {f : Fault} {p : Place} → readString edition1 b (placed at) ≡ bad f p → Told
+  no : {f : Fault} {p : Place} → readString k b (placed at) ≡ bad f p → Told
   no g =
       let z : _≡_ {A = ℕ} 0 1 = cc in
       absurd (omega arith)
 
-  text : (t : Text) (p : Place) → readString edition1 b (placed at) ≡ got t p → at + 2 ≤ length b → length (spelling t) ≡ u16At b at → Told
+  text : (t : Text) (p : Place) → readString k b (placed at) ≡ got t p → at + 2 ≤ length b → length (spelling t) ≡ u16At b at → Told
   unfolding stringSize stringLength
   text t p g h l =
       let m : t ≡ s = cc in
@@ -173,35 +169,35 @@ module _ (b : List ℕ) (at : ℕ) {s : Text} {q : Place} (e : readString editio
   module _ (h : at + 2 ≤ length b) where
     none-zero : (t : Bool) → at + 2 + u16At b at ≤ length b → leb (at + 2 + u16At b at) (firstNul b (at + 2) (u16At b at)) ≡ t → Told
     unfolding spelling
-    none-zero true l k = text _ _ (string-in b at h l (leb-true _ _ k)) h (string-length b at h l)
-    none-zero false l k = no (string-nul b at h l (leb-false _ _ k))
+    none-zero true l m = text _ _ (string-in k b at h l (leb-true _ _ m)) h (string-length b at l)
+    none-zero false l m = no (string-nul k b at h l (leb-false _ _ m))
 
     not-cut : (t : Bool) → leb (at + 2 + u16At b at) (length b) ≡ t → Told
     not-cut true l = none-zero (leb (at + 2 + u16At b at) (firstNul b (at + 2) (u16At b at))) (leb-true _ _ l) refl
-    not-cut false l = no (string-short b at h (leb-false _ _ l))
+    not-cut false l = no (string-short k b at h (leb-false _ _ l))
 
   counted : (t : Bool) → leb (at + 2) (length b) ≡ t → Told
   counted true h = not-cut (leb-true _ _ h) (leb (at + 2 + u16At b at) (length b)) refl
-  counted false h = no (string-out b at (leb-false _ _ h))
+  counted false h = no (string-out k b at (leb-false _ _ h))
 
   pub string-read : (at + 2 ≤ length b) × (stringSize s ≡ u16At b at + 1)
   string-read = counted (leb (at + 2) (length b)) refl
 
 -- as the code answers, which holds the length in n and the zero byte's place in z
-module _ (b : List ℕ) (at pos n : ℕ) (h : at + 2 ≤ length b) (e : n ≡ u16At b at) where
-  pub scan-short : length b < at + 2 + n → scan.Stops fault.CutShort (at + 2) ≡ scanned stringSize pos (readString edition1 b (placed at))
+module _ (k : Terms) (b : List ℕ) (at pos n : ℕ) (h : at + 2 ≤ length b) (e : n ≡ u16At b at) where
+  pub scan-short : length b < at + 2 + n → scan.Stops fault.CutShort (at + 2) ≡ scanned stringSize pos (readString k b (placed at))
   unfolding faultOf
-  scan-short l = stops stringSize pos (string-short b at h (omega arith))
+  scan-short l = stops stringSize pos (string-short k b at h (omega arith))
 
   module _ (z : ℕ) (l : at + 2 + n ≤ length b) (f : z ≡ firstNul b (at + 2) n) where
-    pub scan-nul : z < at + 2 + n → scan.Stops fault.BadField z ≡ scanned stringSize pos (readString edition1 b (placed at))
+    pub scan-nul : z < at + 2 + n → scan.Stops fault.BadField z ≡ scanned stringSize pos (readString k b (placed at))
     unfolding faultOf
-    scan-nul k =
+    scan-nul m =
         let g : z ≡ firstNul b (at + 2) (u16At b at) = rw (← e) f in
-        stops stringSize pos (string-nul b at h (omega arith) (omega arith) ∙ ap (λ (x : ℕ). bad BadField (placed x)) (sym g))
+        stops stringSize pos (string-nul k b at h (omega arith) (omega arith) ∙ ap (λ (x : ℕ). bad BadField (placed x)) (sym g))
 
-    pub scan-text : at + 2 + n ≤ z → scan.Ends (at + 2 + n) (record { 0 = pos + (n + 1) }) ≡ scanned stringSize pos (readString edition1 b (placed at))
+    pub scan-text : at + 2 + n ≤ z → scan.Ends (at + 2 + n) (record { 0 = pos + (n + 1) }) ≡ scanned stringSize pos (readString k b (placed at))
     unfolding stringSize stringLength spelling
-    scan-text k =
+    scan-text m =
         let g : z ≡ firstNul b (at + 2) (u16At b at) = rw (← e) f in
-        rw e (ends stringSize pos (string-in b at h (omega arith) (omega arith)) (omega (arith, string-length b at h (omega arith))))
+        rw e (ends stringSize pos (string-in k b at h (omega arith) (omega arith)) (omega (arith, string-length b at (omega arith))))

@@ -3,9 +3,11 @@
 ghost use mathlib.Core.Path.{_≡_};
 ghost use Prim.Native.Nat.{_≤_};
 ghost use lib.ListN.{length};
-ghost use Rattle.layout.specs.Read.{edition1, placed, readBytes, readFlag, readLabel, readString};
+ghost use Rattle.layout.specs.Read.{placed, readBytes, readFlag, readLabel, readString};
 ghost use Rattle.positions.specs.Scanned.{scanned, Roomy};
+ghost use Rattle.editions.specs.Allowed.{termsOf};
 ghost use Rattle.operands.specs.Operands.{stringSize};
+use editions::Terms;
 use fields::first_nul;
 use fields::u16_at;
 use opcode::OpCode;
@@ -39,23 +41,23 @@ pub fn scan_flag(b: &[u8], at: usize, pos: BytePosition) -> Scan
 }
 
 // The label number of a branch.
-pub fn scan_label(b: &[u8], at: usize, pos: BytePosition) -> Scan
+pub fn scan_label(b: &[u8], terms: Terms, at: usize, pos: BytePosition) -> Scan
     requires { ⌜ at ≤ length (now b) ⌝ }
-    ensures { λ r. ⌜ r ≡ scanned (λ _. 0) (pos .0) (readLabel edition1 (now (b .entry)) 0 (placed at)) ⌝ }
+    ensures { λ r. ⌜ r ≡ scanned (λ _. 0) (pos .0) (readLabel (termsOf terms) (now (b .entry)) 0 (placed at)) ⌝ }
 {
     if b.len() - at < 2 {
         return Scan::Stops(Fault::CutShort, at);
     }
-    if 1023 < u16_at(b, at) {
+    if terms.label_bound <= u16_at(b, at) {
         return Scan::Stops(Fault::BadField, at);
     }
     Scan::Ends(at + 2, pos)
 }
 
 // A string: its length, then its bytes, none zero.
-pub fn scan_string(b: &[u8], at: usize, pos: BytePosition) -> Scan
+pub fn scan_string(b: &[u8], terms: Terms, at: usize, pos: BytePosition) -> Scan
     requires { ⌜ Roomy (now b) at pos ⌝ }
-    ensures { λ r. ⌜ r ≡ scanned stringSize (pos .0) (readString edition1 (now (b .entry)) (placed at)) ⌝ }
+    ensures { λ r. ⌜ r ≡ scanned stringSize (pos .0) (readString (termsOf terms) (now (b .entry)) (placed at)) ⌝ }
 {
     if b.len() - at < 2 {
         return Scan::Stops(Fault::CutShort, at);

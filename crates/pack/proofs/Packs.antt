@@ -1,30 +1,38 @@
 -- Laws of packing: from what the steps leave to the answer by the definitions. Assumes nothing.
-use mathlib.Core.Path.{_≡_, refl, sym, ap, _∙_}
-use Prim.Native.Nat.{ℕ, _-_, _≤_}
+use mathlib.Core.Path.{_≡_, refl, sym, ap, _∙_, subst}
+use mathlib.Core.Bool.{true}
+use Prim.Native.Nat.{ℕ, _-_, _≤_, _<_}
 use native.Mathlib.Omega.{arith}
 use mathlib.Core.Logic.{_⊎_, inl, inr, ⊎-elim}
 use mathlib.Core.Option.{Option, none, some}
 use mathlib.Core.List.{List, [], _∷_}
 use lib.IntN.{pos}
-use lib.ListN.{length, getD, take, drop}
+use lib.ListN.{length, getD, take, drop, replicate, length-replicate}
 use Rattle.layout.specs.Answers.{Refusal, SheetTooLong, BadTrailer, ReadingFault, ActionLenOverflow, BlockLenOverflow, Refused, refusalNumber, refusalValue}
 use Rattle.layout.specs.Answers as answers
 use Rattle.layout.specs.Tree.{Actions}
-use Rattle.layout.specs.Read.{edition1, deepest, readMain}
+use Rattle.layout.specs.Read.{Terms, deepest, readMain}
 use Rattle.layout.specs.Write.{Event, labelAt, branchAt, payloadTooLong, bodyTooLong, events, lookup}
 use Rattle.layout.specs.Judge.{orElse, tooLong, Mode, badBranch, judge}
-use Rattle.layout.specs.Pack.{blockIn, packTree, packRead, packCut, pack, Outcome}
-use Rattle.layout.specs.Order.{long-first, branch-next, room-last}
-use Rattle.layout.specs.Cut.{main, cut}
+use Rattle.layout.specs.Pack.{blockIn, packTree, editionTerms, packRead, packCut, pack, Outcome}
+use Rattle.layout.specs.Order.{uncut-first, long-first, branch-next, room-last}
+use Rattle.layout.specs.Cut.{uncut, cut}
 use Rattle.laws.specs.Modes.{none-far}
 use Rattle.laws.specs.Packed.{ReadsMain}
 use Rattle.positions.specs.declared.BytePosition.{BytePosition}
 use Rattle.positions.specs.declared.Fault.{Fault}
 use Rattle.positions.specs.Scanned.{meant}
 use Rattle.scan.specs.Mains.{Holds, MainWhole}
-use Rattle.reading.specs.Readings.{said, SheetRead, read-refused}
+use Rattle.scan.proofs.Mains.{zeros-cleared}
+use Rattle.reading.specs.Readings.{said, MainRead, read-refused}
 use Rattle.reading.specs.declared.Reading.{Reading}
 use Rattle.reading.specs.declared.Reading.the-variants as reading
+use Rattle.editions.specs.Allowed.{meant as meant-edition}
+use Rattle.editions.specs.declared.Edition.{Edition}
+use Rattle.cut.specs.Cuts as cuts
+use Rattle.cut.proofs.Mains.{is-cut}
+use Rattle.cut.specs.declared.CutMain.{CutMain}
+use Rattle.cut.specs.declared.CutMain.the-variants as cutMain
 use Rattle.judge.specs.Judging.{refusalOf, Says, HomesLent, MainJudged}
 use Rattle.judge.specs.declared.BadBranch.{BadBranch}
 use Rattle.judge.specs.declared.Verdict.{Verdict}
@@ -32,22 +40,25 @@ use Rattle.judge.specs.declared.Verdict.the-variants as verdict
 use Rattle.answer.specs.Answered.{number, value, Answered}
 use Rattle.if_room.specs.Near.{MainNear, MainAnswered}
 use Rattle.if_room.proofs.Nears.{refused, answered-by}
-use Rattle.pack.specs.Steps.{TellsFault, TellsBranch, MainShort, MainPacked}
+use Rattle.pack.specs.Steps.{TellsFault, TellsBranch, MainShort, MainPacked, TablesLent, BodyPacked}
 use Rattle.answer.specs.declared.Answer.{Answer}
 use Rattle.answer.specs.declared.Answer.the-variants as answer
+
+some-same : {x y : Refusal} → some x ≡ some y → x ≡ y
+some-same e = cc
 
 -- ---- a main body that reads whole
 
 -- It is answered by its tree alone.
-read-tree : (mode : Mode) (b : List ℕ) (t : Actions) (start room : ℕ) → ReadsMain b t → packRead mode start (readMain edition1 b deepest) room ≡ packTree mode t room
+read-tree : (terms : Terms) (mode : Mode) (b : List ℕ) (t : Actions) (start room : ℕ) → ReadsMain terms b t → packRead mode start (readMain terms b deepest) room ≡ packTree mode t room
 unfolding packRead
-read-tree mode b t start room r = rw (r .is-read, r .is-tree)
+read-tree terms mode b t start room r = rw (r .is-read, r .is-tree)
 
 -- ---- 10, 14 and 15
 
-module _ (mode : Mode) (b tab homes : List ℕ) (end : BytePosition) (m : MainShort b end mode tab homes) (v : Verdict) (j : MainJudged mode b v) where
+module _ (terms : Terms) (mode : Mode) (b tab homes : List ℕ) (end : BytePosition) (m : MainShort terms b end mode tab homes) (v : Verdict) (j : MainJudged terms mode b v) where
   -- What the verdict refuses is the answer, whatever the room.
-  pub short-bad : (bad : BadBranch) → v ≡ verdict.Refused bad → (r : Answer) → TellsBranch bad r → (o : List ℕ) → MainPacked mode b o r o
+  pub short-bad : (bad : BadBranch) → v ≡ verdict.Refused bad → (r : Answer) → TellsBranch bad r → (o : List ℕ) → MainPacked terms mode b o r o
   unfolding answers.number answers.value
   short-bad bad e r h o =
       let t = m .judgeable .measured .tree in
@@ -73,11 +84,11 @@ module _ (mode : Mode) (b tab homes : List ℕ) (end : BytePosition) (m : MainSh
             absurd (omega arith)
 
     -- Where it refuses none, no branch goes too far.
-    pub short-near : MainNear b end tab
+    pub short-near : MainNear terms b end tab
     short-near = record { measured = m .judgeable .measured; is-near = none-far mode (λ l. lookup l (events (m .judgeable .measured .tree))) (events (m .judgeable .measured .tree)) none-bad }
 
     -- Then the answer is the block's, by the room.
-    pub short-room : (r : Answer) (o after : List ℕ) → MainAnswered blockIn b o r after → MainPacked mode b o r after
+    pub short-room : (r : Answer) (o after : List ℕ) → MainAnswered terms blockIn b o r after → MainPacked terms mode b o r after
     short-room r o after h =
         let t = m .judgeable .measured .tree in
         answered-by t (m .judgeable .measured .reads) (rw (room-last mode t (length o) (judge-none t (m .is-short) none-bad)) (h .answered t (m .judgeable .measured .reads)))
@@ -102,90 +113,101 @@ long-number (bodyTooLong n s ∷ es) x e =
     let i : x ≡ BlockLenOverflow n = cc in
     inr (ap refusalNumber i)
 
-module _ (b tab homes over : List ℕ) (end : BytePosition) (m : MainWhole b end tab homes over) where
+module _ (terms : Terms) (b tab homes over : List ℕ) (end : BytePosition) (m : MainWhole terms b end tab homes over) where
   -- What is noted is the answer, whatever the room.
-  noted-answered : (mode : Mode) (r : Answer) (o : List ℕ) → (getD over 0 0 ≡ 0 → ⊥) → number r ≡ getD over 0 0 → value r ≡ pos (getD over 1 0) → MainPacked mode b o r o
+  noted-answered : (mode : Mode) (r : Answer) (o : List ℕ) → (getD over 0 0 ≡ 0 → ⊥) → number r ≡ getD over 0 0 → value r ≡ pos (getD over 1 0) → MainPacked terms mode b o r o
   noted-answered mode r o z i v = answered-by (m .measured .tree) (m .measured .reads) (go (tooLong (events (m .measured .tree))) refl (m .long))
     where
       go : (x : Option Refusal) → tooLong (events (m .measured .tree)) ≡ x → Holds x over → Answered (packTree mode (m .measured .tree) (length o)) o r o
       go none l h = absurd (z (h .0))
       go (some x) l h = refused x o r (long-first mode (m .measured .tree) (length o) x l) (i ∙ h .0) (v ∙ h .1)
 
-  pub whole-8 : getD over 0 0 ≡ 8 → (mode : Mode) (o : List ℕ) → MainPacked mode b o (answer.ActionLenOverflow (getD over 1 0)) o
+  pub whole-8 : getD over 0 0 ≡ 8 → (mode : Mode) (o : List ℕ) → MainPacked terms mode b o (answer.ActionLenOverflow (getD over 1 0)) o
   unfolding number value
   whole-8 e mode o = noted-answered mode (answer.ActionLenOverflow (getD over 1 0)) o (λ z. omega arith) (sym e) refl
 
-  pub whole-9 : getD over 0 0 ≡ 9 → (mode : Mode) (o : List ℕ) → MainPacked mode b o (answer.BlockLenOverflow (getD over 1 0)) o
+  pub whole-9 : getD over 0 0 ≡ 9 → (mode : Mode) (o : List ℕ) → MainPacked terms mode b o (answer.BlockLenOverflow (getD over 1 0)) o
   unfolding number value
   whole-9 e mode o = noted-answered mode (answer.BlockLenOverflow (getD over 1 0)) o (λ z. omega arith) (sym e) refl
 
   -- Where neither is noted, nothing is too long.
-  pub whole-short : (mode : Mode) → HomesLent mode homes → (getD over 0 0 ≡ 8 → ⊥) → (getD over 0 0 ≡ 9 → ⊥) → MainShort b end mode tab homes
+  pub whole-short : (mode : Mode) → HomesLent terms mode homes → (getD over 0 0 ≡ 8 → ⊥) → (getD over 0 0 ≡ 9 → ⊥) → MainShort terms b end mode tab homes
   whole-short mode lent no-8 no-9 = record { judgeable = record { measured = m .measured; holds = m .homed; lent = lent }; is-short = go (tooLong (events (m .measured .tree))) refl (m .long) }
     where
       go : (x : Option Refusal) → tooLong (events (m .measured .tree)) ≡ x → Holds x over → x ≡ none
       go none k h = refl
       go (some x) k h = absurd (⊎-elim (λ i. no-8 (h .0 ∙ i)) (λ i. no-9 (h .0 ∙ i)) (long-number (events (m .measured .tree)) x k))
 
--- ---- a sheet that was read
+-- ---- a main body that was read
 
-module _ (s tab homes over : List ℕ) (x : Reading) (h : SheetRead s tab homes over x) where
-  -- What reading refuses is the answer, whatever the room: 1 to 7.
-  refused-read : (mode : Mode) (o : List ℕ) (y : Refusal) (r : Answer) → said x ≡ some y → number r ≡ refusalNumber y → value r ≡ refusalValue y → Outcome mode s o (number r) (value r) o
-  unfolding said
-  refused-read mode o y r e n v = go h e
+module _ (terms : Terms) (b : List ℕ) (start : ℕ) (tab homes over : List ℕ) (x : Reading) (h : MainRead terms b start tab homes over x) where
+  -- What reading refuses is the answer, whatever the room: 3 to 7.
+  pub read-stops : (mode : Mode) (o : List ℕ) (f : Fault) (p : ℕ) → x ≡ reading.Stops f p → (r : Answer) → TellsFault f p r → BodyPacked terms mode start b o r o
+  unfolding said answers.number answers.value
+  read-stops mode o f p e r t = go h e
     where
-      go : {x : Reading} → SheetRead s tab homes over x → said x ≡ some y → Outcome mode s o (number r) (value r) o
-      go (SheetRead.whole i j c m) k =
+      go : {x : Reading} → MainRead terms b start tab homes over x → x ≡ reading.Stops f p → BodyPacked terms mode start b o r o
+      go (MainRead.whole m) k =
           let z : _≡_ {A = ℕ} 0 1 = cc in
           absurd (omega arith)
-      go (SheetRead.refused {x = z} i j) k =
-          let same : z ≡ y = cc in
-          let a = refused y o r (read-refused mode s z (length o) j ∙ ap Refused same) n v in
-          record { told = a .told; holds = a .holds }
+      go (MainRead.refused {r = y} {x = z} i j) k =
+          let same : z ≡ ReadingFault (meant f) p = some-same (sym i ∙ ap said k) in
+          refused (ReadingFault (meant f) p) o r (read-refused mode start (readMain terms b deepest) z (length o) j ∙ ap Refused same) (t .is-number) (t .is-value)
 
-  pub read-long : (mode : Mode) (o : List ℕ) (n : ℕ) → x ≡ reading.SheetTooLong n → Outcome mode s o (number (answer.SheetTooLong n)) (value (answer.SheetTooLong n)) o
-  unfolding said number value refusalNumber refusalValue
-  read-long mode o n e = refused-read mode o (SheetTooLong n) (answer.SheetTooLong n) (rw e) refl refl
-
-  pub read-bad : (mode : Mode) (o : List ℕ) → x ≡ reading.BadTrailer → Outcome mode s o (number answer.BadTrailer) (value answer.BadTrailer) o
-  unfolding said number value refusalNumber refusalValue
-  read-bad mode o e = refused-read mode o BadTrailer answer.BadTrailer (rw e) refl refl
-
-  pub read-stops : (mode : Mode) (o : List ℕ) (f : Fault) (p : ℕ) → x ≡ reading.Stops f p → (r : Answer) → TellsFault f p r → Outcome mode s o (number r) (value r) o
-  unfolding said answers.number answers.value
-  read-stops mode o f p e r t = refused-read mode o (ReadingFault (meant f) p) r (rw e) (t .is-number) (t .is-value)
-
-  -- Where it reads whole, the main body lies in the sheet, and is packed by what was left.
-  module _ (start end : ℕ) (w : BytePosition) (e : x ≡ reading.Whole start end w) where
-    abbrev b : List ℕ
-    b = take (end - start) (drop start s)
-
-    pub read-whole : ((start ≤ end) × (end ≤ length s)) × (cut s ≡ main start b) × MainWhole b w tab homes over
+  -- Where it reads whole, it is packed by what was left.
+  module _ (w : BytePosition) (e : x ≡ reading.Whole w) where
+    pub read-whole : MainWhole terms b w tab homes over
     unfolding said
     read-whole = go h e
       where
-        go : {x : Reading} → SheetRead s tab homes over x → x ≡ reading.Whole start end w → ((start ≤ end) × (end ≤ length s)) × (cut s ≡ main start b) × MainWhole b w tab homes over
-        go (SheetRead.whole {start = start′} {end = end′} {w = w′} i j c m) k =
-            let p : start′ ≡ start = cc in
-            let q : end′ ≡ end = cc in
-            let r : w′ ≡ w = cc in
-            same start′ end′ w′ p q r i j c m
-          where
-            same : (start′ end′ : ℕ) (w′ : BytePosition) → start′ ≡ start → end′ ≡ end → w′ ≡ w → start′ ≤ end′ → end′ ≤ length s
-                → cut s ≡ main start′ (take (end′ - start′) (drop start′ s)) → MainWhole (take (end′ - start′) (drop start′ s)) w′ tab homes over
-                → ((start ≤ end) × (end ≤ length s)) × (cut s ≡ main start b) × MainWhole b w tab homes over
-            same start′ end′ w′ p q r i j c m = rw (sym p, sym q, sym r) ((i, j), c, m)
-        go (SheetRead.refused {r = y} {x = z} i j) k =
-            let none-some : said (reading.Whole start end w) ≡ some z = sym (ap said k) ∙ i in
+        go : {x : Reading} → MainRead terms b start tab homes over x → x ≡ reading.Whole w → MainWhole terms b w tab homes over
+        go (MainRead.whole {w = v} m) k =
+            let i : v ≡ w = cc in
+            subst (λ (u : BytePosition). MainWhole terms b u tab homes over) i m
+        go (MainRead.refused {r = y} {x = z} i j) k =
+            let none-some : said (reading.Whole w) ≡ some z = sym (ap said k) ∙ i in
             let z : _≡_ {A = ℕ} 0 1 = cc in
             absurd (omega arith)
 
-    -- The answer to its tree is the answer to the sheet.
-    pub whole-outcome : (mode : Mode) (o : List ℕ) (r : Answer) (after : List ℕ) → MainPacked mode b o r after → Outcome mode s o (number r) (value r) after
-    unfolding pack packCut
-    whole-outcome mode o r after p =
-        let m = read-whole .2 .measured in
-        let a : Answered (packTree mode (m .tree) (length o)) o r after = p .answered (m .tree) (m .reads) in
-        let same : pack mode s (length o) ≡ packTree mode (m .tree) (length o) = rw (read-whole .1) (read-tree mode b (m .tree) start (length o) (m .reads)) in
-        record { told = rw same (a .told); holds = rw same (a .holds) }
+    -- The answer to its tree is the answer to what was read.
+    pub whole-packed : (mode : Mode) (o : List ℕ) (r : Answer) (after : List ℕ) → MainPacked terms mode b o r after → BodyPacked terms mode start b o r after
+    whole-packed mode o r after p =
+        let m = read-whole .measured in
+        rw (read-tree terms mode b (m .tree) start (length o) (m .reads)) (p .answered (m .tree) (m .reads))
+
+-- ---- what is lent
+
+-- Zeros serve as tables: n slots, and as many homes m where the mode is contained.
+pub zeros-lent : (terms : Terms) (mode : Mode) (n m : ℕ) → terms .labelBound < 65536 → terms .labelBound ≤ n → (mode .contained ≡ true → terms .labelBound ≤ m)
+    → TablesLent terms mode (replicate n 0) (replicate m 0)
+zeros-lent terms mode n m few h k = record {
+  slots = record { few = few; enough = omega (arith, h, length-replicate {A = ℕ} n 0) };
+  no-records = zeros-cleared n;
+  no-homes = zeros-cleared m;
+  lent = λ e. omega (arith, k e, length-replicate {A = ℕ} m 0);
+}
+
+-- ---- a sheet, by its cut
+
+module _ (s : List ℕ) (c : CutMain) (e : cuts.said s c ≡ cut s) (mode : Mode) (o : List ℕ) where
+  -- What the cut refuses is the answer: 1 and 2.
+  cut-refused : (y : Refusal) (r : Answer) → cuts.said s c ≡ uncut y → number r ≡ refusalNumber y → value r ≡ refusalValue y → Outcome mode s o (number r) (value r) o
+  cut-refused y r k n v =
+      let a = refused y o r (uncut-first mode s (length o) y (sym e ∙ k)) n v in
+      record { told = a .told; holds = a .holds }
+
+  pub cut-long : (n : ℕ) → c ≡ cutMain.SheetTooLong n → Outcome mode s o (number (answer.SheetTooLong n)) (value (answer.SheetTooLong n)) o
+  unfolding cuts.said number value refusalNumber refusalValue
+  cut-long n k = cut-refused (SheetTooLong n) (answer.SheetTooLong n) (rw k) refl refl
+
+  pub cut-bad : c ≡ cutMain.BadTrailer → Outcome mode s o (number answer.BadTrailer) (value answer.BadTrailer) o
+  unfolding cuts.said number value refusalNumber refusalValue
+  cut-bad k = cut-refused BadTrailer answer.BadTrailer (rw k) refl refl
+
+  -- The answer to its main body is the answer to the sheet.
+  pub cut-packed : (edition : Edition) (start end : ℕ) → c ≡ cutMain.Main edition start end → (r : Answer) (after : List ℕ)
+      → BodyPacked (editionTerms (meant-edition edition)) mode start (take (end - start) (drop start s)) o r after → Outcome mode s o (number r) (value r) after
+  unfolding pack packCut
+  cut-packed edition start end k r after p =
+      let i = is-cut s c e edition start end k in
+      record { told = rw i (p .told); holds = rw i (p .holds) }

@@ -1,20 +1,23 @@
 -- What the packer's steps ask and leave. Assumes nothing.
 use mathlib.Core.Path.{_≡_}
-use Prim.Native.Nat.{ℕ}
+use Prim.Native.Nat.{ℕ, _≤_}
 use mathlib.Core.Option.{none}
 use mathlib.Core.List.{List}
+use lib.ListN.{length}
 use Rattle.layout.specs.Answers.{Told, lengthOf, Refused, ReadingFault}
+use Rattle.layout.specs.Read.{Terms, deepest, readMain}
 use Rattle.layout.specs.Write.{events}
 use Rattle.layout.specs.Judge.{tooLong, Mode}
-use Rattle.layout.specs.Pack.{packTree}
+use Rattle.layout.specs.Pack.{packTree, packRead}
 use Rattle.positions.specs.declared.BytePosition.{BytePosition}
 use Rattle.positions.specs.declared.Fault.{Fault}
 use Rattle.positions.specs.Scanned.{meant}
+use Rattle.labels.specs.Table.{Cleared, Slots}
 use Rattle.judge.specs.declared.BadBranch.{BadBranch}
-use Rattle.judge.specs.Judging.{refusalOf, MainJudgeable}
+use Rattle.judge.specs.Judging.{refusalOf, HomesLent, MainJudgeable}
 use Rattle.if_room.specs.Near.{MainAnswered}
 use Rattle.answer.specs.declared.Answer.{Answer}
-use Rattle.answer.specs.Answered.{number, value}
+use Rattle.answer.specs.Answered.{number, value, Answered}
 
 -- r tells a fault and its place in the sheet
 abbrev pub TellsFault : Fault → ℕ → Answer → Type 0
@@ -25,10 +28,25 @@ abbrev pub TellsBranch : BadBranch → Answer → Type 0
 TellsBranch bad r = Told {A = List ℕ} lengthOf (Refused (refusalOf bad)) (number r) (value r)
 
 -- a main body that reads whole as far as position `end`, with its label tables, and in which nothing is too long
-pub record MainShort (b : List ℕ) (end : BytePosition) (mode : Mode) (tab homes : List ℕ) : Type 0 where
-  pub judgeable : MainJudgeable b end mode tab homes
+pub record MainShort (terms : Terms) (b : List ℕ) (end : BytePosition) (mode : Mode) (tab homes : List ℕ) : Type 0 where
+  pub judgeable : MainJudgeable terms b end mode tab homes
   pub is-short : tooLong (events (judgeable .measured .tree)) ≡ none
 
--- what is left of a main body: the packer's answer
-abbrev pub MainPacked : Mode → List ℕ → List ℕ → Answer → List ℕ → Type 0
-MainPacked mode = MainAnswered (packTree mode)
+-- what is left of a main body that reads whole: the packer's answer
+abbrev pub MainPacked : Terms → Mode → List ℕ → List ℕ → Answer → List ℕ → Type 0
+MainPacked terms mode = MainAnswered terms (packTree mode)
+
+-- a main body and its start are within the limit of a sheet
+abbrev pub Limited : List ℕ → ℕ → Type 0
+Limited b start = (length b ≤ 1048576) × (start ≤ 1048576)
+
+-- the tables are lent empty, with a slot for each label that the terms allow, and a home where the mode is contained
+pub record TablesLent (terms : Terms) (mode : Mode) (tab homes : List ℕ) : Type 0 where
+  pub slots : Slots terms tab
+  pub no-records : Cleared tab
+  pub no-homes : Cleared homes
+  pub lent : HomesLent terms mode homes
+
+-- what is left of a main body that starts at `start` in its sheet: the packer's answer to what is read of it
+abbrev pub BodyPacked : Terms → Mode → ℕ → List ℕ → List ℕ → Answer → List ℕ → Type 0
+BodyPacked terms mode start b old r new = Answered (packRead mode start (readMain terms b deepest) (length old)) old r new

@@ -1,11 +1,17 @@
 // The packer: a sheet's block in the lent output, or one of 1 to 11 and, by the mode, 14 and 15.
-ghost use Rattle.layout.specs.Pack.{Outcome};
+ghost use Rattle.layout.specs.Read.{edition1, edition2};
+ghost use Rattle.layout.specs.Pack.{editionTerms, Outcome};
 ghost use Rattle.answer.specs.Answered.{number, value};
 ghost use Rattle.scan.specs.Mains.{MainWhole};
-ghost use Rattle.labels.specs.Table.{Cleared};
 ghost use Rattle.judge.specs.Judging.{modeOf, HomesLent};
-ghost use Rattle.pack.specs.Steps.{TellsFault, TellsBranch, MainShort, MainPacked};
+ghost use Rattle.editions.specs.Allowed.{meant, termsOf};
+ghost use Rattle.pack.specs.Steps.{TellsFault, TellsBranch, MainShort, MainPacked, Limited, TablesLent, BodyPacked};
 use answer::Answer;
+use cut::CutMain;
+use cut::cut_main;
+use editions::Edition;
+use editions::Terms;
+use editions::terms_of;
 use if_room::pack_near;
 use judge::BadBranch;
 use judge::Mode;
@@ -14,7 +20,7 @@ use judge::judge_main;
 use positions::BytePosition;
 use positions::Fault;
 use reading::Reading;
-use reading::read_sheet;
+use reading::read_main;
 
 // 3 to 7, at a place of the sheet.
 fn fault_answer(f: Fault, place: usize) -> Answer
@@ -43,24 +49,26 @@ fn branch_answer(bad: BadBranch) -> Answer
 // A main body in which nothing is too long: 10, 14 or 15 where a branch is refused, else 11 or 0.
 fn pack_short(
     b: &[u8],
+    terms: Terms,
     end: BytePosition,
     mode: Mode,
     tab: &[usize],
     homes: &[usize],
     out: &mut [u8],
 ) -> Answer
-    requires { ⌜ MainShort (now b) end (modeOf mode) (now tab) (now homes) ⌝ }
-    ensures { λ r. ⌜ MainPacked (modeOf mode) (now (b .entry)) (now (out .entry)) r (now (out .exit)) ⌝ }
+    requires { ⌜ MainShort (termsOf terms) (now b) end (modeOf mode) (now tab) (now homes) ⌝ }
+    ensures { λ r. ⌜ MainPacked (termsOf terms) (modeOf mode) (now (b .entry)) (now (out .entry)) r (now (out .exit)) ⌝ }
 {
-    match judge_main(b, end, mode, tab, homes) {
+    match judge_main(b, terms, end, mode, tab, homes) {
         Verdict::Refused(bad) => branch_answer(bad),
-        Verdict::Passed => pack_near(b, end, tab, out),
+        Verdict::Passed => pack_near(b, terms, end, tab, out),
     }
 }
 
 // A main body that reads whole: 8 or 9 where the walk noted it in `over`, else 10, 14, 15, 11 or 0.
 fn pack_whole(
     b: &[u8],
+    terms: Terms,
     end: BytePosition,
     mode: Mode,
     tab: &[usize],
@@ -68,8 +76,8 @@ fn pack_whole(
     over: &[usize],
     out: &mut [u8],
 ) -> Answer
-    requires { ⌜ MainWhole (now b) end (now tab) (now homes) (now over) × HomesLent (modeOf mode) (now homes) ⌝ }
-    ensures { λ r. ⌜ MainPacked (modeOf mode) (now (b .entry)) (now (out .entry)) r (now (out .exit)) ⌝ }
+    requires { ⌜ MainWhole (termsOf terms) (now b) end (now tab) (now homes) (now over) × HomesLent (termsOf terms) (modeOf mode) (now homes) ⌝ }
+    ensures { λ r. ⌜ MainPacked (termsOf terms) (modeOf mode) (now (b .entry)) (now (out .entry)) r (now (out .exit)) ⌝ }
 {
     let noted = over[0];
     let n = over[1];
@@ -79,35 +87,80 @@ fn pack_whole(
     if noted == 9 {
         return Answer::BlockLenOverflow(n);
     }
-    pack_short(b, end, mode, tab, homes, out)
+    pack_short(b, terms, end, mode, tab, homes, out)
 }
 
-// Packs a sheet by an empty table of homes, with a slot for each label where the mode is contained.
-fn pack_with_homes(sheet: &[u8], mode: Mode, homes: &mut [usize], out: &mut [u8]) -> Answer
-    requires { ⌜ HomesLent (modeOf mode) (now homes) × Cleared (now homes) ⌝ }
-    ensures { λ r. ⌜ Outcome (modeOf mode) (now (sheet .entry)) (now (out .entry)) (number r) (value r) (now (out .exit)) ⌝ }
+// The main body of a sheet, which starts at `start`, by tables that are lent empty: as many slots as the terms allow label numbers,
+// and as many homes where the mode is contained.
+fn pack_main(
+    b: &[u8],
+    terms: Terms,
+    start: usize,
+    mode: Mode,
+    tab: &mut [usize],
+    homes: &mut [usize],
+    out: &mut [u8],
+) -> Answer
+    requires { ⌜ Limited (now b) start × TablesLent (termsOf terms) (modeOf mode) (now tab) (now homes) ⌝ }
+    ensures { λ r. ⌜ BodyPacked (termsOf terms) (modeOf mode) start (now (b .entry)) (now (out .entry)) r (now (out .exit)) ⌝ }
 {
-    let mut tab = [0; 1024];
     let mut over = [0; 2];
-    match read_sheet(sheet, &mut tab, homes, &mut over) {
-        Reading::SheetTooLong(n) => Answer::SheetTooLong(n),
-        Reading::BadTrailer => Answer::BadTrailer,
+    match read_main(b, terms, start, tab, homes, &mut over) {
         Reading::Stops(f, place) => fault_answer(f, place),
-        Reading::Whole(start, end, pos) => {
-            pack_whole(&sheet[start..end], pos, mode, &tab, homes, &over, out)
-        }
+        Reading::Whole(pos) => pack_whole(b, terms, pos, mode, tab, homes, &over, out),
     }
 }
 
-// Packs a sheet into the lent output, whose bytes past a Done length keep their values. Only in a contained mode has the table of
-// homes any slot, and takes time to clear.
+// A main body of edition 1. Only in a contained mode has the table of homes any slot, and takes time to clear; here and below.
+fn pack_first(b: &[u8], start: usize, mode: Mode, out: &mut [u8]) -> Answer
+    requires { ⌜ Limited (now b) start ⌝ }
+    ensures { λ r. ⌜ BodyPacked edition1 (modeOf mode) start (now (b .entry)) (now (out .entry)) r (now (out .exit)) ⌝ }
+{
+    let terms = terms_of(Edition::First);
+    let mut tab = [0; Terms::FIRST_LABELS];
+    if mode.contained {
+        let mut homes = [0; Terms::FIRST_LABELS];
+        return pack_main(b, terms, start, mode, &mut tab, &mut homes, out);
+    }
+    let mut no_homes = [0; 0];
+    pack_main(b, terms, start, mode, &mut tab, &mut no_homes, out)
+}
+
+// A main body of edition 2.
+fn pack_second(b: &[u8], start: usize, mode: Mode, out: &mut [u8]) -> Answer
+    requires { ⌜ Limited (now b) start ⌝ }
+    ensures { λ r. ⌜ BodyPacked edition2 (modeOf mode) start (now (b .entry)) (now (out .entry)) r (now (out .exit)) ⌝ }
+{
+    let terms = terms_of(Edition::Second);
+    let mut tab = [0; Terms::SECOND_LABELS];
+    if mode.contained {
+        let mut homes = [0; Terms::SECOND_LABELS];
+        return pack_main(b, terms, start, mode, &mut tab, &mut homes, out);
+    }
+    let mut no_homes = [0; 0];
+    pack_main(b, terms, start, mode, &mut tab, &mut no_homes, out)
+}
+
+// A main body of any edition: the tables that are lent are as long as its bound, so that no sheet clears more slots than it can name.
+fn pack_edition(b: &[u8], edition: Edition, start: usize, mode: Mode, out: &mut [u8]) -> Answer
+    requires { ⌜ Limited (now b) start ⌝ }
+    ensures { λ r. ⌜ BodyPacked (editionTerms (meant edition)) (modeOf mode) start (now (b .entry)) (now (out .entry)) r (now (out .exit)) ⌝ }
+{
+    match edition {
+        Edition::First => pack_first(b, start, mode, out),
+        Edition::Second => pack_second(b, start, mode, out),
+    }
+}
+
+// Packs a sheet into the lent output, whose bytes past a Done length keep their values.
 pub fn pack(sheet: &[u8], mode: Mode, out: &mut [u8]) -> Answer
     ensures { λ r. ⌜ Outcome (modeOf mode) (now (sheet .entry)) (now (out .entry)) (number r) (value r) (now (out .exit)) ⌝ }
 {
-    if mode.contained {
-        let mut homes = [0; 1024];
-        return pack_with_homes(sheet, mode, &mut homes, out);
+    match cut_main(sheet) {
+        CutMain::SheetTooLong(n) => Answer::SheetTooLong(n),
+        CutMain::BadTrailer => Answer::BadTrailer,
+        CutMain::Main(edition, start, end) => {
+            pack_edition(&sheet[start..end], edition, start, mode, out)
+        }
     }
-    let mut no_homes = [0; 0];
-    pack_with_homes(sheet, mode, &mut no_homes, out)
 }

@@ -12,7 +12,7 @@ use borrow.Author.Tests.{eqb-true, eqb-false, ne-eqb, le-ltb}
 use Rattle.layout.specs.Lists.{each, pick, firstWith}
 use Rattle.layout.specs.OpCode.{OpCode, SmallOpCode, smallByte, byte, smallOpCodes, opcodes, opcodeOf}
 use Rattle.layout.specs.Tree.{FlatOf, Small, GotoFrame, GetUrl, StoreRegister, ConstantPool, WaitForFrame, SetTarget, GotoLabel, WaitForFrame2, Push, GetUrl2, GotoFrame2, OwnerOf, With, DefineFunction, DefineFunction2, Jump, If, PushValueOf, FunctionParamOf, ActionOf, flat, owner, ActionsOf}
-use Rattle.layout.specs.Read.{Text, edition1, Place, placed, Read, got, bad, Reader, chain, tested, readU8, readU16, readBytes, readFlag, readString, readCounted, readValue, readParam, readLabel, readFields, readFieldsIf}
+use Rattle.layout.specs.Read.{Text, Terms, Place, placed, Read, got, bad, Reader, chain, tested, readU8, readU16, readBytes, readFlag, readString, readCounted, readValue, readParam, readLabel, readFields, readFieldsIf}
 use Rattle.layout.specs.Strings.{mapFlat, mapValue, mapParam, mapOwner, mapAction}
 use Rattle.layout.specs.Payload.{opcode, payload, headed, framed}
 use Rattle.layout.specs.Numbers.{le16}
@@ -66,20 +66,20 @@ Fixed f = Long f × (flatSize f ≤ 65535)
 
 -- ---- the payloads of more than one field
 
-module _ (b : List ℕ) (p : Place) where
-  url-fields : (inner : Reader (ActionsOf Text ℕ)) → readFields edition1 b inner OpCode.GetUrl p ≡ chain (readGetUrl b p) (λ f q. got (flat f) q)
+module _ (terms : Terms) (b : List ℕ) (p : Place) where
+  url-fields : (inner : Reader (ActionsOf Text ℕ)) → readFields terms b inner OpCode.GetUrl p ≡ chain (readGetUrl terms b p) (λ f q. got (flat f) q)
   unfolding readFields readGetUrl
-  url-fields inner = go (readString edition1 b p)
+  url-fields inner = go (readString terms b p)
     where
-      go : (x : Read Text) → chain {B = ActionOf Text ℕ} x (λ u q. chain (readString edition1 b q) (λ t z. got (flat (GetUrl u t)) z)) ≡ chain (chain x (λ u q. chain (readString edition1 b q) (λ t z. got (GetUrl u t) z))) (λ f z. got (flat f) z)
-      go (got u q) = regroup (readString edition1 b q) (λ t. GetUrl u t) (λ f. flat f)
+      go : (x : Read Text) → chain {B = ActionOf Text ℕ} x (λ u q. chain (readString terms b q) (λ t z. got (flat (GetUrl u t)) z)) ≡ chain (chain x (λ u q. chain (readString terms b q) (λ t z. got (GetUrl u t) z))) (λ f z. got (flat f) z)
+      go (got u q) = regroup (readString terms b q) (λ t. GetUrl u t) (λ f. flat f)
       go (bad f q) = refl
 
-  url-long : (f : FlatOf Text) (q : Place) → readGetUrl b p ≡ got f q → Long f
+  url-long : (f : FlatOf Text) (q : Place) → readGetUrl terms b p ≡ got f q → Long f
   unfolding readGetUrl mapFlat opcode byte
-  url-long f q e = ends-with Long (readString edition1 b p) _ (λ u q y z. gives Long (readString edition1 b q) (GetUrl u) (λ t. refl) y z) f q e
+  url-long f q e = ends-with Long (readString terms b p) _ (λ u q y z. gives Long (readString terms b q) (GetUrl u) (λ t. refl) y z) f q e
 
-  wait-fields : (inner : Reader (ActionsOf Text ℕ)) → readFields edition1 b inner OpCode.WaitForFrame p ≡ chain (readWaitForFrame b p) (λ f q. got (flat f) q)
+  wait-fields : (inner : Reader (ActionsOf Text ℕ)) → readFields terms b inner OpCode.WaitForFrame p ≡ chain (readWaitForFrame b p) (λ f q. got (flat f) q)
   unfolding readFields readWaitForFrame
   wait-fields inner = go (readU16 b p)
     where
@@ -91,7 +91,7 @@ module _ (b : List ℕ) (p : Place) where
   unfolding readWaitForFrame mapFlat opcode byte flatSize payloadLength
   wait-fixed f q e = ends-with Fixed (readU16 b p) _ (λ n q y z. gives Fixed (readU8 b q) (WaitForFrame n) (λ k. (refl, omega arith)) y z) f q e
 
-  goto-fields : (inner : Reader (ActionsOf Text ℕ)) → readFields edition1 b inner OpCode.GotoFrame2 p ≡ chain (readGotoFrame2 b p) (λ f q. got (flat f) q)
+  goto-fields : (inner : Reader (ActionsOf Text ℕ)) → readFields terms b inner OpCode.GotoFrame2 p ≡ chain (readGotoFrame2 b p) (λ f q. got (flat f) q)
   unfolding readFields readGotoFrame2
   goto-fields inner = go (readU16 b p)
     where
@@ -108,7 +108,7 @@ module _ (b : List ℕ) (p : Place) where
   unfolding readGotoFrame2 mapFlat opcode byte flatSize payloadLength
   goto-fixed f q e = ends-with Fixed (readU16 b p) _ (λ n q y z. gives Fixed (readFlag b q) (GotoFrame2 n) (λ k. (refl, bias-most n)) y z) f q e
 
-  url2-fields : (inner : Reader (ActionsOf Text ℕ)) → readFields edition1 b inner OpCode.GetUrl2 p ≡ chain (readGetUrl2 b p) (λ f q. got (flat f) q)
+  url2-fields : (inner : Reader (ActionsOf Text ℕ)) → readFields terms b inner OpCode.GetUrl2 p ≡ chain (readGetUrl2 b p) (λ f q. got (flat f) q)
   unfolding readFields readGetUrl2
   url2-fields inner = go (readFlag b p)
     where
@@ -126,22 +126,22 @@ module _ (b : List ℕ) (p : Place) where
   url2-fixed f q e =
       ends-with Fixed (readFlag b p) _ (λ v q y z. ends-with Fixed (readFlag b q) _ (λ t u y z. gives Fixed (readU8 b u) (GetUrl2 v t) (λ m. (refl, omega arith)) y z) y z) f q e
 
-  function-fields : (inner : Reader (ActionsOf Text ℕ)) → readFields edition1 b inner OpCode.DefineFunction p ≡ chain (readFunction b p) (λ o q. chain (inner q) (λ y r. got (owner o y) r))
+  function-fields : (inner : Reader (ActionsOf Text ℕ)) → readFields terms b inner OpCode.DefineFunction p ≡ chain (readFunction terms b p) (λ o q. chain (inner q) (λ y r. got (owner o y) r))
   unfolding readFields readFunction
-  function-fields inner = go (readString edition1 b p)
+  function-fields inner = go (readString terms b p)
     where
       rest : (s : Text) (x : Read (List Text)) → chain x (λ ps q. chain (inner q) (λ y r. got (owner (DefineFunction s ps) y) r)) ≡ chain (chain x (λ ps q. got (DefineFunction s ps) q)) (λ o q. chain (inner q) (λ y r. got (owner o y) r))
       rest s (got ps q) = refl
       rest s (bad f q) = refl
 
-      go : (x : Read Text) → chain x (λ s q. chain (readCounted b (readString edition1 b) q) (λ ps q. chain (inner q) (λ y r. got (owner (DefineFunction s ps) y) r)))
-          ≡ chain (chain x (λ s q. chain (readCounted b (readString edition1 b) q) (λ ps q. got (DefineFunction s ps) q))) (λ o q. chain (inner q) (λ y r. got (owner o y) r))
-      go (got s q) = rest s (readCounted b (readString edition1 b) q)
+      go : (x : Read Text) → chain x (λ s q. chain (readCounted b (readString terms b) q) (λ ps q. chain (inner q) (λ y r. got (owner (DefineFunction s ps) y) r)))
+          ≡ chain (chain x (λ s q. chain (readCounted b (readString terms b) q) (λ ps q. got (DefineFunction s ps) q))) (λ o q. chain (inner q) (λ y r. got (owner o y) r))
+      go (got s q) = rest s (readCounted b (readString terms b) q)
       go (bad f q) = refl
 
-  function2-fields : (inner : Reader (ActionsOf Text ℕ)) → readFields edition1 b inner OpCode.DefineFunction2 p ≡ chain (readFunction2 b p) (λ o q. chain (inner q) (λ y r. got (owner o y) r))
+  function2-fields : (inner : Reader (ActionsOf Text ℕ)) → readFields terms b inner OpCode.DefineFunction2 p ≡ chain (readFunction2 terms b p) (λ o q. chain (inner q) (λ y r. got (owner o y) r))
   unfolding readFields readFunction2
-  function2-fields inner = go (readString edition1 b p)
+  function2-fields inner = go (readString terms b p)
     where
       fourth : (s : Text) (ps : List (FunctionParamOf Text)) (k : ℕ) (x : Read ℕ) → chain x (λ f q. chain (inner q) (λ y r. got (owner (DefineFunction2 s ps k f) y) r))
           ≡ chain (chain x (λ f q. got (DefineFunction2 s ps k f) q)) (λ o q. chain (inner q) (λ y r. got (owner o y) r))
@@ -158,36 +158,36 @@ module _ (b : List ℕ) (p : Place) where
       second s (got ps q) = third s ps (readU8 b q)
       second s (bad f q) = refl
 
-      go : (x : Read Text) → chain x (λ s q. chain (readCounted b (readParam edition1 b) q) (λ ps q. chain (readU8 b q) (λ k q. chain (tested (λ f. ltb f 512) (readU16 b) q) (λ f q. chain (inner q) (λ y r. got (owner (DefineFunction2 s ps k f) y) r)))))
-          ≡ chain (chain x (λ s q. chain (readCounted b (readParam edition1 b) q) (λ ps q. chain (readU8 b q) (λ k q. chain (tested (λ f. ltb f 512) (readU16 b) q) (λ f q. got (DefineFunction2 s ps k f) q))))) (λ o q. chain (inner q) (λ y r. got (owner o y) r))
-      go (got s q) = second s (readCounted b (readParam edition1 b) q)
+      go : (x : Read Text) → chain x (λ s q. chain (readCounted b (readParam terms b) q) (λ ps q. chain (readU8 b q) (λ k q. chain (tested (λ f. ltb f 512) (readU16 b) q) (λ f q. chain (inner q) (λ y r. got (owner (DefineFunction2 s ps k f) y) r)))))
+          ≡ chain (chain x (λ s q. chain (readCounted b (readParam terms b) q) (λ ps q. chain (readU8 b q) (λ k q. chain (tested (λ f. ltb f 512) (readU16 b) q) (λ f q. got (DefineFunction2 s ps k f) q))))) (λ o q. chain (inner q) (λ y r. got (owner o y) r))
+      go (got s q) = second s (readCounted b (readParam terms b) q)
       go (bad f q) = refl
 
   -- both read a function
-  function-is : (o : OwnerOf Text) (q : Place) → readFunction b p ≡ got o q → IsFunction o
+  function-is : (o : OwnerOf Text) (q : Place) → readFunction terms b p ≡ got o q → IsFunction o
   unfolding readFunction
   function-is o q e =
-      ends-with IsFunction (readString edition1 b p) _ (λ s q y z. gives IsFunction (readCounted b (readString edition1 b) q) (DefineFunction s) (λ ps. tt) y z) o q e
+      ends-with IsFunction (readString terms b p) _ (λ s q y z. gives IsFunction (readCounted b (readString terms b) q) (DefineFunction s) (λ ps. tt) y z) o q e
 
-  function2-is : (o : OwnerOf Text) (q : Place) → readFunction2 b p ≡ got o q → IsFunction o
+  function2-is : (o : OwnerOf Text) (q : Place) → readFunction2 terms b p ≡ got o q → IsFunction o
   unfolding readFunction2
   function2-is o q e =
-      ends-with IsFunction (readString edition1 b p) _ (λ s q y z. ends-with IsFunction (readCounted b (readParam edition1 b) q) _ (λ ps q y z.
+      ends-with IsFunction (readString terms b p) _ (λ s q y z. ends-with IsFunction (readCounted b (readParam terms b) q) _ (λ ps q y z.
       ends-with IsFunction (readU8 b q) _ (λ k q y z. gives IsFunction (tested (λ f. ltb f 512) (readU16 b) q) (DefineFunction2 s ps k) (λ f. tt) y z) y z) y z) o q e
 
   -- their places lie within
-  function-good : (small : Bytes b) → p .at ≤ length b → Good (length b) (λ o q. (ownerSize o + p .at ≤ q .at + 4) × (p .at ≤ q .at)) (readFunction b p)
+  function-good : (small : Bytes b) → p .at ≤ length b → Good (length b) (λ o q. (ownerSize o + p .at ≤ q .at + 4) × (p .at ≤ q .at)) (readFunction terms b p)
   unfolding readFunction ownerSize mapOwner ownerLength stringLength
   function-good small l =
-      good-then (text-good edition1 b small spelling (Unit {0}) (spells b small edition1) p l)
-      (λ s q h m. good-then (counted-good edition1 b small spelling (Unit {0}) (spells b small edition1) (λ t. Clean (spelling t)) (λ t. stringLength (spelling t)) (readString edition1 b) (text-good edition1 b small spelling (Unit {0}) (spells b small edition1)) q m)
+      good-then (text-good terms b small spelling (Unit {0}) (spells b small terms) p l)
+      (λ s q h m. good-then (counted-good terms b small spelling (Unit {0}) (spells b small terms) (λ t. Clean (spelling t)) (λ t. stringLength (spelling t)) (readString terms b) (text-good terms b small spelling (Unit {0}) (spells b small terms)) q m)
       (λ ps r g j. fine {a = DefineFunction s ps} {p = r} (omega (arith, h .1 tt, g .2 tt, total-each spelling stringLength ps), omega (arith, h .2, g .3)) j))
 
-  function2-good : (small : Bytes b) → p .at ≤ length b → Good (length b) (λ o q. (ownerSize o + p .at ≤ q .at + 4) × (p .at ≤ q .at)) (readFunction2 b p)
+  function2-good : (small : Bytes b) → p .at ≤ length b → Good (length b) (λ o q. (ownerSize o + p .at ≤ q .at + 4) × (p .at ≤ q .at)) (readFunction2 terms b p)
   unfolding readFunction2 ownerSize mapOwner ownerLength stringLength
   function2-good small l =
-      good-then (text-good edition1 b small spelling (Unit {0}) (spells b small edition1) p l)
-      (λ s p₁ h₁ l₁. good-then (counted-good edition1 b small spelling (Unit {0}) (spells b small edition1) (λ x. ParamFits (mapParam spelling x)) (λ x. paramLength (mapParam spelling x)) (readParam edition1 b) (param-good edition1 b small spelling (Unit {0}) (spells b small edition1)) p₁ l₁)
+      good-then (text-good terms b small spelling (Unit {0}) (spells b small terms) p l)
+      (λ s p₁ h₁ l₁. good-then (counted-good terms b small spelling (Unit {0}) (spells b small terms) (λ x. ParamFits (mapParam spelling x)) (λ x. paramLength (mapParam spelling x)) (readParam terms b) (param-good terms b small spelling (Unit {0}) (spells b small terms)) p₁ l₁)
       (λ ps p₂ h₂ l₂. good-then (u8-good b small p₂ l₂) (λ k p₃ h₃ l₃. good-then (tested-good b small (λ f. ltb f 512) (readU16 b) p₃ l₃ (u16-good b small p₃ l₃))
       (λ f p₄ h₄ l₄. fine {a = DefineFunction2 s ps k f} {p = p₄} (omega (arith, h₁ .1 tt, h₂ .2 tt, h₃ .1, h₄ .0 .1, total-each (mapParam spelling) paramLength ps), omega (arith, h₁ .2, h₂ .3, h₃ .1, h₄ .0 .1)) l₄))))
 
@@ -220,17 +220,17 @@ codes = (refl, refl, refl, refl, refl, refl, refl, refl, refl, refl, refl, refl,
 
 -- ---- the arms
 
-module _ (b : List ℕ) (op at pos : ℕ) (over : List ℕ) (r : Scan) (l : Laid) where
+module _ (terms : Terms) (b : List ℕ) (op at pos : ℕ) (over : List ℕ) (r : Scan) (l : Laid) where
   -- the fields of the opcode at a place
   abbrev Here : List ℕ → Type 0
-  Here o = Laying (λ inner. readFieldsIf edition1 b inner (opcodeOf op) (placed at) (placed (at + 1))) at (length b) pos over o l
+  Here o = Laying (terms .labelBound) (λ inner. readFieldsIf terms b inner (opcodeOf op) (placed at) (placed (at + 1))) at (length b) pos over o l
 
   abbrev fieldsOf : OpCode → Reader (ActionsOf Text ℕ) → Read (ActionOf Text ℕ)
-  fieldsOf o inner = readFields edition1 b inner o (placed (at + 1))
+  fieldsOf o inner = readFields terms b inner o (placed (at + 1))
 
   -- with the opcode's name
   abbrev Of : OpCode → List ℕ → Type 0
-  Of o v = Laying (λ inner. readFields edition1 b inner o (placed (at + 1))) at (length b) pos over v l
+  Of o v = Laying (terms .labelBound) (λ inner. readFields terms b inner o (placed (at + 1))) at (length b) pos over v l
 
   named : (n : ℕ) (o : OpCode) (v : List ℕ) → opcodeOf n ≡ some o → op ≡ n → Of o v → Here v
   unfolding readFieldsIf
@@ -241,9 +241,9 @@ module _ (b : List ℕ) (op at pos : ℕ) (over : List ℕ) (r : Scan) (l : Laid
   arm-goto-frame o e m =
       named 0x81 OpCode.GotoFrame over (codes .0) o (lay-flat _ GotoFrame at (length b) pos over (λ _. 0) (pos + 3 + 2) (λ a. omega arith) (readU16 b (placed (at + 1))) (λ inner. refl) (λ a q g. (refl, omega arith)) r l (e ∙ number-as _ _ _ _ _ _) m)
 
-  pub arm-get-url : (over′ : List ℕ) → op ≡ 0x83 → r ≡ scanned flatSize (pos + 3) (readGetUrl b (placed (at + 1))) → l ≡ laidAs 0 r → over′ ≡ notedFrom (pos + 3) r over → Here over′
+  pub arm-get-url : (over′ : List ℕ) → op ≡ 0x83 → r ≡ scanned flatSize (pos + 3) (readGetUrl terms b (placed (at + 1))) → l ≡ laidAs 0 r → over′ ≡ notedFrom (pos + 3) r over → Here over′
   arm-get-url over′ o e m n =
-      named 0x83 OpCode.GetUrl over′ (codes .1) o (lay-long (fieldsOf OpCode.GetUrl) (λ f. f) at (length b) pos over flatSize (pos + 3) (λ a. refl) (readGetUrl b (placed (at + 1))) (url-fields b (placed (at + 1))) (url-long b (placed (at + 1))) over′ r l e m n)
+      named 0x83 OpCode.GetUrl over′ (codes .1) o (lay-long (fieldsOf OpCode.GetUrl) (λ f. f) at (length b) pos over flatSize (pos + 3) (λ a. refl) (readGetUrl terms b (placed (at + 1))) (url-fields terms b (placed (at + 1))) (url-long terms b (placed (at + 1))) over′ r l e m n)
 
   pub arm-store-register : op ≡ 0x87 → r ≡ scanned (λ _. 0) (pos + 3 + 1) (readBytes b 1 (placed (at + 1))) → l ≡ laidAs 0 r → Here over
   unfolding readFields readBytes readU8 flatSize mapFlat payloadLength opcode byte
@@ -257,84 +257,84 @@ module _ (b : List ℕ) (op at pos : ℕ) (over : List ℕ) (r : Scan) (l : Laid
 
   pub arm-wait-for-frame : op ≡ 0x8A → r ≡ scanned flatSize (pos + 3) (readWaitForFrame b (placed (at + 1))) → l ≡ laidAs 0 r → Here over
   arm-wait-for-frame o e m =
-      named 0x8A OpCode.WaitForFrame over (codes .4) o (lay-flat (fieldsOf OpCode.WaitForFrame) (λ f. f) at (length b) pos over flatSize (pos + 3) (λ a. refl) (readWaitForFrame b (placed (at + 1))) (wait-fields b (placed (at + 1))) (wait-fixed b (placed (at + 1))) r l e m)
+      named 0x8A OpCode.WaitForFrame over (codes .4) o (lay-flat (fieldsOf OpCode.WaitForFrame) (λ f. f) at (length b) pos over flatSize (pos + 3) (λ a. refl) (readWaitForFrame b (placed (at + 1))) (wait-fields terms b (placed (at + 1))) (wait-fixed terms b (placed (at + 1))) r l e m)
 
   pub arm-goto-frame-2 : op ≡ 0x9F → r ≡ scanned flatSize (pos + 3) (readGotoFrame2 b (placed (at + 1))) → l ≡ laidAs 0 r → Here over
   arm-goto-frame-2 o e m =
-      named 0x9F OpCode.GotoFrame2 over (codes .17) o (lay-flat (fieldsOf OpCode.GotoFrame2) (λ f. f) at (length b) pos over flatSize (pos + 3) (λ a. refl) (readGotoFrame2 b (placed (at + 1))) (goto-fields b (placed (at + 1))) (goto-fixed b (placed (at + 1))) r l e m)
+      named 0x9F OpCode.GotoFrame2 over (codes .17) o (lay-flat (fieldsOf OpCode.GotoFrame2) (λ f. f) at (length b) pos over flatSize (pos + 3) (λ a. refl) (readGotoFrame2 b (placed (at + 1))) (goto-fields terms b (placed (at + 1))) (goto-fixed terms b (placed (at + 1))) r l e m)
 
   pub arm-get-url-2 : op ≡ 0x9A → r ≡ scanned flatSize (pos + 3) (readGetUrl2 b (placed (at + 1))) → l ≡ laidAs 0 r → Here over
   arm-get-url-2 o e m =
-      named 0x9A OpCode.GetUrl2 over (codes .13) o (lay-flat (fieldsOf OpCode.GetUrl2) (λ f. f) at (length b) pos over flatSize (pos + 3) (λ a. refl) (readGetUrl2 b (placed (at + 1))) (url2-fields b (placed (at + 1))) (url2-fixed b (placed (at + 1))) r l e m)
+      named 0x9A OpCode.GetUrl2 over (codes .13) o (lay-flat (fieldsOf OpCode.GetUrl2) (λ f. f) at (length b) pos over flatSize (pos + 3) (λ a. refl) (readGetUrl2 b (placed (at + 1))) (url2-fields terms b (placed (at + 1))) (url2-fixed terms b (placed (at + 1))) r l e m)
 
-  pub arm-set-target : (over′ : List ℕ) → op ≡ 0x8B → r ≡ scanned stringSize (pos + 3) (readString edition1 b (placed (at + 1))) → l ≡ laidAs 0 r → over′ ≡ notedFrom (pos + 3) r over → Here over′
+  pub arm-set-target : (over′ : List ℕ) → op ≡ 0x8B → r ≡ scanned stringSize (pos + 3) (readString terms b (placed (at + 1))) → l ≡ laidAs 0 r → over′ ≡ notedFrom (pos + 3) r over → Here over′
   unfolding readFields flatSize mapFlat payloadLength opcode byte stringSize stringLength
   arm-set-target over′ o e m n =
-      named 0x8B OpCode.SetTarget over′ (codes .5) o (lay-long (fieldsOf OpCode.SetTarget) SetTarget at (length b) pos over stringSize (pos + 3) (λ a. omega arith) (readString edition1 b (placed (at + 1))) (λ inner. refl) (λ a q g. refl) over′ r l e m n)
+      named 0x8B OpCode.SetTarget over′ (codes .5) o (lay-long (fieldsOf OpCode.SetTarget) SetTarget at (length b) pos over stringSize (pos + 3) (λ a. omega arith) (readString terms b (placed (at + 1))) (λ inner. refl) (λ a q g. refl) over′ r l e m n)
 
-  pub arm-goto-label : (over′ : List ℕ) → op ≡ 0x8C → r ≡ scanned stringSize (pos + 3) (readString edition1 b (placed (at + 1))) → l ≡ laidAs 0 r → over′ ≡ notedFrom (pos + 3) r over → Here over′
+  pub arm-goto-label : (over′ : List ℕ) → op ≡ 0x8C → r ≡ scanned stringSize (pos + 3) (readString terms b (placed (at + 1))) → l ≡ laidAs 0 r → over′ ≡ notedFrom (pos + 3) r over → Here over′
   unfolding readFields flatSize mapFlat payloadLength opcode byte stringSize stringLength
   arm-goto-label over′ o e m n =
-      named 0x8C OpCode.GotoLabel over′ (codes .6) o (lay-long (fieldsOf OpCode.GotoLabel) GotoLabel at (length b) pos over stringSize (pos + 3) (λ a. omega arith) (readString edition1 b (placed (at + 1))) (λ inner. refl) (λ a q g. refl) over′ r l e m n)
+      named 0x8C OpCode.GotoLabel over′ (codes .6) o (lay-long (fieldsOf OpCode.GotoLabel) GotoLabel at (length b) pos over stringSize (pos + 3) (λ a. omega arith) (readString terms b (placed (at + 1))) (λ inner. refl) (λ a q g. refl) over′ r l e m n)
 
   -- a list is measured from a position w on: that of an action whose list is empty
-  pub arm-constant-pool : (over′ : List ℕ) (w : ℕ) → op ≡ 0x88 → w ≡ pos + 3 + 2 → r ≡ scanned (total (namedSize 0)) w (readCounted b (readNamed b 0) (placed (at + 1))) → l ≡ laidAs 0 r → over′ ≡ notedFrom (pos + 3) r over
+  pub arm-constant-pool : (over′ : List ℕ) (w : ℕ) → op ≡ 0x88 → w ≡ pos + 3 + 2 → r ≡ scanned (total (namedSize 0)) w (readCounted b (readNamed terms b 0) (placed (at + 1))) → l ≡ laidAs 0 r → over′ ≡ notedFrom (pos + 3) r over
       → Here over′
   unfolding readFields flatSize mapFlat payloadLength opcode byte
   arm-constant-pool over′ w o h e m n =
-      named 0x88 OpCode.ConstantPool over′ (codes .3) o (lay-long (fieldsOf OpCode.ConstantPool) ConstantPool at (length b) pos over (total (λ s. namedSize 0 s)) w (λ ss. omega (arith, h, strings-total ss)) (readCounted b (readString edition1 b) (placed (at + 1))) (λ inner. refl) (λ a q g. refl) over′ r l
-      (e ∙ scanned-list (λ s. s) (readString edition1 b) (readNamed b 0) (named-plain b) b (namedSize 0) w (placed (at + 1))) m n)
+      named 0x88 OpCode.ConstantPool over′ (codes .3) o (lay-long (fieldsOf OpCode.ConstantPool) ConstantPool at (length b) pos over (total (λ s. namedSize 0 s)) w (λ ss. omega (arith, h, strings-total ss)) (readCounted b (readString terms b) (placed (at + 1))) (λ inner. refl) (λ a q g. refl) over′ r l
+      (e ∙ scanned-list (λ s. s) (readString terms b) (readNamed terms b 0) (named-plain terms b) b (namedSize 0) w (placed (at + 1))) m n)
 
   values-total : (vs : List (PushValueOf Text)) → total valueSize vs ≡ total pushLength (each (mapValue spelling) vs)
   unfolding total each valueSize
   values-total [] = refl
   values-total (v ∷ vs) = omega (arith, values-total vs)
 
-  pub arm-push : (over′ : List ℕ) (w : ℕ) → op ≡ 0x96 → w ≡ pos + 3 + 0 → r ≡ scanned (total valueSize) w (readCounted b (readValue edition1 b) (placed (at + 1))) → l ≡ laidAs 0 r → over′ ≡ notedFrom (pos + 3) r over → Here over′
+  pub arm-push : (over′ : List ℕ) (w : ℕ) → op ≡ 0x96 → w ≡ pos + 3 + 0 → r ≡ scanned (total valueSize) w (readCounted b (readValue terms b) (placed (at + 1))) → l ≡ laidAs 0 r → over′ ≡ notedFrom (pos + 3) r over → Here over′
   unfolding readFields flatSize mapFlat payloadLength opcode byte
   arm-push over′ w o h e m n =
-      named 0x96 OpCode.Push over′ (codes .11) o (lay-long (fieldsOf OpCode.Push) Push at (length b) pos over (total valueSize) w (λ vs. omega (arith, h, values-total vs)) (readCounted b (readValue edition1 b) (placed (at + 1))) (λ inner. refl) (λ a q g. refl) over′ r l e m n)
+      named 0x96 OpCode.Push over′ (codes .11) o (lay-long (fieldsOf OpCode.Push) Push at (length b) pos over (total valueSize) w (λ vs. omega (arith, h, values-total vs)) (readCounted b (readValue terms b) (placed (at + 1))) (λ inner. refl) (λ a q g. refl) over′ r l e m n)
 
   module _ (small : Bytes b) (inside : at + 1 ≤ length b) where
-    pub arm-define-function : (over′ : List ℕ) → op ≡ 0x9B → r ≡ scanned ownerSize (pos + 3) (readFunction b (placed (at + 1))) → l ≡ laidFunction r → over′ ≡ notedFrom (pos + 3) r over → Here over′
+    pub arm-define-function : (over′ : List ℕ) → op ≡ 0x9B → r ≡ scanned ownerSize (pos + 3) (readFunction terms b (placed (at + 1))) → l ≡ laidFunction r → over′ ≡ notedFrom (pos + 3) r over → Here over′
     arm-define-function over′ o e m n =
-        named 0x9B OpCode.DefineFunction over′ (codes .14) o (lay-function (fieldsOf OpCode.DefineFunction) (readFunction b (placed (at + 1))) (function-fields b (placed (at + 1))) at (length b) pos (λ x q g. (function-is b (placed (at + 1)) x q g, owner-onward b (placed (at + 1)) at x q (good-got x q (function-good b (placed (at + 1)) small inside) g) refl pos)) over over′ r l e m n)
+        named 0x9B OpCode.DefineFunction over′ (codes .14) o (lay-function (fieldsOf OpCode.DefineFunction) (readFunction terms b (placed (at + 1))) (function-fields terms b (placed (at + 1))) at (length b) pos (λ x q g. (function-is terms b (placed (at + 1)) x q g, owner-onward terms b (placed (at + 1)) at x q (good-got x q (function-good terms b (placed (at + 1)) small inside) g) refl pos)) over over′ r l e m n)
 
-    pub arm-define-function-2 : (over′ : List ℕ) → op ≡ 0x8E → r ≡ scanned ownerSize (pos + 3) (readFunction2 b (placed (at + 1))) → l ≡ laidFunction r → over′ ≡ notedFrom (pos + 3) r over → Here over′
+    pub arm-define-function-2 : (over′ : List ℕ) → op ≡ 0x8E → r ≡ scanned ownerSize (pos + 3) (readFunction2 terms b (placed (at + 1))) → l ≡ laidFunction r → over′ ≡ notedFrom (pos + 3) r over → Here over′
     arm-define-function-2 over′ o e m n =
-        named 0x8E OpCode.DefineFunction2 over′ (codes .8) o (lay-function (fieldsOf OpCode.DefineFunction2) (readFunction2 b (placed (at + 1))) (function2-fields b (placed (at + 1))) at (length b) pos (λ x q g. (function2-is b (placed (at + 1)) x q g, owner-onward b (placed (at + 1)) at x q (good-got x q (function2-good b (placed (at + 1)) small inside) g) refl pos)) over over′ r l e m n)
+        named 0x8E OpCode.DefineFunction2 over′ (codes .8) o (lay-function (fieldsOf OpCode.DefineFunction2) (readFunction2 terms b (placed (at + 1))) (function2-fields terms b (placed (at + 1))) at (length b) pos (λ x q g. (function2-is terms b (placed (at + 1)) x q g, owner-onward terms b (placed (at + 1)) at x q (good-got x q (function2-good terms b (placed (at + 1)) small inside) g) refl pos)) over over′ r l e m n)
 
 -- ---- branches
 
-module _ (b : List ℕ) (op at pos : ℕ) (over : List ℕ) (l : Laid) (inside : at + 1 ≤ length b) where
+module _ (terms : Terms) (b : List ℕ) (op at pos : ℕ) (over : List ℕ) (l : Laid) (inside : at + 1 ≤ length b) where
   abbrev Led : Type 0
-  Led = Laying (λ inner. readFieldsIf edition1 b inner (opcodeOf op) (placed at) (placed (at + 1))) at (length b) pos over over l
+  Led = Laying (terms .labelBound) (λ inner. readFieldsIf terms b inner (opcodeOf op) (placed at) (placed (at + 1))) at (length b) pos over over l
 
-  pub arm-jump : op ≡ 0x99 → l ≡ branchLaid (pos + 3) (readLabel edition1 b 0 (placed (at + 1))) → Led
+  pub arm-jump : op ≡ 0x99 → l ≡ branchLaid (pos + 3) (readLabel terms b 0 (placed (at + 1))) → Led
   unfolding readFieldsIf readFields
   arm-jump o m =
-      rw (o, codes .12) (lay-branch (λ inner. readFields edition1 b inner OpCode.Jump (placed (at + 1))) Jump (readLabel edition1 b 0 (placed (at + 1))) (λ inner. refl) (λ n q e. label-here b (at + 1) inside n q e .1) at (length b) pos (pos + 3) over l refl m)
+      rw (o, codes .12) (lay-branch (λ inner. readFields terms b inner OpCode.Jump (placed (at + 1))) Jump (readLabel terms b 0 (placed (at + 1))) (λ inner. refl) (λ n q e. label-here terms b (at + 1) inside n q e .1) at (length b) pos (pos + 3) over l refl m)
 
-  pub arm-if : op ≡ 0x9D → l ≡ branchLaid (pos + 3) (readLabel edition1 b 0 (placed (at + 1))) → Led
+  pub arm-if : op ≡ 0x9D → l ≡ branchLaid (pos + 3) (readLabel terms b 0 (placed (at + 1))) → Led
   unfolding readFieldsIf readFields
   arm-if o m =
-      rw (o, codes .15) (lay-branch (λ inner. readFields edition1 b inner OpCode.If (placed (at + 1))) If (readLabel edition1 b 0 (placed (at + 1))) (λ inner. refl) (λ n q e. label-here b (at + 1) inside n q e .1) at (length b) pos (pos + 3) over l refl m)
+      rw (o, codes .15) (lay-branch (λ inner. readFields terms b inner OpCode.If (placed (at + 1))) If (readLabel terms b 0 (placed (at + 1))) (λ inner. refl) (λ n q e. label-here terms b (at + 1) inside n q e .1) at (length b) pos (pos + 3) over l refl m)
 
 -- ---- opcodes whose bodies follow at once, or that have no field
 
-module _ (b : List ℕ) (op at pos : ℕ) (over : List ℕ) where
+module _ (terms : Terms) (b : List ℕ) (op at pos : ℕ) (over : List ℕ) where
   pub arm-try : Bytes b → at + 1 ≤ length b → (l : Laid) (over′ : List ℕ) → op ≡ 0x8F
-      → Tried (scanned caughtSize (pos + 3) (readCaught b (placed (at + 1)))) (bodiesAfter (getD b (at + 1) 0)) (pos + 3) l over over′
-      → Laying (λ inner. readFieldsIf edition1 b inner (opcodeOf op) (placed at) (placed (at + 1))) at (length b) pos over over′ l
+      → Tried (scanned caughtSize (pos + 3) (readCaught terms b (placed (at + 1)))) (bodiesAfter (getD b (at + 1) 0)) (pos + 3) l over over′
+      → Laying (terms .labelBound) (λ inner. readFieldsIf terms b inner (opcodeOf op) (placed at) (placed (at + 1))) at (length b) pos over over′ l
   unfolding readFieldsIf
-  arm-try small inside l over′ o h = rw (o, codes .9) (lay-try b small at (at + 1) pos refl inside over over′ l h)
+  arm-try small inside l over′ o h = rw (o, codes .9) (lay-try terms b small at (at + 1) pos refl inside over over′ l h)
 
   pub arm-with : op ≡ 0x94 → at + 1 ≤ length b
-      → Laying (λ inner. readFieldsIf edition1 b inner (opcodeOf op) (placed at) (placed (at + 1))) at (length b) pos over over (laid.Bodies (at + 1) (record { 0 = pos + 3 + 2 }) 1)
+      → Laying (terms .labelBound) (λ inner. readFieldsIf terms b inner (opcodeOf op) (placed at) (placed (at + 1))) at (length b) pos over over (laid.Bodies (at + 1) (record { 0 = pos + 3 + 2 }) 1)
   unfolding readFieldsIf
   arm-with o h =
       rw (o, codes .10) (Laying.bodies {q = at + 1} {n = 1} {w = record { 0 = pos + 3 + 2 }} (omega arith)
-      (owning (λ inner. readFields edition1 b inner OpCode.With (placed (at + 1))) With (placed (at + 1)) (λ inner. unfold readFields in refl) at (length b) pos (record { 0 = pos + 3 + 2 }) (ap (λ (n : ℕ). pos + 3 + n) (sym with-size))
+      (owning (λ inner. readFields terms b inner OpCode.With (placed (at + 1))) With (placed (at + 1)) (λ inner. unfold readFields in refl) at (length b) pos (record { 0 = pos + 3 + 2 }) (ap (λ (n : ℕ). pos + 3 + n) (sym with-size))
       (record { beyond = omega arith; within = h; written = omega arith }) (λ home. home) (λ home. unfold homeIn mapOwner in refl) over over
       (noted-short 8 2 over (omega arith) ∙ ap (λ (n : ℕ). notedIf 8 n over) (sym with-size))))
     where
@@ -342,7 +342,7 @@ module _ (b : List ℕ) (op at pos : ℕ) (over : List ℕ) where
       with-size = unfold ownerSize mapOwner ownerLength in refl
 
   pub arm-call : op ≡ 0x9E
-      → Laying (λ inner. readFieldsIf edition1 b inner (opcodeOf op) (placed at) (placed (at + 1))) at (length b) pos over over (laid.Flat (at + 1) (record { 0 = pos + 3 + 0 }))
+      → Laying (terms .labelBound) (λ inner. readFieldsIf terms b inner (opcodeOf op) (placed at) (placed (at + 1))) at (length b) pos over over (laid.Flat (at + 1) (record { 0 = pos + 3 + 0 }))
   unfolding readFieldsIf readFields
   arm-call o =
       rw (add-zero, o, codes .16) (Laying.flat {q = at + 1} {w = record { 0 = pos + 3 }} (λ inner tab home. outcome-got actionSize actionTrace (position pos home) (state tab over) refl
@@ -350,7 +350,7 @@ module _ (b : List ℕ) (op at pos : ℕ) (over : List ℕ) where
       (λ inner home. measured-got actionSize actionTrace (position pos home) refl (unfold size mapAction mapFlat opcode payload framed headed byte smallByte le16 in refl) (unfold trace mapAction mapFlat payload payloadTest eventIf branches in refl)))
 
   pub arm-unknown : opcodeOf op ≡ none
-      → Laying (λ inner. readFieldsIf edition1 b inner (opcodeOf op) (placed at) (placed (at + 1))) at (length b) pos over over (laid.Stops fault.UnknownCode at)
+      → Laying (terms .labelBound) (λ inner. readFieldsIf terms b inner (opcodeOf op) (placed at) (placed (at + 1))) at (length b) pos over over (laid.Stops fault.UnknownCode at)
   unfolding readFieldsIf outcome faultOf
   arm-unknown o = rw o (Laying.stops {f = fault.UnknownCode} {q = at} (λ inner t home. refl))
 

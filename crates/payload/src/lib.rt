@@ -4,10 +4,11 @@ ghost use mathlib.Core.Path.{_≡_};
 ghost use Prim.Native.Nat.{_+_, _≤_, _<_};
 ghost use lib.ListN.{length, getD};
 ghost use Rattle.layout.specs.OpCode.{opcodeOf};
-ghost use Rattle.layout.specs.Read.{edition1, placed, readLabel, readFieldsIf};
+ghost use Rattle.layout.specs.Read.{placed, readLabel, readFieldsIf};
 ghost use Rattle.positions.specs.Scanned.{scanned, Roomy};
 ghost use Rattle.measure.specs.Walk.{Laying, branchLaid, Tried};
 ghost use Rattle.action_fields.specs.Fields.{readCaught, caughtSize, bodiesAfter};
+ghost use Rattle.editions.specs.Allowed.{termsOf};
 use action_fields::scan_catch;
 use action_fields::scan_define_function;
 use action_fields::scan_define_function_2;
@@ -15,6 +16,7 @@ use action_fields::scan_get_url;
 use action_fields::scan_get_url_2;
 use action_fields::scan_goto_frame_2;
 use action_fields::scan_wait_for_frame;
+use editions::Terms;
 use fields::u16_at;
 use lists::scan_push;
 use lists::scan_strings;
@@ -31,22 +33,22 @@ use positions::Fault;
 use positions::Scan;
 
 // Jump and If: a label.
-fn scan_branch(b: &[u8], at: usize, pos: BytePosition) -> Laid
+fn scan_branch(b: &[u8], terms: Terms, at: usize, pos: BytePosition) -> Laid
     requires { ⌜ Roomy (now b) at pos ⌝ }
-    ensures { λ l. ⌜ l ≡ branchLaid (pos .0) (readLabel edition1 (now (b .entry)) 0 (placed at)) ⌝ }
+    ensures { λ l. ⌜ l ≡ branchLaid (pos .0) (readLabel (termsOf terms) (now (b .entry)) 0 (placed at)) ⌝ }
 {
-    match scan_label(b, at, BytePosition(pos.0 + OpCode::U16_LEN)) {
+    match scan_label(b, terms, at, BytePosition(pos.0 + OpCode::U16_LEN)) {
         Scan::Stops(f, p) => Laid::Stops(f, p),
         Scan::Ends(p, w) => Laid::Branch(p, w, u16_at(b, at)),
     }
 }
 
 // Try: one to three bodies follow, by its shape.
-fn scan_try(b: &[u8], at: usize, pos: BytePosition, over: &mut [usize]) -> Laid
+fn scan_try(b: &[u8], terms: Terms, at: usize, pos: BytePosition, over: &mut [usize]) -> Laid
     requires { ⌜ (length (now over) ≡ 2) × Roomy (now b) at pos ⌝ }
-    ensures { λ l. ⌜ Tried (scanned caughtSize (pos .0) (readCaught (now (b .entry)) (placed at))) (bodiesAfter (getD (now (b .entry)) at 0)) (pos .0) l (now (over .entry)) (now (over .exit)) ⌝ }
+    ensures { λ l. ⌜ Tried (scanned caughtSize (pos .0) (readCaught (termsOf terms) (now (b .entry)) (placed at))) (bodiesAfter (getD (now (b .entry)) at 0)) (pos .0) l (now (over .entry)) (now (over .exit)) ⌝ }
 {
-    match scan_catch(b, at, pos) {
+    match scan_catch(b, terms, at, pos) {
         Scan::Stops(f, p) => Laid::Stops(f, p),
         Scan::Ends(p, w) => {
             let shape = b[at] as usize;
@@ -57,9 +59,16 @@ fn scan_try(b: &[u8], at: usize, pos: BytePosition, over: &mut [usize]) -> Laid
 
 // The payload of an opcode from 80 on, which stands at a place; `pos` is the action's position. A payload of a byte ends at `byte`,
 // one of a u16 at `word`; a list is measured from the end of a payload whose list is empty.
-pub fn scan_payload(b: &[u8], op: u8, at: usize, pos: BytePosition, over: &mut [usize]) -> Laid
+pub fn scan_payload(
+    b: &[u8],
+    terms: Terms,
+    op: u8,
+    at: usize,
+    pos: BytePosition,
+    over: &mut [usize],
+) -> Laid
     requires { ⌜ (128 ≤ op) × (at < length (now b)) × (length (now over) ≡ 2) × Roomy (now b) at pos ⌝ }
-    ensures { λ l. ⌜ Laying (λ inner. readFieldsIf edition1 (now (b .entry)) inner (opcodeOf op) (placed at) (placed (at + 1))) at (length (now (b .entry))) (pos .0) (now (over .entry)) (now (over .exit)) l ⌝ }
+    ensures { λ l. ⌜ Laying (termsOf terms .labelBound) (λ inner. readFieldsIf (termsOf terms) (now (b .entry)) inner (opcodeOf op) (placed at) (placed (at + 1))) at (length (now (b .entry))) (pos .0) (now (over .entry)) (now (over .exit)) l ⌝ }
 {
     let p = at + 1;
     let w = BytePosition(pos.0 + OpCode::HEADER_LEN);
@@ -67,31 +76,41 @@ pub fn scan_payload(b: &[u8], op: u8, at: usize, pos: BytePosition, over: &mut [
     let word = BytePosition(w.0 + OpCode::U16_LEN);
     match op {
         OpCode::GOTO_FRAME => flat_payload(scan_bytes(b, p, 2, word)),
-        OpCode::GET_URL => long_payload(scan_get_url(b, p, w), w, 0, over),
+        OpCode::GET_URL => long_payload(scan_get_url(b, terms, p, w), w, 0, over),
         OpCode::STORE_REGISTER => flat_payload(scan_bytes(b, p, 1, byte)),
         OpCode::CONSTANT_POOL => long_payload(
-            scan_strings(b, p, 0, BytePosition(w.0 + OpCode::constant_pool_len(0))),
+            scan_strings(
+                b,
+                terms,
+                p,
+                0,
+                BytePosition(w.0 + OpCode::constant_pool_len(0)),
+            ),
             w,
             0,
             over,
         ),
         OpCode::WAIT_FOR_FRAME => flat_payload(scan_wait_for_frame(b, p, w)),
-        OpCode::SET_TARGET => long_payload(scan_string(b, p, w), w, 0, over),
-        OpCode::GOTO_LABEL => long_payload(scan_string(b, p, w), w, 0, over),
+        OpCode::SET_TARGET => long_payload(scan_string(b, terms, p, w), w, 0, over),
+        OpCode::GOTO_LABEL => long_payload(scan_string(b, terms, p, w), w, 0, over),
         OpCode::WAIT_FOR_FRAME2 => flat_payload(scan_bytes(b, p, 1, byte)),
-        OpCode::DEFINE_FUNCTION2 => function_payload(scan_define_function_2(b, p, w), w, over),
-        OpCode::TRY => scan_try(b, p, w, over),
+        OpCode::DEFINE_FUNCTION2 => function_payload(
+            scan_define_function_2(b, terms, p, w),
+            w,
+            over,
+        ),
+        OpCode::TRY => scan_try(b, terms, p, w, over),
         OpCode::WITH => Laid::Bodies(p, word, 1),
         OpCode::PUSH => long_payload(
-            scan_push(b, p, BytePosition(w.0 + OpCode::push_len(0))),
+            scan_push(b, terms, p, BytePosition(w.0 + OpCode::push_len(0))),
             w,
             0,
             over,
         ),
-        OpCode::JUMP => scan_branch(b, p, w),
+        OpCode::JUMP => scan_branch(b, terms, p, w),
         OpCode::GET_URL2 => flat_payload(scan_get_url_2(b, p, w)),
-        OpCode::DEFINE_FUNCTION => function_payload(scan_define_function(b, p, w), w, over),
-        OpCode::IF => scan_branch(b, p, w),
+        OpCode::DEFINE_FUNCTION => function_payload(scan_define_function(b, terms, p, w), w, over),
+        OpCode::IF => scan_branch(b, terms, p, w),
         OpCode::CALL => Laid::Flat(p, BytePosition(w.0 + OpCode::CALL_LEN)),
         OpCode::GOTO_FRAME2 => flat_payload(scan_goto_frame_2(b, p, w)),
         _ => Laid::Stops(Fault::UnknownCode, at),

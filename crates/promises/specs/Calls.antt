@@ -4,7 +4,7 @@
 use mathlib.Core.Path.{_≡_, refl, sym, ap, _∙_, subst}
 use mathlib.Core.Bool.{true, false}
 use mathlib.Core.Option.{none}
-use mathlib.Core.Logic.{_⊎_, inl, inr}
+use mathlib.Core.Logic.{_⊎_, inl, inr, ⊎-elim}
 use Prim.Native.Nat.{ℕ, _+_, _*_, _≤_, _<_}
 use native.Mathlib.Omega.{arith}
 use mathlib.Core.List.{List, _++_}
@@ -14,6 +14,7 @@ use lib.IntN.{ℤ, pos}
 use Rattle.layout.specs.Answers.{Fault, CutShort, UnknownCode, BadField, TooDeep, LeftOver, Refusal, SheetTooLong, BadTrailer, ReadingFault, ActionLenOverflow, BlockLenOverflow, JumpOffsetOverflow, NoRoom, InputFull, Unclean, NeverRecorded, StrayBranch, Answer, Done, Refused, faultNumber, refusalNumber, refusalValue, number, value, lengthOf, Told}
 use Rattle.layout.specs.Tree.{Actions}
 use Rattle.layout.specs.Judge.{Mode, plainMode}
+use Rattle.layout.specs.Cut.{First, Second}
 use Rattle.layout.specs.Pack.{pack, output, Outcome, ReadsAs}
 use Rattle.layout.specs.Order.{same-outcome}
 use Rattle.layout.specs.Lengths.{length-block}
@@ -23,6 +24,7 @@ use Rattle.laws.specs.Modes.{OfMode, never-recorded, stray-branch, asks, Strict
 use Rattle.laws.specs.Barred.{Stray, TreeRecorded, TreeContained, recorded-plain, done-recorded, done-contained, FirstWrong, unrecorded-first, stray-first}
 use Rattle.laws.specs.Packed.{Written, refused-done, Packed, is-packed, sheetDistance}
 use Rattle.laws.specs.Demands.{same-meaning, length-done, noteLength, same-note, same-note-output}
+use Rattle.laws.specs.Editions.{sheetIn, other-edition}
 use Rattle.agreement.specs.Source.{ActionEncoder, Result, ok, err, encode}
 use Rattle.agreement.specs.SourceAgrees.{Agrees, in-room, no-room, overflowed, same-as-source, agrees-once}
 use Rattle.agreement.specs.Published.{Block, asWritten, asPublished, BodyUndisputed}
@@ -135,10 +137,25 @@ same-but-note m s s′ l r o n n′ v v′ after after′ h h′ =
       holds = h′ .holds ∙ sym (same-note-output s s′ l r m o);
     })
 
+-- ---- the edition
+
+-- two calls on sheets that differ only in the edition, with equal outputs: number, value and output are equal, or the call on edition 1
+-- answers 5 and leaves the output as it was
+pub same-but-edition : (m : Mode) (front mark : List ℕ) → length mark ≡ 2 → (o : List ℕ) (n n′ : ℕ) (v v′ : ℤ) (after after′ : List ℕ)
+    → Outcome m (sheetIn First front mark) o n v after → Outcome m (sheetIn Second front mark) o n′ v′ after′ → ((n ≡ n′) × (v ≡ v′) × (after ≡ after′)) ⊎ ((n ≡ 5) × (after ≡ o))
+unfolding number refusalNumber faultNumber output
+same-but-edition m front mark two o n n′ v v′ after after′ h h′ = ⊎-elim (λ e. inl (equal e)) (λ r. inr (refused (r .is-refused))) (other-edition m front mark two (length o))
+  where
+    equal : pack m (sheetIn First front mark) (length o) ≡ pack m (sheetIn Second front mark) (length o) → (n ≡ n′) × (v ≡ v′) × (after ≡ after′)
+    equal e = same-outcome h (record { told = rw e (h′ .told); holds = rw e (h′ .holds) })
+
+    refused : {p : ℕ} → pack m (sheetIn First front mark) (length o) ≡ Refused (ReadingFault BadField p) → (n ≡ 5) × (after ≡ o)
+    refused e = (h .told .is-number ∙ ap number e, h .holds ∙ ap (λ (a : Answer (List ℕ)). output a o) e)
+
 -- ---- demand 3
 
--- two calls that answer 0 and leave equal blocks were given equal meanings, whatever their modes were, their outputs held and their
--- rooms were
+-- two calls that answer 0 and leave equal blocks were given equal meanings, whatever their modes and editions were, their outputs held
+-- and their rooms were
 pub same-block-meaning : (m m′ : Mode) (s s′ o o′ : List ℕ) (k k′ : ℕ) (after after′ : List ℕ) (t t′ : Actions) → Bytes s → Bytes s′ → ReadsAs s t → ReadsAs s′ t′
     → Outcome m s o 0 (pos k) after → Outcome m′ s′ o′ 0 (pos k′) after′ → take k after ≡ take k′ after′ → meaning t ≡ meaning t′
 same-block-meaning m m′ s s′ o o′ k k′ after after′ t t′ small small′ r r′ h h′ e =

@@ -1,5 +1,12 @@
 // Reads sheets from standard input, each after its length in four bytes and before four bytes of room, and writes a line for
 // each: the number of its reading, and the value.
+ghost use Prim.Native.Nat.{_≤_};
+ghost use lib.ListN.{length};
+use cut::CutMain;
+use cut::cut_main;
+use editions::Edition;
+use editions::Terms;
+use editions::terms_of;
 use fields::u32_at;
 use io::print_decimal;
 use io::write_all;
@@ -7,7 +14,7 @@ use libc::STDIN_FILENO;
 use libc::STDOUT_FILENO;
 use positions::Fault;
 use reading::Reading;
-use reading::read_sheet;
+use reading::read_main;
 
 fn fault_number(f: Fault) -> u64 {
     match f {
@@ -26,15 +33,25 @@ fn write_line(number: u64, value: usize) {
     write_all(STDOUT_FILENO, b"\n");
 }
 
-fn answer(bytes: &[u8]) {
-    let mut tab = [0; 1024];
+// A main body of any edition: the table has slots for every label of both.
+fn answer_main(b: &[u8], edition: Edition, start: usize)
+    requires { ⌜ (length (now b) ≤ 1048576) × (start ≤ 1048576) ⌝ }
+{
+    let terms = terms_of(edition);
+    let mut tab = [0; Terms::SECOND_LABELS];
     let mut homes = [0; 0];
     let mut over = [0; 2];
-    match read_sheet(bytes, &mut tab, &mut homes, &mut over) {
-        Reading::Whole(_, _, _) => write_line(0, 0),
-        Reading::SheetTooLong(n) => write_line(1, n),
-        Reading::BadTrailer => write_line(2, 0),
+    match read_main(b, terms, start, &mut tab, &mut homes, &mut over) {
+        Reading::Whole(_) => write_line(0, 0),
         Reading::Stops(f, p) => write_line(fault_number(f), p),
+    }
+}
+
+fn answer(bytes: &[u8]) {
+    match cut_main(bytes) {
+        CutMain::SheetTooLong(n) => write_line(1, n),
+        CutMain::BadTrailer => write_line(2, 0),
+        CutMain::Main(edition, start, end) => answer_main(&bytes[start..end], edition, start),
     }
 }
 

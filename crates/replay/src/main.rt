@@ -211,8 +211,8 @@ fn replay_all(
 }
 
 // For the list itself.
-fn list_space() -> [u8; 2097152] {
-    [0; 2097152]
+fn list_space() -> [u8; 3145728] {
+    [0; 3145728]
 }
 
 // The three spaces are not in `main`, which has one for the list.

@@ -11,15 +11,15 @@ use lib.IntN.{pos}
 use Rattle.layout.specs.Answers.{refusalNumber, refusalValue, LeftOver}
 use Rattle.layout.specs.Answers as answers
 use Rattle.layout.specs.Tree.{ActionsOf}
-use Rattle.layout.specs.Read.{Text, edition1, deepest, Place, placed, Read, got, bad, ifNothingLeft, readBody, readMain}
+use Rattle.layout.specs.Read.{Text, Terms, deepest, Place, placed, Read, got, bad, ifNothingLeft, readBody, readMain}
 use Rattle.layout.specs.Write.{blockStart, Event, labelAt, branchAt, payloadTooLong, bodyTooLong, events}
 use Rattle.layout.specs.Judge.{tooLong}
 use Rattle.layout.specs.Pack.{spelling}
 use Rattle.laws.specs.Fits.{Bytes}
 use Rattle.laws.specs.ReadFits.{good-got, good-bad, body-good, main-good}
 use Rattle.laws.specs.Packed.{spells}
-use Rattle.labels.specs.Table.{slotOf, homeOf, recordAll, tables, recorded, Cleared}
-use Rattle.labels.proofs.Labels.{length-recordAll, keeps}
+use Rattle.labels.specs.Table.{slotOf, homeOf, recordAll, tables, recorded, Cleared, Slots}
+use Rattle.labels.proofs.Labels.{keeps}
 use Rattle.positions.specs.declared.BytePosition.{BytePosition}
 use Rattle.positions.specs.declared.Scan.{Scan}
 use Rattle.positions.specs.declared.Scan.the-variants as scan
@@ -73,64 +73,68 @@ first-held (bodyTooLong n s ∷ es) over l e = rw (kept-first over l 9 n es (ome
 pub zeros-cleared : (n : ℕ) → Cleared (replicate n 0)
 zeros-cleared n l h = getD-replicate {A = ℕ} n l 0 0 (omega (arith, length-replicate {A = ℕ} n 0))
 
-pub lent-zeros : (homes : List ℕ) → Cleared homes → Empty (replicate 1024 0) homes (replicate 2 0)
-lent-zeros homes h = record { full = length-replicate {A = ℕ} 1024 0; no-records = zeros-cleared 1024; no-homes = h; two = refl; nothing = (refl, refl) }
+-- n of them are slots enough for n label numbers
+pub zeros-slots : (terms : Terms) (n : ℕ) → terms .labelBound ≤ n → n < 65536 → Slots terms (replicate n 0)
+zeros-slots terms n h k = record { few = omega (arith, h, k); enough = omega (arith, h, length-replicate {A = ℕ} n 0) }
+
+pub lent-empty : {terms : Terms} {tab homes : List ℕ} → Slots terms tab → Cleared tab → Cleared homes → Empty terms tab homes (replicate 2 0)
+lent-empty s t h = record { slots = s; no-records = t; no-homes = h; two = refl; nothing = (refl, refl) }
 
 -- ---- what scan_main answers
 
-pub ready : (b tab homes over : List ℕ) → Bytes b → Empty tab homes over → length b ≤ 1048576 → Ready b 0 (record { 0 = 0 }) tab over
-ready b tab homes over small e h = record { roomy = record { bytes = small; inside = omega arith; room = omega arith }; full = e .full; two = e .two }
+pub ready : (terms : Terms) (b tab homes over : List ℕ) → Bytes b → Empty terms tab homes over → length b ≤ 1048576 → Ready terms b 0 (record { 0 = 0 }) tab over
+ready terms b tab homes over small e h = record { roomy = record { bytes = small; inside = omega arith; room = omega arith }; slots = e .slots; two = e .two }
 
-module _ (b tab homes over : List ℕ) (small : Bytes b) (e : Empty tab homes over) where
+module _ (terms : Terms) (b tab homes over : List ℕ) (small : Bytes b) (e : Empty terms tab homes over) where
   module _ (r : Scan) (tab′ homes′ over′ : List ℕ)
-      (o : Ran (outcome bodyLength bodyEvents blockStart (state (tables tab homes) over) (readBody edition1 b 16 (placed 0))) r (state (tables tab′ homes′) over′)) where
-    pub main-stops : (f : Fault) (p : ℕ) → r ≡ scan.Stops f p → MainScanned tab′ homes′ over′ (readMain edition1 b deepest) (scan.Stops f p)
+      (o : Ran (outcome bodyLength bodyEvents blockStart (state (tables tab homes) over) (readBody terms b 16 (placed 0))) r (state (tables tab′ homes′) over′)) where
+    pub main-stops : (f : Fault) (p : ℕ) → r ≡ scan.Stops f p → MainScanned tab′ homes′ over′ (readMain terms b deepest) (scan.Stops f p)
     unfolding readMain outcome
-    main-stops f p k = go (readBody edition1 b 16 (placed 0)) refl (ran-bad o k)
+    main-stops f p k = go (readBody terms b 16 (placed 0)) refl (ran-bad o k)
       where
-        fault-is : (g : answers.Fault) (q : Place) → fault (faultOf g) (q .at) ≡ fault f p → readBody edition1 b 16 (placed 0) ≡ bad g q → MainScanned tab′ homes′ over′ (readMain edition1 b deepest) (scan.Stops f p)
+        fault-is : (g : answers.Fault) (q : Place) → fault (faultOf g) (q .at) ≡ fault f p → readBody terms b 16 (placed 0) ≡ bad g q → MainScanned tab′ homes′ over′ (readMain terms b deepest) (scan.Stops f p)
         fault-is g q z x =
             let y : scan.Stops f p ≡ scan.Stops (faultOf g) (q .at) = cc in
             rw (x, y) stopped
 
-        go : (x : Read (ActionsOf Text ℕ)) → readBody edition1 b 16 (placed 0) ≡ x → outcome bodyLength bodyEvents blockStart (state (tables tab homes) over) x ≡ fault f p → MainScanned tab′ homes′ over′ (readMain edition1 b deepest) (scan.Stops f p)
+        go : (x : Read (ActionsOf Text ℕ)) → readBody terms b 16 (placed 0) ≡ x → outcome bodyLength bodyEvents blockStart (state (tables tab homes) over) x ≡ fault f p → MainScanned tab′ homes′ over′ (readMain terms b deepest) (scan.Stops f p)
         go (got t q) x z =
             let y : _≡_ {A = ℕ} 0 1 = cc in
             absurd (omega arith)
         go (bad g q) x z = fault-is g q z x
 
     module _ (q : ℕ) (w : BytePosition) (k : r ≡ scan.Ends q w) where
-      pub main-left : q < length b → MainScanned tab′ homes′ over′ (readMain edition1 b deepest) (scan.Stops (faultOf LeftOver) q)
+      pub main-left : q < length b → MainScanned tab′ homes′ over′ (readMain terms b deepest) (scan.Stops (faultOf LeftOver) q)
       unfolding readMain ifNothingLeft
-      main-left h = let z = outcome-is bodyLength bodyEvents blockStart _ (readBody edition1 b 16 (placed 0)) (ran-is o k) in go (z .0) (z .1)
+      main-left h = let z = outcome-is bodyLength bodyEvents blockStart _ (readBody terms b 16 (placed 0)) (ran-is o k) in go (z .0) (z .1)
         where
-          go : (t : ActionsOf Text ℕ) → readBody edition1 b 16 (placed 0) ≡ got t (placed q) → MainScanned tab′ homes′ over′ (readMain edition1 b deepest) (scan.Stops (faultOf LeftOver) q)
+          go : (t : ActionsOf Text ℕ) → readBody terms b 16 (placed 0) ≡ got t (placed q) → MainScanned tab′ homes′ over′ (readMain terms b deepest) (scan.Stops (faultOf LeftOver) q)
           go t x = rw (x, ne-eqb q (length b) (λ z. omega arith)) stopped
 
-      pub main-whole : length b ≤ q → MainScanned tab′ homes′ over′ (readMain edition1 b deepest) (scan.Ends q w)
+      pub main-whole : length b ≤ q → MainScanned tab′ homes′ over′ (readMain terms b deepest) (scan.Ends q w)
       unfolding readMain ifNothingLeft run recorded events
-      main-whole h = let z = outcome-is bodyLength bodyEvents blockStart _ (readBody edition1 b 16 (placed 0)) (ran-is o k) in go (z .0) (z .1) (z .2) (z .3)
+      main-whole h = let z = outcome-is bodyLength bodyEvents blockStart _ (readBody terms b 16 (placed 0)) (ran-is o k) in go (z .0) (z .1) (z .2) (z .3)
         where
-          go : (t : ActionsOf Text ℕ) → readBody edition1 b 16 (placed 0) ≡ got t (placed q) → w .0 ≡ 0 + bodyLength t → state (tables tab′ homes′) over′ ≡ run (bodyEvents t blockStart) (state (tables tab homes) over)
-              → MainScanned tab′ homes′ over′ (readMain edition1 b deepest) (scan.Ends q w)
+          go : (t : ActionsOf Text ℕ) → readBody terms b 16 (placed 0) ≡ got t (placed q) → w .0 ≡ 0 + bodyLength t → state (tables tab′ homes′) over′ ≡ run (bodyEvents t blockStart) (state (tables tab homes) over)
+              → MainScanned tab′ homes′ over′ (readMain terms b deepest) (scan.Ends q w)
           go t x y s =
-              let g = good-got t (placed q) (body-good edition1 b small spelling (Unit {0}) (spells b small edition1) 16 (placed 0) (omega arith)) x in
+              let g = good-got t (placed q) (body-good terms b small spelling (Unit {0}) (spells b small terms) 16 (placed 0) (omega arith)) x in
               let a : tab′ ≡ recordAll slotOf (bodyEvents t blockStart) tab = ap (λ (v : State). v .labels .positions) s in
               let d : homes′ ≡ recordAll homeOf (bodyEvents t blockStart) homes = ap (λ (v : State). v .labels .homes) s in
               let c : over′ ≡ noteAll (bodyEvents t blockStart) over = ap (λ (v : State). v .over) s in
               rw (x, eq-eqb q (length b) (omega (arith, g .1))) (whole {x = t} {p = placed q} {w = w} (omega arith)
-              (keeps slotOf (bodyEvents t blockStart) tab tab′ 1024 (e .no-records) (sym (e .full)) a)
-              (keeps homeOf (bodyEvents t blockStart) homes homes′ (length homes′) (e .no-homes) (ap length d ∙ length-recordAll homeOf (bodyEvents t blockStart) homes) d)
+              (keeps slotOf (bodyEvents t blockStart) tab tab′ (e .no-records) a)
+              (keeps homeOf (bodyEvents t blockStart) homes homes′ (e .no-homes) d)
               (rw c (first-held (bodyEvents t blockStart) over (e .two) (e .nothing))))
 
 -- the place of a fault lies in the main body
-pub main-place : (b tab homes over : List ℕ) (r : Scan) → Bytes b → MainScanned tab homes over (readMain edition1 b deepest) r → (f : Fault) (p : ℕ) → r ≡ scan.Stops f p → p ≤ length b
-main-place b tab homes over r small m f p e = go (readMain edition1 b deepest) refl m e
+pub main-place : (terms : Terms) (b tab homes over : List ℕ) (r : Scan) → Bytes b → MainScanned tab homes over (readMain terms b deepest) r → (f : Fault) (p : ℕ) → r ≡ scan.Stops f p → p ≤ length b
+main-place terms b tab homes over r small m f p e = go (readMain terms b deepest) refl m e
   where
-    go : (x : Read (ActionsOf Text ℕ)) {r : Scan} → readMain edition1 b deepest ≡ x → MainScanned tab homes over x r → r ≡ scan.Stops f p → p ≤ length b
+    go : (x : Read (ActionsOf Text ℕ)) {r : Scan} → readMain terms b deepest ≡ x → MainScanned tab homes over x r → r ≡ scan.Stops f p → p ≤ length b
     go (got t q) k (whole u v h w) e =
         let z : _≡_ {A = ℕ} 0 1 = cc in
         absurd (omega arith)
     go (bad g q) k stopped e =
         let j : p ≡ q .at = cc in
-        omega (arith, good-bad g q (main-good edition1 b small spelling (Unit {0}) (spells b small edition1) deepest) k)
+        omega (arith, good-bad g q (main-good terms b small spelling (Unit {0}) (spells b small terms) deepest) k)

@@ -8,21 +8,21 @@ use lib.IntN.{pos}
 use Rattle.layout.specs.Answers.{Refusal, refusalNumber, refusalValue}
 use Rattle.layout.specs.Answers as answers
 use Rattle.layout.specs.Tree.{ActionsOf}
-use Rattle.layout.specs.Read.{Text, Place, Read, got, bad}
+use Rattle.layout.specs.Read.{Text, Terms, Place, Read, got, bad}
 use Rattle.layout.specs.Strings.{mapBody}
 use Rattle.layout.specs.Write.{events, bodySize}
 use Rattle.layout.specs.Judge.{tooLong}
 use Rattle.layout.specs.Pack.{spelling}
-use Rattle.labels.specs.Table.{Cleared, TableHolds, HomesHold}
+use Rattle.labels.specs.Table.{Cleared, TableHolds, HomesHold, Slots}
 use Rattle.labels.specs.Mains.{MainMeasured}
 use Rattle.positions.specs.declared.BytePosition.{BytePosition}
 use Rattle.positions.specs.Scanned.{faultOf}
 use Rattle.positions.specs.declared.Scan.{Scan}
 use Rattle.positions.specs.declared.Scan.the-variants as scan
 
--- what the caller lends: empty tables, a slot for each label in the first, and nothing noted
-pub record Empty (tab homes over : List ℕ) : Type 0 where
-  pub full : length tab ≡ 1024
+-- what the caller lends: empty tables, in the first a slot for each label that the terms allow, and nothing noted
+pub record Empty (terms : Terms) (tab homes over : List ℕ) : Type 0 where
+  pub slots : Slots terms tab
   pub no-records : Cleared tab
   pub no-homes : Cleared homes
   pub two : length over ≡ 2
@@ -35,13 +35,13 @@ Holds (some r) over = (getD over 0 0 ≡ refusalNumber r) × (pos (getD over 1 0
 
 -- the answer to a main body: where it reads whole, its size, every label's final record, and the first of 8 and 9
 pub data MainScanned (tab homes over : List ℕ) : Read (ActionsOf Text ℕ) → Scan → Type 0 where
-  whole : {x : ActionsOf Text ℕ} {p : Place} {w : BytePosition} → w .0 ≡ bodySize (mapBody spelling x) → TableHolds 1024 tab (events (mapBody spelling x))
+  whole : {x : ActionsOf Text ℕ} {p : Place} {w : BytePosition} → w .0 ≡ bodySize (mapBody spelling x) → TableHolds tab (events (mapBody spelling x))
       → HomesHold homes (events (mapBody spelling x)) → Holds (tooLong (events (mapBody spelling x))) over → MainScanned tab homes over (got x p) (scan.Ends (p .at) w)
   stopped : {f : answers.Fault} {p : Place} → MainScanned tab homes over (bad f p) (scan.Stops (faultOf f) (p .at))
 
 -- what such an answer leaves of a main body that reads whole: all that packing goes on with
-pub record MainWhole (b : List ℕ) (end : BytePosition) (tab homes over : List ℕ) : Type 0 where
-  pub measured : MainMeasured b end tab
+pub record MainWhole (terms : Terms) (b : List ℕ) (end : BytePosition) (tab homes over : List ℕ) : Type 0 where
+  pub measured : MainMeasured terms b end tab
   pub homed : HomesHold homes (events (measured .tree))
   pub two : length over ≡ 2
   pub long : Holds (tooLong (events (measured .tree))) over

@@ -1,19 +1,37 @@
 // The walk of a whole main body: 3 to 7, where each label stands, and the first of 8 and 9.
 ghost use Prim.Native.Nat.{_≤_};
 ghost use lib.ListN.{length};
-ghost use Rattle.layout.specs.Read.{edition1, deepest, readMain};
+ghost use Rattle.layout.specs.Read.{deepest, readMain};
+ghost use Rattle.editions.specs.Allowed.{termsOf};
 ghost use Rattle.scan.specs.Mains.{Empty, MainScanned};
 use bodies::scan_body;
+use editions::Terms;
 use positions::BytePosition;
 use positions::Fault;
 use positions::Scan;
 
 // A whole main body: no byte of it is left over.
-pub fn scan_main(b: &[u8], tab: &mut [usize], homes: &mut [usize], over: &mut [usize]) -> Scan
-    requires { ⌜ (length (now b) ≤ 1048576) × Empty (now tab) (now homes) (now over) ⌝ }
-    ensures { λ r. ⌜ MainScanned (now (tab .exit)) (now (homes .exit)) (now (over .exit)) (readMain edition1 (now (b .entry)) deepest) r ⌝ }
+pub fn scan_main(
+    b: &[u8],
+    terms: Terms,
+    tab: &mut [usize],
+    homes: &mut [usize],
+    over: &mut [usize],
+) -> Scan
+    requires { ⌜ (length (now b) ≤ 1048576) × Empty (termsOf terms) (now tab) (now homes) (now over) ⌝ }
+    ensures { λ r. ⌜ MainScanned (now (tab .exit)) (now (homes .exit)) (now (over .exit)) (readMain (termsOf terms) (now (b .entry)) deepest) r ⌝ }
 {
-    match scan_body(b, 0, 16, BytePosition(0), BytePosition(0), tab, homes, over) {
+    match scan_body(
+        b,
+        terms,
+        0,
+        16,
+        BytePosition(0),
+        BytePosition(0),
+        tab,
+        homes,
+        over,
+    ) {
         Scan::Stops(f, p) => Scan::Stops(f, p),
         Scan::Ends(p, w) => {
             if p < b.len() {

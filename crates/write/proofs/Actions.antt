@@ -7,7 +7,7 @@ use mathlib.Core.List.{List, _++_}
 use lib.ListN.{length}
 use lib.Seq.{sets}
 use Rattle.layout.specs.Tree.{FlatOf, Branch, Owner, OwnerOf, CatchTargetOf, ActionOf, flat, branch, owner, Try, Actions, ActionsOf, Catch, CatchOf, noCatch, catch, FinallyOf, noFinally, finally}
-use Rattle.layout.specs.Read.{Text, edition1, Place, placed, Reader, got, hasCatch, hasFinally, readCatch, readFinally, readAction}
+use Rattle.layout.specs.Read.{Text, Terms, Place, placed, Reader, got, hasCatch, hasFinally, readCatch, readFinally, readAction}
 use Rattle.layout.specs.Strings.{mapAction, mapBody, mapOwner, mapCatch, mapFinally}
 use Rattle.layout.specs.Payload.{ownerFields, catchName}
 use Rattle.layout.specs.Write.{bytes, size, catchSize, Position, position, moved, toBody, toTry, toCatch, toFinally, Event, payloadTest, bodyTest, trace, traceCatch, traceFinally, finallySize}
@@ -48,21 +48,21 @@ data Holds : Bodies → ActionOf Text ℕ → Type 0 where
   tried : {shape : ℕ} {x : ActionsOf Text ℕ} {c : CatchOf Text ℕ} {f : FinallyOf Text ℕ} → hasCatch shape ≡ isCatch c → hasFinally shape ≡ isFinally f
       → Holds (bodies.OfTry shape) (Try x c f)
 
-module _ (b : List ℕ) (inner : Reader (ActionsOf Text ℕ)) where
+module _ (terms : Terms) (b : List ℕ) (inner : Reader (ActionsOf Text ℕ)) where
   -- A catch that was read is there where its bit says so.
-  catch-there : (t : Bool) (x : CatchTargetOf Text) (p : Place) → Gives (λ c q. t ≡ isCatch c) (readCatch edition1 b inner t x p)
+  catch-there : (t : Bool) (x : CatchTargetOf Text) (p : Place) → Gives (λ c q. t ≡ isCatch c) (readCatch terms b inner t x p)
   unfolding readCatch
   catch-there true x p = then (itself (inner p)) (λ a q e. gives refl)
   catch-there false x p = gives refl
 
   -- So is a finally.
-  finally-there : (t : Bool) (p : Place) → Gives (λ f q. t ≡ isFinally f) (readFinally edition1 b inner t p)
+  finally-there : (t : Bool) (p : Place) → Gives (λ f q. t ≡ isFinally f) (readFinally terms b inner t p)
   unfolding readFinally
   finally-there true p = then (itself (inner p)) (λ a q e. gives refl)
   finally-there false p = gives refl
 
   -- For every case of an action.
-  holds : {p : ℕ} {a : Action} {x : ActionOf Text ℕ} {q : Place} → Shown edition1 b inner p a x q → Holds (bodiesOf a) x
+  holds : {p : ℕ} {a : Action} {x : ActionOf Text ℕ} {q : Place} → Shown terms b inner p a x q → Holds (bodiesOf a) x
   unfolding bodiesOf
   holds (small e) = flat-none
   holds gotoFrame = flat-none
@@ -192,21 +192,21 @@ tried-read inner shape next x c f q d e h = rw (h .2, catch-read inner (hasCatch
 
 -- ---- what is asked and left
 
-module _ (inner : Reader (ActionsOf Text ℕ)) {b tab out : List ℕ} {at pos : ℕ} where
+module _ (terms : Terms) (inner : Reader (ActionsOf Text ℕ)) {b tab out : List ℕ} {at pos : ℕ} where
   -- There is an action to read.
-  pub reads-action : Room (readAction edition1 b inner) actionSize nearAction b at pos tab out → ActionReads b at
-  reads-action r = record { terms = edition1; inner = inner; action = r .value; next = r .next; reads = r .reads }
+  pub reads-action : Room terms (readAction terms b inner) actionSize nearAction b at pos tab out → ActionReads b at
+  reads-action r = record { terms = terms; inner = inner; action = r .value; next = r .next; reads = r .reads }
 
   module _ {a : Action} (s : ShowsAction b at a) where
     -- Its head has room.
-    pub head-room : Room (readAction edition1 b inner) actionSize nearAction b at pos tab out → Writable b at a pos tab out
+    pub head-room : Room terms (readAction terms b inner) actionSize nearAction b at pos tab out → Writable terms b at a pos tab out
     head-room r =
         record {
           bytes = r .bytes;
           inner = inner;
           action = r .value;
           next = r .next;
-          shown = s .shows edition1 inner (r .value) (r .next) (r .reads);
+          shown = s .shows terms inner (r .value) (r .next) (r .reads);
           slots = r .slots;
           near = head-near tab (r .value) pos (r .is-near);
           room = omega (arith, head-most tab (r .value) pos, r .room);
@@ -214,7 +214,7 @@ module _ (inner : Reader (ActionsOf Text ℕ)) {b tab out : List ℕ} {at pos : 
           places = omega (arith, opcode-room (reads-action r), r .places);
         }
 
-    module _ {mid : List ℕ} {next end : ℕ} (h : WroteHead b at a pos tab out mid next end) where
+    module _ {mid : List ℕ} {next end : ℕ} (h : WroteHead terms b at a pos tab out mid next end) where
       -- What is known of an action that is read there, once its head is written.
       record Headed (k : Bodies) (x : ActionOf Text ℕ) (q : Place) : Type 0 where
         pub has : Holds k x
@@ -223,15 +223,15 @@ module _ (inner : Reader (ActionsOf Text ℕ)) {b tab out : List ℕ} {at pos : 
         pub from : BodiesFrom inner next x q
 
       -- For every action that is read there.
-      headed : (k : Bodies) → bodiesOf a ≡ k → (x : ActionOf Text ℕ) (q : Place) → readAction edition1 b inner (placed at) ≡ got x q → Headed k x q
+      headed : (k : Bodies) → bodiesOf a ≡ k → (x : ActionOf Text ℕ) (q : Place) → readAction terms b inner (placed at) ≡ got x q → Headed k x q
       headed k e x q r =
-          let t = s .shows edition1 inner x q r in
+          let t = s .shows terms inner x q r in
           let w = h .wrote inner x q t in
-          record { has = subst (λ (j : Bodies). Holds j x) e (holds b inner t); head = w .0; reach = w .1; from = w .2 }
+          record { has = subst (λ (j : Bodies). Holds j x) e (holds terms b inner t); head = w .0; reach = w .1; from = w .2 }
 
       -- An action without a body is written.
       pub none-wrote : bodiesOf a ≡ bodies.Nothing
-          → Wrote (readAction edition1 b inner) actionSize (λ x. sets out pos (actionOf tab x pos)) at pos mid (record { next = next; pos = record { 0 = end } })
+          → Wrote (readAction terms b inner) actionSize (λ x. sets out pos (actionOf tab x pos)) at pos mid (record { next = next; pos = record { 0 = end } })
       none-wrote e = record { wrote = λ x q r. none-at x q r .0; ends = record { ended = λ x q r. none-at x q r .1 } }
         where
           none-go : (x : ActionOf Text ℕ) (q : Place) → Holds bodies.Nothing x → mid ≡ sets out pos (headOf tab x pos) → end ≡ pos + length (headOf tab x pos) → BodiesFrom inner next x q
@@ -239,19 +239,19 @@ module _ (inner : Reader (ActionsOf Text ℕ)) {b tab out : List ℕ} {at pos : 
           none-go (flat f) q flat-none m k n = (m ∙ flat-same tab out f pos, (k ∙ flat-long tab f pos, ap (λ (o : Place). o .at) (sym n)))
           none-go (branch j l) q branch-none m k n = (m ∙ branch-same tab out j l pos, (k ∙ branch-long tab j l pos, ap (λ (o : Place). o .at) (sym n)))
 
-          none-at : (x : ActionOf Text ℕ) (q : Place) → readAction edition1 b inner (placed at) ≡ got x q
+          none-at : (x : ActionOf Text ℕ) (q : Place) → readAction terms b inner (placed at) ≡ got x q
               → (mid ≡ sets out pos (actionOf tab x pos)) × ((end ≡ pos + actionSize x) × (next ≡ q .at))
           none-at x q r =
               let g = headed bodies.Nothing e x q r in
               none-go x q (g .has) (g .head) (g .reach) (g .from)
 
       -- The one body of an action has room, and its length stands two bytes before it.
-      pub one-room : bodiesOf a ≡ bodies.One → Room (readAction edition1 b inner) actionSize nearAction b at pos tab out → length mid ≡ length out
-          → Room inner bodyLength nearOf b next end tab mid × (end - 2 + 2 ≤ end)
+      pub one-room : bodiesOf a ≡ bodies.One → Room terms (readAction terms b inner) actionSize nearAction b at pos tab out → length mid ≡ length out
+          → Room terms inner bodyLength nearOf b next end tab mid × (end - 2 + 2 ≤ end)
       one-room e r l = let g = headed bodies.One e (r .value) (r .next) (r .reads) in one-go (r .value) (r .next) (g .has) (g .reach) (g .from) (r .room) (r .is-near)
         where
           one-go : (x : ActionOf Text ℕ) (q : Place) → Holds bodies.One x → end ≡ pos + length (headOf tab x pos) → BodiesFrom inner next x q → pos + actionSize x ≤ length out → nearAction tab x pos
-              → Room inner bodyLength nearOf b next end tab mid × (end - 2 + 2 ≤ end)
+              → Room terms inner bodyLength nearOf b next end tab mid × (end - 2 + 2 ≤ end)
           one-go (owner o x) q one k n m i =
               let h = length-owner tab o x pos in (
                 record {
@@ -270,7 +270,7 @@ module _ (inner : Reader (ActionsOf Text ℕ)) {b tab out : List ℕ} {at pos : 
 
       -- It was written with its length, and so the action is.
       pub one-wrote : bodiesOf a ≡ bodies.One → (new : List ℕ) (r : Ends) → Wrote inner bodyLength (closed tab mid end (end - 2)) next end new r
-          → Wrote (readAction edition1 b inner) actionSize (λ x. sets out pos (actionOf tab x pos)) at pos new r
+          → Wrote (readAction terms b inner) actionSize (λ x. sets out pos (actionOf tab x pos)) at pos new r
       one-wrote e new r w = record { wrote = λ x q t. one-at x q t .0; ends = record { ended = λ x q t. one-at x q t .1 } }
         where
           one-go : (x : ActionOf Text ℕ) (q : Place) → Holds bodies.One x → mid ≡ sets out pos (headOf tab x pos) → end ≡ pos + length (headOf tab x pos) → BodiesFrom inner next x q
@@ -279,19 +279,19 @@ module _ (inner : Reader (ActionsOf Text ℕ)) {b tab out : List ℕ} {at pos : 
               let v = w .ends .ended x q n in
               (w .wrote x q n ∙ owner-closed tab out mid o x pos end m k, (omega (arith, v .0, k, length-owner tab o x pos, owner-length o x), v .1))
 
-          one-at : (x : ActionOf Text ℕ) (q : Place) → readAction edition1 b inner (placed at) ≡ got x q
+          one-at : (x : ActionOf Text ℕ) (q : Place) → readAction terms b inner (placed at) ≡ got x q
               → (new ≡ sets out pos (actionOf tab x pos)) × ((r .pos .0 ≡ pos + actionSize x) × (r .next ≡ q .at))
           one-at x q t =
               let g = headed bodies.One e x q t in
               one-go x q (g .has) (g .head) (g .reach) (g .from)
 
       -- The bodies of a Try have room, and their lengths stand from four bytes after its start on.
-      pub tried-room : (shape from : ℕ) → from ≡ pos + 4 → bodiesOf a ≡ bodies.OfTry shape → Room (readAction edition1 b inner) actionSize nearAction b at pos tab out → length mid ≡ length out
-          → Room (readTried shape inner) lengthTried nearTried b next end tab mid × (from + 6 ≤ end)
+      pub tried-room : (shape from : ℕ) → from ≡ pos + 4 → bodiesOf a ≡ bodies.OfTry shape → Room terms (readAction terms b inner) actionSize nearAction b at pos tab out → length mid ≡ length out
+          → Room terms (readTried shape inner) lengthTried nearTried b next end tab mid × (from + 6 ≤ end)
       tried-room shape from z e r l = let g = headed (bodies.OfTry shape) e (r .value) (r .next) (r .reads) in tried-go (r .value) (r .next) (g .has) (g .reach) (g .from) (r .room) (r .is-near)
         where
           tried-go : (x : ActionOf Text ℕ) (q : Place) → Holds (bodies.OfTry shape) x → end ≡ pos + length (headOf tab x pos) → BodiesFrom inner next x q → pos + actionSize x ≤ length out → nearAction tab x pos
-              → Room (readTried shape inner) lengthTried nearTried b next end tab mid × (from + 6 ≤ end)
+              → Room terms (readTried shape inner) lengthTried nearTried b next end tab mid × (from + 6 ≤ end)
           tried-go (Try x c f) q (tried i j) k n m d =
               let h = length-try tab x c f pos in (
                 record {
@@ -310,7 +310,7 @@ module _ (inner : Reader (ActionsOf Text ℕ)) {b tab out : List ℕ} {at pos : 
 
       -- They were written with their lengths, and so the action is.
       pub tried-wrote : (shape from : ℕ) → from ≡ pos + 4 → bodiesOf a ≡ bodies.OfTry shape → (new : List ℕ) (r : Ends) → Wrote (readTried shape inner) lengthTried (closedTried tab mid end from) next end new r
-          → Wrote (readAction edition1 b inner) actionSize (λ x. sets out pos (actionOf tab x pos)) at pos new r
+          → Wrote (readAction terms b inner) actionSize (λ x. sets out pos (actionOf tab x pos)) at pos new r
       tried-wrote shape from z e new r w = record { wrote = λ x q t. tried-at x q t .0; ends = record { ended = λ x q t. tried-at x q t .1 } }
         where
           tried-go : (x : ActionOf Text ℕ) (q : Place) → Holds (bodies.OfTry shape) x → mid ≡ sets out pos (headOf tab x pos) → end ≡ pos + length (headOf tab x pos) → BodiesFrom inner next x q
@@ -320,7 +320,7 @@ module _ (inner : Reader (ActionsOf Text ℕ)) {b tab out : List ℕ} {at pos : 
               let v = w .ends .ended (triedOf x c f) q t in
               (w .wrote (triedOf x c f) q t ∙ ap (λ (i : ℕ). closedTried tab mid end i (triedOf x c f)) z ∙ try-closed tab out mid x c f pos end m k, (omega (arith, v .0, k, length-try tab x c f pos, try-length x c f), v .1))
 
-          tried-at : (x : ActionOf Text ℕ) (q : Place) → readAction edition1 b inner (placed at) ≡ got x q
+          tried-at : (x : ActionOf Text ℕ) (q : Place) → readAction terms b inner (placed at) ≡ got x q
               → (new ≡ sets out pos (actionOf tab x pos)) × ((r .pos .0 ≡ pos + actionSize x) × (r .next ≡ q .at))
           tried-at x q t =
               let g = headed (bodies.OfTry shape) e x q t in

@@ -6,6 +6,7 @@ use mathlib.Core.List.{List, [], _∷_}
 use lib.ListN.{length, length-append}
 use lib.Seq.{sets, length-sets}
 use Rattle.layout.specs.Tree.{Actions}
+use Rattle.layout.specs.Read.{Terms}
 use Rattle.layout.specs.Write.{branchBits, blockBytes, blockSize}
 use Rattle.layout.specs.Lengths.{length-body}
 use Rattle.laws.specs.Packed.{same-tree}
@@ -14,9 +15,9 @@ use Rattle.writer.specs.declared.Writer.{Writer}
 use Rattle.write.specs.Bodies.{MainWritable, mainBytes, PutMain, AppendedMain, WroteBlock}
 
 -- What was put into a writer's output, from its start on, is appended to the writer.
-pub put-appended : (b zs : List ℕ) (w : Writer) (r : ℕ) → w .at .0 ≡ 0 → PutMain b (w .out .now) zs (record { 0 = r })
-    → AppendedMain b w (record { out = record { ptr = w .out .ptr; name = w .out .name; now = zs }; at = record { 0 = r } })
-put-appended b zs w r z p = record {
+pub put-appended : (terms : Terms) (b zs : List ℕ) (w : Writer) (r : ℕ) → w .at .0 ≡ 0 → PutMain terms b (w .out .now) zs (record { 0 = r })
+    → AppendedMain terms b w (record { out = record { ptr = w .out .ptr; name = w .out .name; now = zs }; at = record { 0 = r } })
+put-appended terms b zs w r z p = record {
   is = λ t k i. record {
     out = record { ptr = w .out .ptr; name = w .out .name; now = (p .put t k .0 ∙ ap (λ (m : ℕ). sets (w .out .now) m (mainBytes t)) (sym z)) i };
     at = record { 0 = (p .put t k .1 ∙ from-start (length (mainBytes t))) i };
@@ -30,7 +31,7 @@ put-appended b zs w r z p = record {
 abbrev pub end : List ℕ
 end = 0 ∷ []
 
-module _ (b tab out : List ℕ) (m : MainWritable b tab out) where
+module _ (terms : Terms) (b tab out : List ℕ) (m : MainWritable terms b tab out) where
   -- The main body's actions, as bytes.
   abbrev pub actions : List ℕ
   actions = mainBytes (m .tree)
@@ -53,11 +54,11 @@ module _ (b tab out : List ℕ) (m : MainWritable b tab out) where
   last-long = length-sets mid (0 + length actions) end ∙ length-sets out 0 actions
 
   -- The actions and the End are the block, and the position after them is its length.
-  pub main-wrote : (new : List ℕ) (r : ℕ) → new ≡ last → r ≡ 0 + length actions + length end → WroteBlock b out new (record { 0 = r })
+  pub main-wrote : (new : List ℕ) (r : ℕ) → new ≡ last → r ≡ 0 + length actions + length end → WroteBlock terms b out new (record { 0 = r })
   unfolding mainBytes blockBytes
   main-wrote new r e l = record {
-    wrote = λ t k. e ∙ sets-append out 0 actions end ∙ ap (λ (u : Actions). sets out 0 (blockBytes u)) (same-tree b (m .tree) t (m .reads) k);
-    long = λ t k. l ∙ whole ∙ ap (λ (u : Actions). length (blockBytes u)) (same-tree b (m .tree) t (m .reads) k);
+    wrote = λ t k. e ∙ sets-append out 0 actions end ∙ ap (λ (u : Actions). sets out 0 (blockBytes u)) (same-tree terms b (m .tree) t (m .reads) k);
+    long = λ t k. l ∙ whole ∙ ap (λ (u : Actions). length (blockBytes u)) (same-tree terms b (m .tree) t (m .reads) k);
   }
     where
       whole : 0 + length actions + length end ≡ length (blockBytes (m .tree))

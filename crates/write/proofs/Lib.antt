@@ -6,3 +6,4 @@ pub mod Actions
 pub mod Labels
 pub mod Main
 pub mod Block
+pub mod Handed

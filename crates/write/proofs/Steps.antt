@@ -9,7 +9,7 @@ use lib.ListN.{length}
 use lib.Seq.{sets}
 use Rattle.layout.specs.Numbers.{le16}
 use Rattle.layout.specs.Tree.{ActionsOf}
-use Rattle.layout.specs.Read.{Text, Place, placed, Reader, got, hasCatch, hasFinally}
+use Rattle.layout.specs.Read.{Text, Terms, Place, placed, Reader, got, hasCatch, hasFinally}
 use Rattle.pcode.proofs.Readings.{gives, given, then, itself}
 use Rattle.laws.specs.Resolved.{bodyLength}
 use Rattle.write.specs.Bodies.{readIf, Tried, readTried, lengthIf, lengthTried, nearOf, nearIf, nearTried, bodyOf, closed, closedIf, closedTried, Room, Ended, Wrote}
@@ -18,8 +18,8 @@ use Rattle.positions.specs.declared.Ends.{Ends}
 -- ---- a body and its length
 
 -- The length's place lies within an output of n bytes, and the body ends behind its start.
-pub block-room : {inner : Reader (ActionsOf Text ℕ)} {b tab out : List ℕ} {at pos n : ℕ} (from : ℕ) {e : Ends}
-    → Room inner bodyLength nearOf b at pos tab out × (from + 2 ≤ pos) → Ended inner bodyLength at pos e → n ≡ length out
+pub block-room : {terms : Terms} {inner : Reader (ActionsOf Text ℕ)} {b tab out : List ℕ} {at pos n : ℕ} (from : ℕ) {e : Ends}
+    → Room terms inner bodyLength nearOf b at pos tab out × (from + 2 ≤ pos) → Ended inner bodyLength at pos e → n ≡ length out
     → (from + 2 ≤ n) × (pos ≤ e .pos .0)
 block-room from r w l =
     let k = w .ended (r .0 .value) (r .0 .next) (r .0 .reads) .0 in
@@ -55,7 +55,7 @@ present inner p false e r =
 
 module _ (inner : Reader (ActionsOf Text ℕ)) (tab out : List ℕ) (at pos : ℕ) where
   -- A present body has room.
-  pub if-room : {b : List ℕ} (t : Bool) → not t ≡ false → Room (readIf t inner) lengthIf nearIf b at pos tab out → Room inner bodyLength nearOf b at pos tab out
+  pub if-room : {terms : Terms} {b : List ℕ} (t : Bool) → not t ≡ false → Room terms (readIf t inner) lengthIf nearIf b at pos tab out → Room terms inner bodyLength nearOf b at pos tab out
   unfolding lengthIf
   if-room t e r =
       let x = present inner (placed at) t e (r .reads) in
@@ -112,9 +112,9 @@ parts shape inner p r =
     given {P = Parts shape inner p} (then (itself (inner p)) (λ x s e. then (itself (readIf (hasCatch shape) inner s)) (λ y u f. then (itself (readIf (hasFinally shape) inner u))
     (λ z v g. gives (record { second-at = s; third-at = u; reads-first = e; reads-second = f; reads-third = g }))))) r
 
-module _ (inner : Reader (ActionsOf Text ℕ)) (b tab out : List ℕ) (at pos shape : ℕ) (r : Room (readTried shape inner) lengthTried nearTried b at pos tab out) where
+module _ {terms : Terms} (inner : Reader (ActionsOf Text ℕ)) (b tab out : List ℕ) (at pos shape : ℕ) (r : Room terms (readTried shape inner) lengthTried nearTried b at pos tab out) where
   -- The first body has room.
-  pub try-first : Room inner bodyLength nearOf b at pos tab out
+  pub try-first : Room terms inner bodyLength nearOf b at pos tab out
   unfolding lengthTried
   try-first =
       let k = parts shape inner (placed at) (r .reads) in
@@ -132,7 +132,7 @@ module _ (inner : Reader (ActionsOf Text ℕ)) (b tab out : List ℕ) (at pos sh
 
   module _ {t : Ends} (w : Ended inner bodyLength at pos t) where
     -- The second has, behind the first.
-    pub try-second : (one : List ℕ) → length one ≡ length out → Room (readIf (hasCatch shape) inner) lengthIf nearIf b (t .next) (t .pos .0) tab one
+    pub try-second : (one : List ℕ) → length one ≡ length out → Room terms (readIf (hasCatch shape) inner) lengthIf nearIf b (t .next) (t .pos .0) tab one
     unfolding lengthTried
     try-second one l =
         let k = parts shape inner (placed at) (r .reads) in
@@ -157,7 +157,7 @@ module _ (inner : Reader (ActionsOf Text ℕ)) (b tab out : List ℕ) (at pos sh
 
     module _ {c : Ends} (x : Ended (readIf (hasCatch shape) inner) lengthIf (t .next) (t .pos .0) c) where
       -- The third has, behind both.
-      pub try-third : (two : List ℕ) → length two ≡ length out → Room (readIf (hasFinally shape) inner) lengthIf nearIf b (c .next) (c .pos .0) tab two
+      pub try-third : (two : List ℕ) → length two ≡ length out → Room terms (readIf (hasFinally shape) inner) lengthIf nearIf b (c .next) (c .pos .0) tab two
       unfolding lengthTried
       try-third two l =
           let k = parts shape inner (placed at) (r .reads) in

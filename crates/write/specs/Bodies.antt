@@ -8,7 +8,7 @@ use lib.ListN.{length}
 use lib.Seq.{sets}
 use Rattle.layout.specs.Numbers.{le16}
 use Rattle.layout.specs.Tree.{Action, ActionOf, Try, Actions, ActionsOf}
-use Rattle.layout.specs.Read.{Text, Place, placed, Reader, got, _>>=_, give, hasCatch, hasFinally}
+use Rattle.layout.specs.Read.{Text, Terms, Place, placed, Reader, got, _>>=_, give, hasCatch, hasFinally}
 use Rattle.layout.specs.Strings.{mapAction, mapBody}
 use Rattle.layout.specs.Write.{Position, position, Event, bytes, bodyBytes, branchBits, events, blockBytes, blockSize}
 use Rattle.layout.specs.Judge.{tooFar}
@@ -135,13 +135,14 @@ closedTried tab out pos at t =
 
 -- ---- contracts
 
--- what is asked where something is written at a position: that it is read at a place, that its branches are near, and room
-pub record Room {A : Type 0} (read : Reader A) (long : A → ℕ) (near : List ℕ → A → ℕ → Type 0) (b : List ℕ) (at pos : ℕ) (tab out : List ℕ) : Type 0 where
+-- what is asked where something is written at a position: that it is read at a place, a slot for each label that the terms allow,
+-- that its branches are near, and room
+pub record Room {A : Type 0} (terms : Terms) (read : Reader A) (long : A → ℕ) (near : List ℕ → A → ℕ → Type 0) (b : List ℕ) (at pos : ℕ) (tab out : List ℕ) : Type 0 where
   pub bytes : Bytes b
   pub value : A
   pub next : Place
   pub reads : read (placed at) ≡ got value next
-  pub slots : length tab ≡ 1024
+  pub slots : terms .labelBound ≤ length tab
   pub is-near : near tab value pos
   pub room : pos + long value ≤ length out
   pub sums : length out ≤ 1099511627776
@@ -156,12 +157,13 @@ pub record Wrote {A : Type 0} (read : Reader A) (long : A → ℕ) (output : A �
   pub wrote : (x : A) (q : Place) → read (placed at) ≡ got x q → out ≡ output x
   pub ends : Ended read long at pos r
 
--- what is asked of a main body, its table and the output
-pub record MainWritable (b tab out : List ℕ) : Type 0 where
+-- what is asked of a main body, which reads by these terms, its table and the output
+pub record MainWritable (terms : Terms) (b tab out : List ℕ) : Type 0 where
   pub bytes : Bytes b
   pub tree : Actions
-  pub reads : ReadsMain b tree
-  pub holds : TableHolds 1024 tab (events tree)
+  pub reads : ReadsMain terms b tree
+  pub holds : TableHolds tab (events tree)
+  pub slots : terms .labelBound ≤ length tab
   pub is-near : tooFar (events tree) (events tree) ≡ none
   pub room : blockSize tree ≤ length out
   pub sums : length out ≤ 1099511627776
@@ -172,14 +174,14 @@ unfoldable pub mainBytes : Actions → List ℕ
 mainBytes t = bodyBytes (branchBits t) t 0
 
 -- what is left of the output, and the position reached: the actions, from its start on
-pub record PutMain (b old new : List ℕ) (r : BytePosition) : Type 0 where
-  pub put : (t : Actions) → ReadsMain b t → (new ≡ sets old 0 (mainBytes t)) × (r .0 ≡ length (mainBytes t))
+pub record PutMain (terms : Terms) (b old new : List ℕ) (r : BytePosition) : Type 0 where
+  pub put : (t : Actions) → ReadsMain terms b t → (new ≡ sets old 0 (mainBytes t)) × (r .0 ≡ length (mainBytes t))
 
 -- the same, of a writer
-pub record AppendedMain (b : List ℕ) (w r : Writer) : Type 0 where
-  pub is : (t : Actions) → ReadsMain b t → r ≡ appended w (mainBytes t)
+pub record AppendedMain (terms : Terms) (b : List ℕ) (w r : Writer) : Type 0 where
+  pub is : (t : Actions) → ReadsMain terms b t → r ≡ appended w (mainBytes t)
 
 -- what is left of the output, and the position reached: the block, from its start on, and its length
-pub record WroteBlock (b old new : List ℕ) (r : BytePosition) : Type 0 where
-  pub wrote : (t : Actions) → ReadsMain b t → new ≡ sets old 0 (blockBytes t)
-  pub long : (t : Actions) → ReadsMain b t → r .0 ≡ length (blockBytes t)
+pub record WroteBlock (terms : Terms) (b old new : List ℕ) (r : BytePosition) : Type 0 where
+  pub wrote : (t : Actions) → ReadsMain terms b t → new ≡ sets old 0 (blockBytes t)
+  pub long : (t : Actions) → ReadsMain terms b t → r .0 ≡ length (blockBytes t)

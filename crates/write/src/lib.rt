@@ -2,9 +2,11 @@
 ghost use mathlib.Core.Path.{_≡_};
 ghost use Prim.Native.Nat.{_+_, _-_, _≤_};
 ghost use lib.Seq.{sets};
-ghost use Rattle.layout.specs.Read.{edition1, readAction, readBody};
+ghost use Rattle.layout.specs.Read.{readAction, readBody};
 ghost use Rattle.laws.specs.Resolved.{bodyLength, actionSize};
+ghost use Rattle.editions.specs.Allowed.{termsOf};
 ghost use Rattle.write.specs.Bodies.{bodiesOf, readIf, readTried, lengthIf, lengthTried, nearOf, nearIf, nearTried, nearAction, bodyOf, actionOf, closed, closedIf, closedTried, Room, Wrote, MainWritable, PutMain, AppendedMain, WroteBlock};
+use editions::Terms;
 use encode::write_head;
 use fields::u16_at;
 use opcode::OpCode;
@@ -41,6 +43,7 @@ fn bodies_of(a: Action) -> Bodies
 // A body, whose length is patched in at `len_at` when it is closed.
 fn write_block(
     b: &[u8],
+    terms: Terms,
     at: usize,
     depth: usize,
     pos: BytePosition,
@@ -48,10 +51,10 @@ fn write_block(
     tab: &[usize],
     out: &mut [u8],
 ) -> Ends
-    requires { ⌜ Room (readBody edition1 (now b) depth) bodyLength nearOf (now b) at (pos .0) (now tab) (now out) × («len_at» .0 + 2 ≤ pos .0) ⌝ }
-    ensures { λ r. ⌜ Wrote (readBody edition1 (now (b .entry)) depth) bodyLength (closed (now (tab .entry)) (now (out .entry)) (pos .0) («len_at» .0)) at (pos .0) (now (out .exit)) r ⌝ }
+    requires { ⌜ Room (termsOf terms) (readBody (termsOf terms) (now b) depth) bodyLength nearOf (now b) at (pos .0) (now tab) (now out) × («len_at» .0 + 2 ≤ pos .0) ⌝ }
+    ensures { λ r. ⌜ Wrote (readBody (termsOf terms) (now (b .entry)) depth) bodyLength (closed (now (tab .entry)) (now (out .entry)) (pos .0) («len_at» .0)) at (pos .0) (now (out .exit)) r ⌝ }
 {
-    let e = write_actions(b, at, depth, pos, tab, out);
+    let e = write_actions(b, terms, at, depth, pos, tab, out);
     let end = e.pos;
     write_block_length_at(out, len_at, pos, end);
     Ends {
@@ -63,6 +66,7 @@ fn write_block(
 // The same, if the body is present.
 fn write_block_if(
     b: &[u8],
+    terms: Terms,
     present: bool,
     at: usize,
     depth: usize,
@@ -71,13 +75,13 @@ fn write_block_if(
     tab: &[usize],
     out: &mut [u8],
 ) -> Ends
-    requires { ⌜ Room (readIf present (readBody edition1 (now b) depth)) lengthIf nearIf (now b) at (pos .0) (now tab) (now out) × («len_at» .0 + 2 ≤ pos .0) ⌝ }
-    ensures { λ r. ⌜ Wrote (readIf present (readBody edition1 (now (b .entry)) depth)) lengthIf (closedIf (now (tab .entry)) (now (out .entry)) (pos .0) («len_at» .0)) at (pos .0) (now (out .exit)) r ⌝ }
+    requires { ⌜ Room (termsOf terms) (readIf present (readBody (termsOf terms) (now b) depth)) lengthIf nearIf (now b) at (pos .0) (now tab) (now out) × («len_at» .0 + 2 ≤ pos .0) ⌝ }
+    ensures { λ r. ⌜ Wrote (readIf present (readBody (termsOf terms) (now (b .entry)) depth)) lengthIf (closedIf (now (tab .entry)) (now (out .entry)) (pos .0) («len_at» .0)) at (pos .0) (now (out .exit)) r ⌝ }
 {
     if !present {
         return Ends { next: at, pos };
     }
-    let e = write_block(b, at, depth, pos, len_at, tab, out);
+    let e = write_block(b, terms, at, depth, pos, len_at, tab, out);
     let end = e.pos;
     Ends {
         next: e.next,
@@ -88,6 +92,7 @@ fn write_block_if(
 // The bodies of a Try; the first of their lengths stands at `len_at`.
 fn write_try_blocks(
     b: &[u8],
+    terms: Terms,
     shape: u8,
     at: usize,
     depth: usize,
@@ -96,14 +101,15 @@ fn write_try_blocks(
     tab: &[usize],
     out: &mut [u8],
 ) -> Ends
-    requires { ⌜ Room (readTried shape (readBody edition1 (now b) depth)) lengthTried nearTried (now b) at (pos .0) (now tab) (now out) × («len_at» .0 + 6 ≤ pos .0) ⌝ }
-    ensures { λ r. ⌜ Wrote (readTried shape (readBody edition1 (now (b .entry)) depth)) lengthTried (closedTried (now (tab .entry)) (now (out .entry)) (pos .0) («len_at» .0)) at (pos .0) (now (out .exit)) r ⌝ }
+    requires { ⌜ Room (termsOf terms) (readTried shape (readBody (termsOf terms) (now b) depth)) lengthTried nearTried (now b) at (pos .0) (now tab) (now out) × («len_at» .0 + 6 ≤ pos .0) ⌝ }
+    ensures { λ r. ⌜ Wrote (readTried shape (readBody (termsOf terms) (now (b .entry)) depth)) lengthTried (closedTried (now (tab .entry)) (now (out .entry)) (pos .0) («len_at» .0)) at (pos .0) (now (out .exit)) r ⌝ }
 {
-    let t = write_block(b, at, depth, pos, len_at, tab, out);
+    let t = write_block(b, terms, at, depth, pos, len_at, tab, out);
     let after_try = t.pos;
     let second = BytePosition(len_at.0 + 2);
     let c = write_block_if(
         b,
+        terms,
         shape % 2 == 1,
         t.next,
         depth,
@@ -116,6 +122,7 @@ fn write_try_blocks(
     let third = BytePosition(len_at.0 + 4);
     let f = write_block_if(
         b,
+        terms,
         shape / 2 % 2 == 1,
         c.next,
         depth,
@@ -136,17 +143,18 @@ fn write_try_blocks(
 // would be kept in memory, also for actions without a body.
 fn write_action(
     b: &[u8],
+    terms: Terms,
     at: usize,
     depth: usize,
     pos: BytePosition,
     tab: &[usize],
     out: &mut [u8],
 ) -> Ends
-    requires { ⌜ Room (readAction edition1 (now b) (readBody edition1 (now b) depth)) actionSize nearAction (now b) at (pos .0) (now tab) (now out) ⌝ }
-    ensures { λ r. ⌜ Wrote (readAction edition1 (now (b .entry)) (readBody edition1 (now (b .entry)) depth)) actionSize (λ x. sets (now (out .entry)) (pos .0) (actionOf (now (tab .entry)) x (pos .0))) at (pos .0) (now (out .exit)) r ⌝ }
+    requires { ⌜ Room (termsOf terms) (readAction (termsOf terms) (now b) (readBody (termsOf terms) (now b) depth)) actionSize nearAction (now b) at (pos .0) (now tab) (now out) ⌝ }
+    ensures { λ r. ⌜ Wrote (readAction (termsOf terms) (now (b .entry)) (readBody (termsOf terms) (now (b .entry)) depth)) actionSize (λ x. sets (now (out .entry)) (pos .0) (actionOf (now (tab .entry)) x (pos .0))) at (pos .0) (now (out .exit)) r ⌝ }
 {
     let a = action_at(b, at);
-    let e = write_head(b, at, a, pos, tab, out);
+    let e = write_head(b, terms, at, a, pos, tab, out);
     let end = e.pos;
     match bodies_of(a) {
         Bodies::Nothing => Ends {
@@ -155,7 +163,7 @@ fn write_action(
         },
         Bodies::One => {
             let last = BytePosition(end.0 - 2);
-            let x = write_block(b, e.next, depth, end, last, tab, out);
+            let x = write_block(b, terms, e.next, depth, end, last, tab, out);
             let after = x.pos;
             Ends {
                 next: x.next,
@@ -164,7 +172,7 @@ fn write_action(
         }
         Bodies::OfTry(shape) => {
             let first = BytePosition(pos.0 + OpCode::HEADER_LEN + 1);
-            let x = write_try_blocks(b, shape, e.next, depth, end, first, tab, out);
+            let x = write_try_blocks(b, terms, shape, e.next, depth, end, first, tab, out);
             let after = x.pos;
             Ends {
                 next: x.next,
@@ -177,21 +185,22 @@ fn write_action(
 // A body with `depth` levels allowed, itself included. Its label entries are stepped over.
 fn write_actions(
     b: &[u8],
+    terms: Terms,
     at: usize,
     depth: usize,
     pos: BytePosition,
     tab: &[usize],
     out: &mut [u8],
 ) -> Ends
-    requires { ⌜ Room (readBody edition1 (now b) depth) bodyLength nearOf (now b) at (pos .0) (now tab) (now out) ⌝ }
-    ensures { λ r. ⌜ Wrote (readBody edition1 (now (b .entry)) depth) bodyLength (λ x. sets (now (out .entry)) (pos .0) (bodyOf (now (tab .entry)) x (pos .0))) at (pos .0) (now (out .exit)) r ⌝ }
+    requires { ⌜ Room (termsOf terms) (readBody (termsOf terms) (now b) depth) bodyLength nearOf (now b) at (pos .0) (now tab) (now out) ⌝ }
+    ensures { λ r. ⌜ Wrote (readBody (termsOf terms) (now (b .entry)) depth) bodyLength (λ x. sets (now (out .entry)) (pos .0) (bodyOf (now (tab .entry)) x (pos .0))) at (pos .0) (now (out .exit)) r ⌝ }
 {
     let front = at + 2 + 4 * u16_at(b, at);
     let mut left = u16_at(b, front);
     let mut p = front + 2;
     let mut w = pos;
     while 0 < left {
-        let e = write_action(b, p, depth - 1, w, tab, out);
+        let e = write_action(b, terms, p, depth - 1, w, tab, out);
         p = e.next;
         w = e.pos;
         left -= 1;
@@ -200,21 +209,21 @@ fn write_actions(
 }
 
 // The actions of a main body from the block's start on, and the position after them.
-fn put_main(out: &mut [u8], at: BytePosition, b: &[u8], tab: &[usize]) -> BytePosition
-    requires { ⌜ (at .0 ≡ 0) × MainWritable (now b) (now tab) (now out) ⌝ }
-    ensures { λ r. ⌜ PutMain (now (b .entry)) (now (out .entry)) (now (out .exit)) r ⌝ }
+fn put_main(out: &mut [u8], at: BytePosition, b: &[u8], terms: Terms, tab: &[usize]) -> BytePosition
+    requires { ⌜ (at .0 ≡ 0) × MainWritable (termsOf terms) (now b) (now tab) (now out) ⌝ }
+    ensures { λ r. ⌜ PutMain (termsOf terms) (now (b .entry)) (now (out .entry)) (now (out .exit)) r ⌝ }
 {
-    let e = write_actions(b, 0, 16, at, tab, out);
+    let e = write_actions(b, terms, 0, 16, at, tab, out);
     e.pos
 }
 
 // The main body's actions are appended to a writer that stands at the block's start.
-fn append_main<'a>(w: Writer<'a>, b: &[u8], tab: &[usize]) -> Writer<'a>
-    requires { ⌜ (w .at .0 ≡ 0) × MainWritable (now b) (now tab) (now (w .out)) ⌝ }
-    ensures { λ r. ⌜ AppendedMain (now (b .entry)) (w .entry) r ⌝ }
+fn append_main<'a>(w: Writer<'a>, b: &[u8], terms: Terms, tab: &[usize]) -> Writer<'a>
+    requires { ⌜ (w .at .0 ≡ 0) × MainWritable (termsOf terms) (now b) (now tab) (now (w .out)) ⌝ }
+    ensures { λ r. ⌜ AppendedMain (termsOf terms) (now (b .entry)) (w .entry) r ⌝ }
 {
     let at = w.at;
-    let next = put_main(&mut *w.out, at, b, tab);
+    let next = put_main(&mut *w.out, at, b, terms, tab);
     Writer {
         out: w.out,
         at: next,
@@ -223,12 +232,12 @@ fn append_main<'a>(w: Writer<'a>, b: &[u8], tab: &[usize]) -> Writer<'a>
 
 // The block of a main body: one writer over the output takes its actions, then one End. Answers the position reached, which is the
 // block's length.
-pub fn write_main(b: &[u8], tab: &[usize], out: &mut [u8]) -> BytePosition
-    requires { ⌜ MainWritable (now b) (now tab) (now out) ⌝ }
-    ensures { λ r. ⌜ WroteBlock (now (b .entry)) (now (out .entry)) (now (out .exit)) r ⌝ }
+pub fn write_main(b: &[u8], terms: Terms, tab: &[usize], out: &mut [u8]) -> BytePosition
+    requires { ⌜ MainWritable (termsOf terms) (now b) (now tab) (now out) ⌝ }
+    ensures { λ r. ⌜ WroteBlock (termsOf terms) (now (b .entry)) (now (out .entry)) (now (out .exit)) r ⌝ }
 {
     finish(append_u8(
-        append_main(writer_at(out, BytePosition(0)), b, tab),
+        append_main(writer_at(out, BytePosition(0)), b, terms, tab),
         OpCode::END,
     ))
 }

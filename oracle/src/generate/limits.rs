@@ -2,16 +2,17 @@
 
 use super::write::{
     Body, Catch, branch, call, define_function, define_function_2, jump, pop, push, set_target,
-    sheet, string, strings, try_, with,
+    sheet, sheet_in, string, strings, try_, with,
 };
-use crate::sheet::{LABELS, LONGEST_SHEET, TRAILER};
+use crate::sheet::{Edition, LONGEST_SHEET, TRAILER};
 
 pub fn limits(give: &mut dyn FnMut(Vec<u8>)) {
     let mut give_main = |main: Body| give(sheet(&[], &main.bytes()));
     payloads(&mut give_main);
     bodies(&mut give_main);
     orders(&mut give_main);
-    labels(&mut give_main);
+    labels(give);
+    editions(give);
     counts(give);
     depths(give);
     lengths(give);
@@ -159,35 +160,76 @@ fn orders(give: &mut dyn FnMut(Body)) {
     give(bad_jump(Body::new()).action(set_target(&text(65_535))));
 }
 
-/// As many label entries as there may be, one more, and numbers at the bound.
-fn labels(give: &mut dyn FnMut(Body)) {
-    let indices: [fn(u16) -> u16; 5] = [|_| 0, |_| 3, |_| 4, |n| n, |n| n % 5];
-    for index in indices {
-        for count in LABELS - 1..=LABELS + 1 {
-            let all = (0..count).fold(Body::new(), |body, n| body.label(n, index(n)));
-            give(
-                all.clone()
-                    .action(jump(0))
-                    .action(branch(0x9D, 1_023))
-                    .action(jump(512)),
-            );
-            let inner = all.clone().action(jump(5));
-            give(
-                all.action(with(&inner))
-                    .action(jump(1_023))
-                    .action(jump(1_022)),
-            );
+/// In each edition: as many label entries as either edition allows, one less and one more, and numbers at the bounds of both.
+fn labels(give: &mut dyn FnMut(Vec<u8>)) {
+    for edition in Edition::ALL {
+        let give = &mut |main: Body| give(sheet_in(edition.number(), &[], &main.bytes()));
+        for bound in Edition::ALL.map(Edition::labels) {
+            for count in bound - 1..=bound + 1 {
+                entries(count, bound, give);
+            }
         }
-    }
-    for number in [0, 1_022, 1_023, 1_024, 1_025, 4_095, 4_096, 65_535] {
-        give(Body::new().label(number, 0).action(pop()));
-        for opcode in [0x99, 0x9D] {
+        for number in numbers() {
+            give(Body::new().label(number, 0).action(pop()));
             give(
                 Body::new()
-                    .label(1_023, 1)
-                    .action(pop())
-                    .action(branch(opcode, number)),
+                    .label(0, 1)
+                    .label(number, 0)
+                    .action(jump(number)),
             );
+            for opcode in [0x99, 0x9D] {
+                let main = Body::new().label(edition.labels() - 1, 1).action(pop());
+                give(main.action(branch(opcode, number)));
+            }
+            let inner = Body::new().label(number, 1).action(branch(0x9D, number));
+            for owner in OWNERS {
+                give(Body::new().action(owner(&inner)));
+            }
+        }
+    }
+}
+
+/// So many label entries, and branches to labels up to the bound, in one body and in two.
+fn entries(count: u16, bound: u16, give: &mut dyn FnMut(Body)) {
+    let indices: [fn(u16) -> u16; 5] = [|_| 0, |_| 3, |_| 4, |n| n, |n| n % 5];
+    for index in indices {
+        let all = (0..count).fold(Body::new(), |body, n| body.label(n, index(n)));
+        give(
+            all.clone()
+                .action(jump(0))
+                .action(branch(0x9D, bound - 1))
+                .action(jump(bound / 2)),
+        );
+        let inner = all.clone().action(jump(5));
+        give(
+            all.action(with(&inner))
+                .action(jump(bound - 1))
+                .action(jump(bound - 2)),
+        );
+    }
+}
+
+/// Label numbers at the bound of each edition, and at the ends of a u16.
+fn numbers() -> Vec<u16> {
+    let bounds = Edition::ALL.map(Edition::labels);
+    let at_bounds = bounds.into_iter().flat_map(|n| n - 2..=n + 1);
+    [0].into_iter().chain(at_bounds).chain([u16::MAX]).collect()
+}
+
+/// Both editions, and others near them or with their bytes.
+const EDITIONS: [u16; 13] = [
+    0, 1, 2, 3, 4, 5, 0x00FF, 0x0100, 0x0101, 0x0102, 0x0201, 0x8001, 0xFFFF,
+];
+
+/// The same sheets under each edition: no label, the first, one that edition 2 adds, one that none has, and a cut body.
+fn editions(give: &mut dyn FnMut(Vec<u8>)) {
+    let last = Edition::Two.labels() - 1;
+    let to_label = |n| Body::new().label(n, 0).action(jump(n)).bytes();
+    let to_labels = [0, last, last + 1].map(to_label);
+    for edition in EDITIONS {
+        for main in [Body::new().bytes(), vec![0xFF]].iter().chain(&to_labels) {
+            give(sheet_in(edition, &[], main));
+            give(sheet_in(edition, b"note", main));
         }
     }
 }
@@ -205,13 +247,20 @@ fn counts(give: &mut dyn FnMut(Vec<u8>)) {
     }
 }
 
-/// Depth 15 to 18 by each kind of body, with and without anything in the deepest.
+/// Depth 15 to 18 by each kind of body, with nothing in the deepest, and with the last label of each edition.
 fn depths(give: &mut dyn FnMut(Vec<u8>)) {
+    let nested = |depth, owner: &Owner, deepest| {
+        (1..depth).fold(deepest, |body, _| Body::new().action(owner(&body)))
+    };
     for owner in OWNERS {
         for depth in 15..=18 {
-            for deepest in [Body::new(), Body::new().label(0, 1).action(jump(0))] {
-                let main = (1..depth).fold(deepest, |body, _| Body::new().action(owner(&body)));
-                give(sheet(&[1, 2, 3], &main.bytes()));
+            let main = nested(depth, owner, Body::new());
+            give(sheet(&[1, 2, 3], &main.bytes()));
+            for edition in Edition::ALL {
+                let last = edition.labels() - 1;
+                let deepest = Body::new().label(last, 1).action(jump(last));
+                let main = nested(depth, owner, deepest);
+                give(sheet_in(edition.number(), &[1, 2, 3], &main.bytes()));
             }
         }
     }
@@ -229,8 +278,12 @@ fn depths(give: &mut dyn FnMut(Vec<u8>)) {
 fn lengths(give: &mut dyn FnMut(Vec<u8>)) {
     for length in LONGEST_SHEET - 1..=LONGEST_SHEET + 2 {
         let before_trailer = length - TRAILER;
-        let short = Body::new().label(0, 0).action(jump(0)).bytes();
-        give(sheet(&vec![0x5A; before_trailer - short.len()], &short));
+        for edition in Edition::ALL {
+            let last = edition.labels() - 1;
+            let short = Body::new().label(last, 0).action(jump(last)).bytes();
+            let note = vec![0x5A; before_trailer - short.len()];
+            give(sheet_in(edition.number(), &note, &short));
+        }
 
         let long = |by: usize| {
             Body::new()
@@ -259,16 +312,17 @@ fn refused_by_mode(give: &mut dyn FnMut(Vec<u8>)) {
     let longest = set_target(&text(65_534));
     let too_long = set_target(&text(65_535));
     let in_body = with(&Body::new().action(longest.clone()));
-    let records = define_function(b"f", &[], &Body::new().label(9, 0));
-    for main in [Body::new(), Body::new().action(records)] {
-        for action in [&longest, &too_long, &in_body] {
-            let before = main.clone().action(jump(9)).action(action.clone());
-            let behind = main.clone().action(action.clone()).action(jump(9));
-            give(sheet(&[], &before.bytes()));
-            give(sheet(&[], &behind.bytes()));
+    for edition in Edition::ALL {
+        let last = edition.labels() - 1;
+        let mut give = |main: Body| give(sheet_in(edition.number(), &[], &main.bytes()));
+        let records = define_function(b"f", &[], &Body::new().label(last, 0));
+        for main in [Body::new(), Body::new().action(records)] {
+            for action in [&longest, &too_long, &in_body] {
+                give(main.clone().action(jump(last)).action(action.clone()));
+                give(main.clone().action(action.clone()).action(jump(last)));
+            }
+            give(main.times(15, longest.clone()).action(jump(last)));
         }
-        let far_behind = main.times(15, longest.clone()).action(jump(9));
-        give(sheet(&[], &far_behind.bytes()));
     }
 }
 

@@ -1,10 +1,12 @@
-//! Random sheets that read whole, but for a depth now and then: all opcodes, nested bodies, labels in odd places.
+//! Random sheets of both editions that read whole, but for a depth now and then: all opcodes, nested bodies, labels in odd
+//! places.
 
 use super::random::Random;
 use super::write::{
-    Body, Catch, branch, counted, define_function, define_function_2, push, set_target, sheet,
+    Body, Catch, branch, counted, define_function, define_function_2, push, set_target, sheet_in,
     string, try_, with,
 };
+use crate::sheet::Edition;
 
 /// Opcodes without fields.
 const BARE: &[(u8, u8)] = &[
@@ -40,10 +42,20 @@ const DOUBLES: &[u64] = &[
     0x0123_4567_89AB_CDEF,
 ];
 
+/// Editions, and the bound of the label numbers in a sheet: the edition's, or in edition 2 that of edition 1.
+const BOUNDS: &[(Edition, u16)] = &[
+    (Edition::One, Edition::One.labels()),
+    (Edition::One, Edition::One.labels()),
+    (Edition::Two, Edition::Two.labels()),
+    (Edition::Two, Edition::Two.labels()),
+    (Edition::Two, Edition::One.labels()),
+];
+
 /// A random sheet of about as many actions, in all its bodies, as `actions`.
 pub fn random_sheet(random: &mut Random, actions: usize) -> Vec<u8> {
+    let (edition, bound) = random.pick(BOUNDS);
     let labels = 1 + random.below(5);
-    let mut labels: Vec<u16> = (0..labels).map(|_| label_number(random)).collect();
+    let mut labels: Vec<u16> = (0..labels).map(|_| label_number(random, bound)).collect();
     labels.sort_unstable();
     labels.dedup();
     let deep = if random.once_in(8) {
@@ -53,6 +65,7 @@ pub fn random_sheet(random: &mut Random, actions: usize) -> Vec<u8> {
     };
     let mut maker = Maker {
         random,
+        bound,
         labels,
         left: actions,
         deep,
@@ -60,19 +73,23 @@ pub fn random_sheet(random: &mut Random, actions: usize) -> Vec<u8> {
     };
     let main = maker.body(1);
     let note = maker.note();
-    sheet(&note, &main.bytes())
+    sheet_in(edition.number(), &note, &main.bytes())
 }
 
-fn label_number(random: &mut Random) -> u16 {
-    match random.below(4) {
-        0 => random.below(3) as u16,
-        1 => 1_023,
-        _ => random.below(1_024) as u16,
+/// A label number under the bound: near 0, the last, the first that edition 1 does not have, any.
+fn label_number(random: &mut Random, bound: u16) -> u16 {
+    match random.below(8) {
+        0 | 1 => random.below(3) as u16,
+        2 => bound - 1,
+        3 => Edition::One.labels().min(bound - 1),
+        _ => random.below(usize::from(bound)) as u16,
     }
 }
 
 struct Maker<'a> {
     random: &'a mut Random,
+    /// The sheet's label numbers are under this.
+    bound: u16,
     /// The sheet's label numbers, rising; few, so that bodies share them.
     labels: Vec<u16>,
     /// How many actions may still be made.
@@ -145,7 +162,7 @@ impl Maker<'_> {
     fn branch(&mut self) -> Vec<u8> {
         let opcode = self.random.pick(&[0x99, 0x9D]);
         let label = if self.random.once_in(6) {
-            label_number(self.random)
+            label_number(self.random, self.bound)
         } else {
             self.random.pick(&self.labels)
         };

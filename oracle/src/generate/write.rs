@@ -1,5 +1,7 @@
 //! Writes sheets, right or wrong: nothing is checked here, so that faults can be written too.
 
+use crate::sheet::Edition;
+
 /// A body: label entries as given, and actions that are already bytes.
 #[derive(Clone, Default)]
 pub struct Body {
@@ -46,14 +48,20 @@ impl Body {
     }
 }
 
-/// A note, a main body and the trailer that points back to it.
+/// A note, a main body and the trailer that points back to it, in edition 1.
 pub fn sheet(note: &[u8], main: &[u8]) -> Vec<u8> {
+    sheet_in(Edition::One.number(), note, main)
+}
+
+/// The same in an edition, which need not be one of those that there are.
+pub fn sheet_in(edition: u16, note: &[u8], main: &[u8]) -> Vec<u8> {
     let distance = u32::try_from(main.len()).expect("a u32 distance");
     [
         note,
         main,
         &distance.to_le_bytes(),
-        &[0x01, 0x00, 0x41, 0x31],
+        &edition.to_le_bytes(),
+        &[0x41, 0x31],
     ]
     .concat()
 }

@@ -2,8 +2,9 @@ use super::*;
 use crate::answer::{Fault, number, value};
 use crate::generate::write::{
     Body, Catch, branch, call, define_function, define_function_2, jump, pop, set_target, sheet,
-    try_, with,
+    sheet_in, try_, with,
 };
+use crate::sheet::Edition;
 
 const AMPLE: usize = 1 << 22;
 
@@ -13,13 +14,20 @@ fn hex(text: &str) -> Vec<u8> {
         .collect()
 }
 
-fn answer_in(mode: Mode, main: &Body) -> (u8, i64) {
-    let answer = pack(&sheet(&[], &main.bytes()), mode, AMPLE);
-    (number(&answer), value(&answer))
+/// The answer in each mode to a main body in an edition.
+fn answers_in(edition: u16, main: &[u8]) -> [(u8, i64); 4] {
+    let sheet = sheet_in(edition, &[], main);
+    Mode::ALL.map(|mode| {
+        let answer = pack(&sheet, mode, AMPLE);
+        (number(&answer), value(&answer))
+    })
 }
 
+/// The answer in each mode to a main body whose label numbers are small: they are the same in both editions.
 fn answers_to(main: &Body) -> [(u8, i64); 4] {
-    Mode::ALL.map(|mode| answer_in(mode, main))
+    let [one, two] = [1, 2].map(|edition| answers_in(edition, &main.bytes()));
+    assert_eq!(one, two);
+    one
 }
 
 /// The answer in every mode, which must be the same.
@@ -46,7 +54,7 @@ fn contained_answer_to(main: &Body) -> (u8, i64) {
 /// Its label is never recorded.
 const P7: &str = "01 00 00 00 02 00 01 00 99 00 00";
 
-/// Document 01, P1 to P12: main body and block.
+/// Document 01, P1 to P12: main body and block, which is the same in both editions.
 #[test]
 fn sums_worked_by_hand() {
     let sums = [
@@ -76,15 +84,17 @@ fn sums_worked_by_hand() {
         ),
     ];
     for (main, block) in sums {
-        let sheet = sheet(&[], &hex(main));
         let (block, room) = (hex(block), hex(block).len());
-        for mode in Mode::ALL {
-            if mode.strict && main == P7 {
-                assert_eq!(pack(&sheet, mode, room), Err(Refusal::NeverRecorded(3)));
-                continue;
+        for edition in [1, 2] {
+            let sheet = sheet_in(edition, &[], &hex(main));
+            for mode in Mode::ALL {
+                if mode.strict && main == P7 {
+                    assert_eq!(pack(&sheet, mode, room), Err(Refusal::NeverRecorded(3)));
+                    continue;
+                }
+                assert_eq!(pack(&sheet, mode, room), Ok(block.clone()));
+                assert_eq!(pack(&sheet, mode, room - 1), Err(Refusal::NoRoom(room)));
             }
-            assert_eq!(pack(&sheet, mode, room), Ok(block.clone()));
-            assert_eq!(pack(&sheet, mode, room - 1), Err(Refusal::NoRoom(room)));
         }
     }
 }
@@ -265,6 +275,212 @@ fn stray_among_the_answers() {
         pack(&sheet, Mode::CONTAINED, 0),
         Err(Refusal::StrayBranch(12))
     );
+}
+
+/// Document 02, item 6: what the trailer's number is, and what its label numbers may be.
+#[test]
+fn editions_and_their_bounds() {
+    let edition = Edition::from_number;
+    assert_eq!([1, 2].map(edition), Edition::ALL.map(Some));
+    for other in [0, 3, 4, 0x0100, 0x0101, 0x0102, 0x0200, u16::MAX] {
+        assert_eq!(edition(other), None);
+    }
+    let last = Edition::ALL.map(|edition| (edition.number(), edition.labels() - 1));
+    assert_eq!(last, [(1, 1_023), (2, 4_095)]);
+}
+
+/// Main bodies, and their answers in edition 1 and in edition 2, in plain mode.
+#[test]
+fn label_numbers_by_the_edition() {
+    let cases = [
+        // branches to 1,023, 1,024, 4,095, 4,096 and 65,535
+        ("00 00 01 00 99 FF 03", (0, 6), (0, 6)),
+        ("00 00 01 00 99 00 04", (5, 5), (0, 6)),
+        ("00 00 01 00 9D FF 0F", (5, 5), (0, 6)),
+        ("00 00 01 00 99 00 10", (5, 5), (5, 5)),
+        ("00 00 01 00 9D FF FF", (5, 5), (5, 5)),
+        // entries of 1,023, 1,024, 4,095 and 4,096, without an action
+        ("01 00 FF 03 00 00 00 00", (0, 1), (0, 1)),
+        ("01 00 00 04 00 00 00 00", (5, 2), (0, 1)),
+        ("01 00 FF 0F 00 00 00 00", (5, 2), (0, 1)),
+        ("01 00 00 10 00 00 00 00", (5, 2), (5, 2)),
+        // two entries: 1,023 and 1,024; 4,095 and 4,096; 1,024 twice; 1,025 and 1,024
+        ("02 00 FF 03 00 00 00 04 00 00 00 00", (5, 6), (0, 1)),
+        ("02 00 FF 0F 00 00 00 10 00 00 00 00", (5, 2), (5, 6)),
+        ("02 00 00 04 00 00 00 04 00 00 00 00", (5, 2), (5, 6)),
+        ("02 00 01 04 00 00 00 04 00 00 00 00", (5, 2), (5, 6)),
+        // an entry and a branch
+        ("01 00 FF 0F 00 00 01 00 99 FF 0F", (5, 2), (0, 6)),
+        ("01 00 FF 0F 00 00 01 00 99 00 10", (5, 2), (5, 9)),
+        // a branch and an entry inside a With
+        ("00 00 01 00 94 00 00 01 00 99 00 04", (5, 10), (0, 11)),
+        ("00 00 01 00 94 00 00 01 00 99 00 10", (5, 10), (5, 10)),
+        ("00 00 01 00 94 01 00 00 04 00 00 00 00", (5, 7), (0, 6)),
+        // the first fault met: a field that is cut, before its value and behind it; a code; bytes left over
+        ("01 00 FF", (3, 2), (3, 2)),
+        ("01 00 FF 0F", (5, 2), (3, 4)),
+        ("00 00 01 00 99 FF", (3, 5), (3, 5)),
+        ("00 00 02 00 99 00 04", (5, 5), (3, 7)),
+        ("00 00 02 00 01 99 00 04", (4, 4), (4, 4)),
+        ("00 00 02 00 99 00 04 01", (5, 5), (4, 7)),
+        ("00 00 01 00 99 00 04 00", (5, 5), (7, 7)),
+    ];
+    for (main, one, two) in cases {
+        assert_eq!(answers_in(1, &hex(main))[0], one, "{main}");
+        assert_eq!(answers_in(2, &hex(main))[0], two, "{main}");
+    }
+    let noted = sheet_in(2, b"note", &hex("00 00 01 00 99 00 10"));
+    assert_eq!(
+        pack(&noted, Mode::PLAIN, 0),
+        Err(Refusal::Reading(Fault::BadField, 9))
+    );
+}
+
+/// 2 for any other edition, before what is wrong with the main body and behind 1; in edition 2 the rest of the trailer counts
+/// as before.
+#[test]
+fn other_editions_are_refused() {
+    let p6 = "01 00 00 00 00 00 01 00 99 00 00";
+    for main in [p6, "00 00 01 00 99 00 04", "00 00 01 00 99 00 10", "FF"] {
+        for edition in [0, 3, 4, 0x00FF, 0x0100, 0x0101, 0x0102, 0x0200, u16::MAX] {
+            assert_eq!(answers_in(edition, &hex(main)), [(2, 0); 4]);
+        }
+    }
+    let too_long = vec![0; 1_048_577 - 8 - 11];
+    for edition in [2, 3] {
+        let sheet = sheet_in(edition, &too_long, &hex(p6));
+        let answer = pack(&sheet, Mode::PLAIN, AMPLE);
+        assert_eq!(answer, Err(Refusal::SheetTooLong(1_048_577)));
+    }
+    let good = sheet_in(2, &[], &hex(p6));
+    assert_eq!(
+        pack(&good, Mode::PLAIN, AMPLE).map(|block| block.len()),
+        Ok(6)
+    );
+    // D one over; another mark; a byte gone
+    for (place, byte) in [(11, 12), (17, 0x42), (18, 0x32)] {
+        let mut bad = good.clone();
+        bad[place] = byte;
+        assert_eq!(pack(&bad, Mode::PLAIN, AMPLE), Err(Refusal::BadTrailer));
+    }
+    assert_eq!(
+        pack(&good[12..], Mode::PLAIN, AMPLE),
+        Err(Refusal::BadTrailer)
+    );
+}
+
+/// Blocks of edition 2, worked by hand. Labels that have the same low bits are different labels.
+#[test]
+fn blocks_of_edition_2() {
+    let jumps = |labels: [u16; 4]| labels.into_iter().map(jump).fold(Body::new(), Body::action);
+    let alike = jumps([0, 1_024, 2_048, 3_072]);
+    let falling = alike.label(0, 3).label(1_024, 2).label(2_048, 1);
+    let ends = jumps([255, 1_023, 2_047, 4_095]).label(255, 4);
+    let inner = Body::new().label(4_095, 0).action(vec![0x06]);
+    let cases = [
+        (
+            Body::new().label(4_095, 0).action(jump(4_095)),
+            "99 02 00 FB FF 00",
+        ),
+        (
+            Body::new().label(1_024, 1).action(branch(0x9D, 1_024)),
+            "9D 02 00 00 00 00",
+        ),
+        (
+            falling.label(3_072, 0),
+            "99 02 00 0A 00 99 02 00 00 00 99 02 00 F6 FF 99 02 00 EC FF 00",
+        ),
+        (
+            ends.label(1_023, 0).label(2_047, 1).label(4_095, 2),
+            "99 02 00 0F 00 99 02 00 F6 FF 99 02 00 F6 FF 99 02 00 F6 FF 00",
+        ),
+        // P12 with label 4,095
+        (
+            Body::new()
+                .label(4_095, 0)
+                .action(jump(4_095))
+                .action(with(&inner)),
+            "99 02 00 05 00 94 02 00 01 00 06 00",
+        ),
+    ];
+    for (main, block) in cases {
+        let sheet = sheet_in(2, &[], &main.bytes());
+        let (block, room) = (hex(block), hex(block).len());
+        for mode in Mode::ALL {
+            assert_eq!(pack(&sheet, mode, room), Ok(block.clone()));
+            assert_eq!(pack(&sheet, mode, room - 1), Err(Refusal::NoRoom(room)));
+        }
+        let one = answers_in(1, &main.bytes());
+        assert_eq!(one.map(|(number, _)| number), [5; 4]);
+    }
+}
+
+/// 10, 14 and 15 for labels from 1,024 on.
+#[test]
+fn branches_of_edition_2() {
+    let answers = |main: Body| answers_in(2, &main.bytes());
+    let far = |label: u16, pops: u16| {
+        let main = Body::new().label(label, pops + 1).action(jump(label));
+        answers(main.times(pops, pop()))
+    };
+    assert_eq!(far(4_095, 32_767), [(0, 32_773); 4]);
+    assert_eq!(far(4_095, 32_768), [(10, 32_768); 4]);
+    let back = |label: u16, pops: u16| {
+        let main = Body::new().label(label, 0).times(pops, pop());
+        answers(main.action(jump(label)))
+    };
+    assert_eq!(back(1_024, 32_763), [(0, 32_769); 4]);
+    assert_eq!(back(1_024, 32_764), [(10, -32_769); 4]);
+
+    // no entry; an entry past the count; records of other labels, which end in the same bits
+    let (done, lost) = ((0, 6), (14, 3));
+    for main in [
+        Body::new().action(jump(1_024)),
+        Body::new().label(4_095, 2).action(jump(4_095)),
+        Body::new().label(0, 0).action(jump(1_024)),
+        Body::new().label(1_024, 0).action(jump(0)),
+        Body::new().label(1_023, 0).action(jump(4_095)),
+        Body::new()
+            .label(2_048, 0)
+            .label(3_072, 0)
+            .action(jump(1_024)),
+    ] {
+        assert_eq!(answers(main), [done, lost, done, lost]);
+    }
+
+    // into a function; main's label and the function's, which end in the same bits
+    let records = function(&Body::new().label(1_024, 0).action(pop()));
+    let (done, left) = ((0, 16), (15, 13));
+    let into = Body::new().action(records.clone()).action(jump(1_024));
+    assert_eq!(answers(into), [done, done, left, left]);
+    let stays = Body::new().label(0, 0).action(records).action(jump(0));
+    assert_eq!(answers(stays), [done; 4]);
+}
+
+/// As many entries as edition 2 has label numbers, and one more.
+#[test]
+fn entries_of_every_label() {
+    let entries = |count: u16| (0..count).fold(Body::new(), |body, n| body.label(n, n % 4));
+    let jumps = |body: Body| body.action(jump(0)).action(jump(1_023)).action(jump(4_095));
+    let answers = |edition, count| answers_in(edition, &jumps(entries(count)).bytes());
+    // a label number stands at 2 and each fourth byte behind it
+    assert_eq!(answers(1, 4_096), [(5, 4_098); 4]);
+    assert_eq!(answers(1, 1_025), [(5, 4_098); 4]);
+    // behind 1,024 entries and two jumps, 4,095 is refused in edition 1
+    assert_eq!(answers(1, 1_024), [(5, 4_107); 4]);
+    let (done, lost) = ((0, 16), (14, 13));
+    assert_eq!(answers(2, 1_024), [done, lost, done, lost]);
+    assert_eq!(answers(2, 4_095), [done, lost, done, lost]);
+    assert_eq!(answers(2, 4_096), [done; 4]);
+    assert_eq!(answers(2, 4_097), [(5, 16_386); 4]);
+    let block = pack(
+        &sheet_in(2, &[], &jumps(entries(4_096)).bytes()),
+        Mode::PLAIN,
+        16,
+    );
+    // 0 before action 0, 1,023 and 4,095 before action 3
+    let due = "99 02 00 FB FF 99 02 00 05 00 99 02 00 00 00 00";
+    assert_eq!(block, Ok(hex(due)));
 }
 
 /// The reader's table against the source's opcodes: what a lone byte packs to.

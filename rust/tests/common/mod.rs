@@ -38,10 +38,15 @@ pub fn body(labels: &[(usize, usize)], actions: &[&[u8]]) -> Vec<u8> {
     .concat()
 }
 
-/// A main body, with its note and its trailer.
-pub fn sheet_with_note(note: &[u8], main: &[u8]) -> Vec<u8> {
+/// A main body, with its note and its trailer, which has this edition.
+pub fn sheet_in(edition: usize, note: &[u8], main: &[u8]) -> Vec<u8> {
     let distance = u32::try_from(main.len()).expect("a u32").to_le_bytes();
-    [note, main, &distance, &[1, 0, 0x41, 0x31]].concat()
+    [note, main, &distance, &u16(edition), &[0x41, 0x31]].concat()
+}
+
+/// The same in edition 1.
+pub fn sheet_with_note(note: &[u8], main: &[u8]) -> Vec<u8> {
+    sheet_in(1, note, main)
 }
 
 pub fn sheet(main: &[u8]) -> Vec<u8> {

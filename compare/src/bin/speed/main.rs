@@ -6,6 +6,7 @@ mod sheets;
 
 use merinovault::{Mode, pack};
 use oracle::answer;
+use oracle::sheet::Edition;
 use std::hint::black_box;
 use std::time::Instant;
 
@@ -99,14 +100,16 @@ fn time(sheet: &[u8], rounds: u32) -> Times {
     }
 }
 
-/// The cases, by name.
-const CASES: [(&str, fn() -> Vec<u8>); 7] = [
+/// The cases, by name; those with a 2 are of edition 2.
+const CASES: [(&str, fn() -> Vec<u8>); 9] = [
     ("screen", || sheets::screen(50)),
     ("recorded", || sheets::screen(500)),
     ("large", || sheets::screen(2_570)),
-    ("tiny", sheets::tiny),
+    ("tiny", || sheets::tiny(Edition::One)),
+    ("tiny2", || sheets::tiny(Edition::Two)),
     ("strings", sheets::strings),
     ("labels", sheets::labels),
+    ("form2", sheets::form),
     ("deep", sheets::deep),
 ];
 

@@ -1,10 +1,18 @@
 //! The sheets that are timed, made by rule.
 
-/// A sheet without a note.
-pub fn sheet(main: &[u8]) -> Vec<u8> {
+use oracle::sheet::Edition;
+
+/// A sheet of edition 1 without a note.
+fn sheet(main: &[u8]) -> Vec<u8> {
+    sheet_in(Edition::One, main)
+}
+
+/// The same in an edition.
+fn sheet_in(edition: Edition, main: &[u8]) -> Vec<u8> {
     let mut bytes = main.to_vec();
     bytes.extend((main.len() as u32).to_le_bytes());
-    bytes.extend([0x01, 0x00, 0x41, 0x31]);
+    bytes.extend(edition.number().to_le_bytes());
+    bytes.extend([0x41, 0x31]);
     bytes
 }
 
@@ -110,8 +118,8 @@ pub fn screen(handlers: usize) -> Vec<u8> {
 }
 
 /// One Jump to itself: P6.
-pub fn tiny() -> Vec<u8> {
-    sheet(&body(&[(0, 0)], &[branch(0x99, 0)]))
+pub fn tiny(edition: Edition) -> Vec<u8> {
+    sheet_in(edition, &body(&[(0, 0)], &[branch(0x99, 0)]))
 }
 
 /// Long strings.
@@ -129,6 +137,22 @@ pub fn labels() -> Vec<u8> {
     let entries: Vec<(usize, usize)> = (0..1_024).map(|i| (i, (i * 61) % 65_000)).collect();
     let inner = [vec![0x94], body(&entries, &pops)].concat();
     sheet(&body(&[], &vec![inner; 14]))
+}
+
+/// A generated form in edition 2: one body with as many fields as there are labels, each with a test and a branch over the next
+/// action to a label of its own.
+pub fn form() -> Vec<u8> {
+    let mut entries = vec![];
+    let mut actions = vec![];
+    for label in 0..usize::from(Edition::Two.labels()) {
+        actions.extend([
+            push(&[register(1)]),
+            branch(0x9D, label),
+            vec![0x50], // Increment
+        ]);
+        entries.push((label, actions.len()));
+    }
+    sheet_in(Edition::Two, &body(&entries, &actions))
 }
 
 /// Bodies to depth 16, and in the innermost some actions.

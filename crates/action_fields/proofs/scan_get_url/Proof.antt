@@ -20,7 +20,7 @@ enum-known-p : tie.Need-enum-known-p
 enum-known-p c = search needs
 
 scan-string-requires-2 : tie.Need-scan-string-requires-2
-scan-string-requires-2 c κs = lists.text-after _ 0 (omega arith) _ _ _ _ _ _ (c .before .before .before .before .before .pre) (c .before .before .before .scan-string .ensures) (c .before .p .given .1) (omega arith)
+scan-string-requires-2 c κs = lists.text-after _ _ 0 (omega arith) _ _ _ _ _ _ (c .before .before .before .before .before .pre) (c .before .before .before .scan-string .ensures) (c .before .p .given .1) (omega arith)
 
 enum-known-f-2 : tie.Need-enum-known-f-2
 enum-known-f-2 c = search needs
@@ -29,16 +29,16 @@ enum-known-q : tie.Need-enum-known-q
 enum-known-q c = search needs
 
 u16-at-requires : tie.Need-u16-at-requires
-u16-at-requires c κs = lists.text-told _ _ _ _ _ _ (c .before .before .before .before .before .before .before .scan-string .ensures) (c .before .before .before .before .before .p .given .1) .0
+u16-at-requires c κs = lists.text-told _ _ _ _ _ _ _ (c .before .before .before .before .before .before .before .scan-string .ensures) (c .before .before .before .before .before .p .given .1) .0
 
 u16-at-requires-2 : tie.Need-u16-at-requires-2
-u16-at-requires-2 c κs = lists.text-told _ _ _ _ _ _ (c .before .before .before .before .scan-string2 .ensures) (c .before .before .q .given .1) .0
+u16-at-requires-2 c κs = lists.text-told _ _ _ _ _ _ _ (c .before .before .before .before .scan-string2 .ensures) (c .before .before .q .given .1) .0
 
 get-url-len-requires : tie.Need-get-url-len-requires
 get-url-len-requires c κs = search needs
 
-add-t16 : tie.Need-add-t16
-add-t16 c = omega (arith, c .before .before .before .before .before .before .before .before .before .before .before .before .before .pre .room, c .before .get-url-len .ensures)
+add-t17 : tie.Need-add-t17
+add-t17 c = omega (arith, c .before .before .before .before .before .before .before .before .before .before .before .before .before .pre .room, c .before .get-url-len .ensures)
 
 returns : tie.Need-returns
 unfolding readGetUrl
@@ -53,7 +53,7 @@ unfolding readGetUrl
 returns-3 c =
     let e = ends-is _ _ _ (c .before .before .before .before .before .before .before .scan-string2 .ensures) (c .before .before .before .before .before .q .given .1) in
     steps.then-ends _ _ _ _ _ _ _ (c .before .before .before .before .before .before .before .before .before .before .before .scan-string .ensures) (c .before .before .before .before .before .before .before .before .before .p .given .1)
-    (λ s g h. steps.url-in _ _ s (e .0) _ _ _ _ _ (e .1) (string-read _ _ g .1 ∙ ap (λ (n : ℕ). n + 1) (sym (c .before .before .before .u16-at .ensures .0))) (string-read _ _ (e .1) .1 ∙ ap (λ (n : ℕ). n + 1) (sym (c .before .before .u16-at2 .ensures .0))) (c .before .get-url-len .ensures) refl)
+    (λ s g h. steps.url-in _ _ _ s (e .0) _ _ _ _ _ (e .1) (string-read _ _ _ g .1 ∙ ap (λ (n : ℕ). n + 1) (sym (c .before .before .before .u16-at .ensures .0))) (string-read _ _ _ (e .1) .1 ∙ ap (λ (n : ℕ). n + 1) (sym (c .before .before .u16-at2 .ensures .0))) (c .before .get-url-len .ensures) refl)
 
 pub scan-get-url-spec : {M : Type 1} → statement M
 scan-get-url-spec =
@@ -68,7 +68,7 @@ scan-get-url-spec =
     u16-at-requires
     u16-at-requires-2
     get-url-len-requires
-    add-t16
+    add-t17
     returns
     returns-2
     returns-3)

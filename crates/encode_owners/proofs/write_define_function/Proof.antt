@@ -2,6 +2,7 @@
 use mathlib.Core.Path.{_∙_}
 use native.Mathlib.Omega.{arith}
 use denote.Ref.{now}
+use Rattle.editions.specs.Allowed.{termsOf}
 use borrow.Author.Needs.{needs}
 use Rattle.encode_owners.proofs.Wholes as wholes
 use Rattle.encode_owners.proofs.write_define_function.Statement.{statement}
@@ -13,13 +14,13 @@ add-start c = search needs
 write-string-requires : tie.Need-write-string-requires
 write-string-requires c κs =
     let s = c .before .before .before .before .before in
-    let h = wholes.function-space (now (s .args .b)) (s .args .f) (s .pre .0) (s .pre .1) in
+    let h = wholes.function-space (termsOf (s .args .terms)) (now (s .args .b)) (s .args .f) (s .pre .0) (s .pre .1) in
     (omega arith, omega arith)
 
 string-len-requires : tie.Need-string-len-requires
 string-len-requires c κs =
     let s = c .before .before .before .before .before .before .before .before in
-    let h = wholes.function-space (now (s .args .b)) (s .args .f) (s .pre .0) (s .pre .1) in
+    let h = wholes.function-space (termsOf (s .args .terms)) (now (s .args .b)) (s .args .f) (s .pre .0) (s .pre .1) in
     omega arith
 
 add-w : tie.Need-add-w
@@ -28,7 +29,7 @@ add-w c = search needs
 write-u16-requires : tie.Need-write-u16-requires
 write-u16-requires c κs =
     let s = c .before .before .before .before .before .before .before .before .before .before in
-    let h = wholes.function-space (now (s .args .b)) (s .args .f) (s .pre .0) (s .pre .1) in
+    let h = wholes.function-space (termsOf (s .args .terms)) (now (s .args .b)) (s .args .f) (s .pre .0) (s .pre .1) in
     omega (arith, c .before .before .before .before .write-string .kept .0)
 
 add-params : tie.Need-add-params
@@ -37,12 +38,12 @@ add-params c = search needs
 write-strings-requires : tie.Need-write-strings-requires
 write-strings-requires c κs =
     let p = c .before .before .before .before .before .before .before .before .before .before .before .before .before .before .pre in
-    wholes.function-room _ _ (p .0) (p .1) (omega (arith, c .before .before .before .before .before .string-len .ensures)) (c .before .before .before .write-u16 .kept .0 ∙ c .before .before .before .before .before .before .before .before .write-string .kept .0)
+    wholes.function-room _ _ _ (p .0) (p .1) (omega (arith, c .before .before .before .before .before .string-len .ensures)) (c .before .before .before .write-u16 .kept .0 ∙ c .before .before .before .before .before .before .before .before .write-string .kept .0)
 
 write-u16-requires-2 : tie.Need-write-u16-requires-2
 write-u16-requires-2 c κs =
     let s = c .before .before .before .before .before .before .before .before .before .before .before .before .before .before .before .before .before .before in
-    let h = wholes.function-space (now (s .args .b)) (s .args .f) (s .pre .0) (s .pre .1) in
+    let h = wholes.function-space (termsOf (s .args .terms)) (now (s .args .b)) (s .args .f) (s .pre .0) (s .pre .1) in
     omega (arith, c .before .before .before .write-strings .ensures .end, c .before .before .before .write-strings .kept .0, c .before .before .before .before .before .before .before .write-u16 .kept .0, c .before .before .before .before .before .before .before .before .before .before .before .before .write-string .kept .0)
 
 sub-define-function-len : tie.Need-sub-define-function-len
@@ -51,19 +52,19 @@ sub-define-function-len c = search needs
 define-function-len-requires : tie.Need-define-function-len-requires
 define-function-len-requires c κs =
     let s = c .before .before .before .before .before .before .before .before .before .before .before .before .before .before .before .before .before .before .before .before .before .before in
-    let h = wholes.function-space (now (s .args .b)) (s .args .f) (s .pre .0) (s .pre .1) in
+    let h = wholes.function-space (termsOf (s .args .terms)) (now (s .args .b)) (s .args .f) (s .pre .0) (s .pre .1) in
     (omega arith, omega (arith, c .before .before .before .before .before .before .before .write-strings .ensures .end))
 
 write-action-header-requires : tie.Need-write-action-header-requires
 write-action-header-requires c κs =
     let s = c .before .before .before .before .before .before .before .before .before .before .before .before .before .before .before .before .before .before .before .before .before .before .before .before in
-    let h = wholes.function-space (now (s .args .b)) (s .args .f) (s .pre .0) (s .pre .1) in
+    let h = wholes.function-space (termsOf (s .args .terms)) (now (s .args .b)) (s .args .f) (s .pre .0) (s .pre .1) in
     omega (arith, c .before .before .before .before .before .write-u162 .kept .0, c .before .before .before .before .before .before .before .before .before .write-strings .kept .0, c .before .before .before .before .before .before .before .before .before .before .before .before .before .write-u16 .kept .0, c .before .before .before .before .before .before .before .before .before .before .before .before .before .before .before .before .before .before .write-string .kept .0)
 
-add-t14 : tie.Need-add-t14
-add-t14 c =
+add-t15 : tie.Need-add-t15
+add-t15 c =
     let s = c .before .before .before .before .before .before .before .before .before .before .before .before .before .before .before .before .before .before .before .before .before .before .before .before .before .before .before in
-    let h = wholes.function-space (now (s .args .b)) (s .args .f) (s .pre .0) (s .pre .1) in
+    let h = wholes.function-space (termsOf (s .args .terms)) (now (s .args .b)) (s .args .f) (s .pre .0) (s .pre .1) in
     omega (arith, c .before .before .before .before .before .before .before .before .before .before .before .before .write-strings .ensures .end, c .before .before .before .before .define-function-len .ensures)
 
 same-length : tie.Need-same-length
@@ -72,7 +73,7 @@ same-length c = search needs
 returns : tie.Need-returns
 returns c =
     let p = c .before .before .before .before .before .before .before .before .before .before .before .before .before .before .before .before .before .before .before .before .before .before .before .before .before .before .before .pre in
-    wholes.function-put _ _ (p .0) (p .1) (omega (arith, c .before .before .before .before .before .before .before .before .before .before .before .before .before .before .before .before .before .before .string-len .ensures)) (c .before .before .before .before .before .before .before .before .before .before .before .before .before .before .before .before .before .before .before .before .before .write-string .ensures) (c .before .before .before .before .before .before .before .before .before .before .before .before .before .before .before .before .write-u16 .ensures) (c .before .before .before .before .before .before .before .before .before .before .before .before .write-strings .ensures) (c .before .before .before .before .before .before .before .before .write-u162 .ensures) (c .before .before .before .before .define-function-len .ensures) (c .before .before .write-action-header .ensures .1)
+    wholes.function-put _ _ _ (p .0) (p .1) (omega (arith, c .before .before .before .before .before .before .before .before .before .before .before .before .before .before .before .before .before .before .string-len .ensures)) (c .before .before .before .before .before .before .before .before .before .before .before .before .before .before .before .before .before .before .before .before .before .write-string .ensures) (c .before .before .before .before .before .before .before .before .before .before .before .before .before .before .before .before .write-u16 .ensures) (c .before .before .before .before .before .before .before .before .before .before .before .before .write-strings .ensures) (c .before .before .before .before .before .before .before .before .write-u162 .ensures) (c .before .before .before .before .define-function-len .ensures) (c .before .before .write-action-header .ensures .1)
 
 pub write-define-function-spec : {M : Type 1} → statement M
 write-define-function-spec =
@@ -89,6 +90,6 @@ write-define-function-spec =
     sub-define-function-len
     define-function-len-requires
     write-action-header-requires
-    add-t14
+    add-t15
     same-length
     returns)

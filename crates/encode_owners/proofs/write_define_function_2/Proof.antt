@@ -2,6 +2,7 @@
 use mathlib.Core.Path.{_∙_}
 use native.Mathlib.Omega.{arith}
 use denote.Ref.{now}
+use Rattle.editions.specs.Allowed.{termsOf}
 use borrow.Author.Needs.{needs}
 use Rattle.encode_owners.proofs.Wholes as wholes
 use Rattle.encode_owners.proofs.write_define_function_2.Statement.{statement}
@@ -13,13 +14,13 @@ add-start c = search needs
 write-string-requires : tie.Need-write-string-requires
 write-string-requires c κs =
     let s = c .before .before .before .before .before in
-    let h = wholes.function2-space (now (s .args .b)) (s .args .f) (s .pre .0) (s .pre .2) in
+    let h = wholes.function2-space (termsOf (s .args .terms)) (now (s .args .b)) (s .args .f) (s .pre .0) (s .pre .2) in
     (omega arith, omega arith)
 
 string-len-requires : tie.Need-string-len-requires
 string-len-requires c κs =
     let s = c .before .before .before .before .before .before .before .before in
-    let h = wholes.function2-space (now (s .args .b)) (s .args .f) (s .pre .0) (s .pre .2) in
+    let h = wholes.function2-space (termsOf (s .args .terms)) (now (s .args .b)) (s .args .f) (s .pre .0) (s .pre .2) in
     omega arith
 
 add-w : tie.Need-add-w
@@ -28,7 +29,7 @@ add-w c = search needs
 write-u16-requires : tie.Need-write-u16-requires
 write-u16-requires c κs =
     let s = c .before .before .before .before .before .before .before .before .before .before in
-    let h = wholes.function2-space (now (s .args .b)) (s .args .f) (s .pre .0) (s .pre .2) in
+    let h = wholes.function2-space (termsOf (s .args .terms)) (now (s .args .b)) (s .args .f) (s .pre .0) (s .pre .2) in
     omega (arith, c .before .before .before .before .write-string .kept .0)
 
 add-params : tie.Need-add-params
@@ -37,7 +38,7 @@ add-params c = search needs
 write-params-requires : tie.Need-write-params-requires
 write-params-requires c κs =
     let p = c .before .before .before .before .before .before .before .before .before .before .before .before .before .before .pre in
-    wholes.function2-room _ _ (p .0) (p .2) (omega (arith, c .before .before .before .before .before .string-len .ensures)) (c .before .before .before .write-u16 .kept .0 ∙ c .before .before .before .before .before .before .before .before .write-string .kept .0)
+    wholes.function2-room _ _ _ (p .0) (p .2) (omega (arith, c .before .before .before .before .before .string-len .ensures)) (c .before .before .before .write-u16 .kept .0 ∙ c .before .before .before .before .before .before .before .before .write-string .kept .0)
 
 add-write-u8 : tie.Need-add-write-u8
 add-write-u8 c = search needs
@@ -45,13 +46,13 @@ add-write-u8 c = search needs
 shared-slice-read-write-u8 : tie.Need-shared-slice-read-write-u8
 shared-slice-read-write-u8 c =
     let s = c .before .before .before .before .before .before .before .before .before .before .before .before .before .before .before .before .before .before .before in
-    let h = wholes.function2-inside (now (s .args .b)) (s .args .f) (s .pre .0) (s .pre .2) (s .pre .1) in
+    let h = wholes.function2-inside (termsOf (s .args .terms)) (now (s .args .b)) (s .args .f) (s .pre .0) (s .pre .2) (s .pre .1) in
     omega (arith, c .before .before .before .before .write-params .ensures .next)
 
 write-u8-requires : tie.Need-write-u8-requires
 write-u8-requires c κs =
     let s = c .before .before .before .before .before .before .before .before .before .before .before .before .before .before .before .before .before .before .before in
-    let h = wholes.function2-space (now (s .args .b)) (s .args .f) (s .pre .0) (s .pre .2) in
+    let h = wholes.function2-space (termsOf (s .args .terms)) (now (s .args .b)) (s .args .f) (s .pre .0) (s .pre .2) in
     omega (arith, c .before .before .before .before .write-params .kept .0, c .before .before .before .before .before .before .before .before .write-u16 .kept .0, c .before .before .before .before .before .before .before .before .before .before .before .before .before .write-string .kept .0)
 
 add-write-u16 : tie.Need-add-write-u16
@@ -60,25 +61,25 @@ add-write-u16 c = search needs
 add-u16-at : tie.Need-add-u16-at
 add-u16-at c =
     let s = c .before .before .before .before .before .before .before .before .before .before .before .before .before .before .before .before .before .before .before .before .before .before .before in
-    let h = wholes.function2-inside (now (s .args .b)) (s .args .f) (s .pre .0) (s .pre .2) (s .pre .1) in
+    let h = wholes.function2-inside (termsOf (s .args .terms)) (now (s .args .b)) (s .args .f) (s .pre .0) (s .pre .2) (s .pre .1) in
     omega (arith, c .before .before .before .before .before .before .before .before .write-params .ensures .next)
 
 u16-at-requires : tie.Need-u16-at-requires
 u16-at-requires c κs =
     let s = c .before .before .before .before .before .before .before .before .before .before .before .before .before .before .before .before .before .before .before .before .before .before .before in
-    let h = wholes.function2-inside (now (s .args .b)) (s .args .f) (s .pre .0) (s .pre .2) (s .pre .1) in
+    let h = wholes.function2-inside (termsOf (s .args .terms)) (now (s .args .b)) (s .args .f) (s .pre .0) (s .pre .2) (s .pre .1) in
     omega (arith, c .before .before .before .before .before .before .before .before .write-params .ensures .next)
 
 write-u16-requires-2 : tie.Need-write-u16-requires-2
 write-u16-requires-2 c κs =
     let s = c .before .before .before .before .before .before .before .before .before .before .before .before .before .before .before .before .before .before .before .before .before .before .before .before in
-    let h = wholes.function2-space (now (s .args .b)) (s .args .f) (s .pre .0) (s .pre .2) in
+    let h = wholes.function2-space (termsOf (s .args .terms)) (now (s .args .b)) (s .args .f) (s .pre .0) (s .pre .2) in
     omega (arith, c .before .before .before .before .write-u8 .kept .0, c .before .before .before .before .before .before .before .before .before .write-params .kept .0, c .before .before .before .before .before .before .before .before .before .before .before .before .before .write-u16 .kept .0, c .before .before .before .before .before .before .before .before .before .before .before .before .before .before .before .before .before .before .write-string .kept .0)
 
 write-u16-requires-3 : tie.Need-write-u16-requires-3
 write-u16-requires-3 c κs =
     let s = c .before .before .before .before .before .before .before .before .before .before .before .before .before .before .before .before .before .before .before .before .before .before .before .before .before .before .before .before in
-    let h = wholes.function2-space (now (s .args .b)) (s .args .f) (s .pre .0) (s .pre .2) in
+    let h = wholes.function2-space (termsOf (s .args .terms)) (now (s .args .b)) (s .args .f) (s .pre .0) (s .pre .2) in
     omega (arith, c .before .before .before .before .before .before .before .before .before .before .before .before .before .before .before .before .before .before .before .string-len .ensures, c .before .before .before .before .before .before .before .before .before .before .before .before .before .write-params .ensures .end, c .before .before .before .write-u162 .kept .0, c .before .before .before .before .before .before .before .before .write-u8 .kept .0, c .before .before .before .before .before .before .before .before .before .before .before .before .before .write-params .kept .0, c .before .before .before .before .before .before .before .before .before .before .before .before .before .before .before .before .before .write-u16 .kept .0, c .before .before .before .before .before .before .before .before .before .before .before .before .before .before .before .before .before .before .before .before .before .before .write-string .kept .0)
 
 sub-define-function-2-len : tie.Need-sub-define-function-2-len
@@ -87,25 +88,25 @@ sub-define-function-2-len c = search needs
 define-function-2-len-requires : tie.Need-define-function-2-len-requires
 define-function-2-len-requires c κs =
     let s = c .before .before .before .before .before .before .before .before .before .before .before .before .before .before .before .before .before .before .before .before .before .before .before .before .before .before .before .before .before .before .before .before in
-    let h = wholes.function2-space (now (s .args .b)) (s .args .f) (s .pre .0) (s .pre .2) in
+    let h = wholes.function2-space (termsOf (s .args .terms)) (now (s .args .b)) (s .args .f) (s .pre .0) (s .pre .2) in
     (omega arith, omega (arith, c .before .before .before .before .before .before .before .before .before .before .before .before .before .before .before .before .before .before .before .before .before .before .before .string-len .ensures, c .before .before .before .before .before .before .before .before .before .before .before .before .before .before .before .before .before .write-params .ensures .end))
 
 write-action-header-requires : tie.Need-write-action-header-requires
 write-action-header-requires c κs =
     let s = c .before .before .before .before .before .before .before .before .before .before .before .before .before .before .before .before .before .before .before .before .before .before .before .before .before .before .before .before .before .before .before .before .before .before in
-    let h = wholes.function2-space (now (s .args .b)) (s .args .f) (s .pre .0) (s .pre .2) in
+    let h = wholes.function2-space (termsOf (s .args .terms)) (now (s .args .b)) (s .args .f) (s .pre .0) (s .pre .2) in
     omega (arith, c .before .before .before .before .before .write-u163 .kept .0, c .before .before .before .before .before .before .before .before .before .write-u162 .kept .0, c .before .before .before .before .before .before .before .before .before .before .before .before .before .before .write-u8 .kept .0, c .before .before .before .before .before .before .before .before .before .before .before .before .before .before .before .before .before .before .before .write-params .kept .0, c .before .before .before .before .before .before .before .before .before .before .before .before .before .before .before .before .before .before .before .before .before .before .before .write-u16 .kept .0, c .before .before .before .before .before .before .before .before .before .before .before .before .before .before .before .before .before .before .before .before .before .before .before .before .before .before .before .before .write-string .kept .0)
 
-add-t28 : tie.Need-add-t28
-add-t28 c =
+add-t29 : tie.Need-add-t29
+add-t29 c =
     let s = c .before .before .before .before .before .before .before .before .before .before .before .before .before .before .before .before .before .before .before .before .before .before .before .before .before .before .before .before .before .before .before .before .before .before .before .before .before in
-    let h = wholes.function2-inside (now (s .args .b)) (s .args .f) (s .pre .0) (s .pre .2) (s .pre .1) in
+    let h = wholes.function2-inside (termsOf (s .args .terms)) (now (s .args .b)) (s .args .f) (s .pre .0) (s .pre .2) (s .pre .1) in
     omega (arith, c .before .before .before .before .before .before .before .before .before .before .before .before .before .before .before .before .before .before .before .before .before .before .write-params .ensures .next)
 
-add-t15 : tie.Need-add-t15
-add-t15 c =
+add-t16 : tie.Need-add-t16
+add-t16 c =
     let s = c .before .before .before .before .before .before .before .before .before .before .before .before .before .before .before .before .before .before .before .before .before .before .before .before .before .before .before .before .before .before .before .before .before .before .before .before .before in
-    let h = wholes.function2-space (now (s .args .b)) (s .args .f) (s .pre .0) (s .pre .2) in
+    let h = wholes.function2-space (termsOf (s .args .terms)) (now (s .args .b)) (s .args .f) (s .pre .0) (s .pre .2) in
     omega (arith, c .before .before .before .before .before .before .before .before .before .before .before .before .before .before .before .before .before .before .before .before .before .before .before .before .before .before .before .before .string-len .ensures, c .before .before .before .before .before .before .before .before .before .before .before .before .before .before .before .before .before .before .before .before .before .before .write-params .ensures .end, c .before .before .before .before .define-function-2-len .ensures)
 
 same-length : tie.Need-same-length
@@ -114,7 +115,7 @@ same-length c = c .before .before .write-action-header .kept .0 ∙ c .before .b
 returns : tie.Need-returns
 returns c =
     let p = c .before .before .before .before .before .before .before .before .before .before .before .before .before .before .before .before .before .before .before .before .before .before .before .before .before .before .before .before .before .before .before .before .before .before .before .before .before .pre in
-    wholes.function2-put _ _ (p .0) (p .2) (omega (arith, c .before .before .before .before .before .before .before .before .before .before .before .before .before .before .before .before .before .before .before .before .before .before .before .before .before .before .before .before .string-len .ensures)) (c .before .before .before .before .before .before .before .before .before .before .before .before .before .before .before .before .before .before .before .before .before .before .before .before .before .before .before .before .before .before .before .write-string .ensures) (c .before .before .before .before .before .before .before .before .before .before .before .before .before .before .before .before .before .before .before .before .before .before .before .before .before .before .write-u16 .ensures) (c .before .before .before .before .before .before .before .before .before .before .before .before .before .before .before .before .before .before .before .before .before .before .write-params .ensures) (c .before .before .before .before .before .before .before .before .before .before .before .before .before .before .before .before .before .write-u8 .ensures) (c .before .before .before .before .before .before .before .before .before .before .before .before .before .u16-at .ensures .0) (c .before .before .before .before .before .before .before .before .before .before .before .before .write-u162 .ensures) (c .before .before .before .before .before .before .before .before .write-u163 .ensures) (c .before .before .before .before .define-function-2-len .ensures) (c .before .before .write-action-header .ensures .1)
+    wholes.function2-put _ _ _ (p .0) (p .2) (omega (arith, c .before .before .before .before .before .before .before .before .before .before .before .before .before .before .before .before .before .before .before .before .before .before .before .before .before .before .before .before .string-len .ensures)) (c .before .before .before .before .before .before .before .before .before .before .before .before .before .before .before .before .before .before .before .before .before .before .before .before .before .before .before .before .before .before .before .write-string .ensures) (c .before .before .before .before .before .before .before .before .before .before .before .before .before .before .before .before .before .before .before .before .before .before .before .before .before .before .write-u16 .ensures) (c .before .before .before .before .before .before .before .before .before .before .before .before .before .before .before .before .before .before .before .before .before .before .write-params .ensures) (c .before .before .before .before .before .before .before .before .before .before .before .before .before .before .before .before .before .write-u8 .ensures) (c .before .before .before .before .before .before .before .before .before .before .before .before .before .u16-at .ensures .0) (c .before .before .before .before .before .before .before .before .before .before .before .before .write-u162 .ensures) (c .before .before .before .before .before .before .before .before .write-u163 .ensures) (c .before .before .before .before .define-function-2-len .ensures) (c .before .before .write-action-header .ensures .1)
 
 pub write-define-function-2-spec : {M : Type 1} → statement M
 write-define-function-2-spec =
@@ -138,7 +139,7 @@ write-define-function-2-spec =
     sub-define-function-2-len
     define-function-2-len-requires
     write-action-header-requires
-    add-t28
-    add-t15
+    add-t29
+    add-t16
     same-length
     returns)

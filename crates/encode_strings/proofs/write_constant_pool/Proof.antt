@@ -1,6 +1,7 @@
 -- `encode_strings::write_constant_pool` meets its contract: the count, the strings and then the header before them are one run. Assumes nothing.
 use native.Mathlib.Omega.{arith}
 use denote.Ref.{now}
+use Rattle.editions.specs.Allowed.{termsOf}
 use borrow.Author.Needs.{needs}
 use Rattle.encode_values.specs.Pieces.{stringsAt}
 use Rattle.encode_strings.proofs.Wholes as wholes
@@ -13,7 +14,7 @@ add-start c = search needs
 write-u16-requires : tie.Need-write-u16-requires
 write-u16-requires c κs =
     let a = c .before .before .before .before .args in
-    omega (arith, wholes.pool-space _ (stringsAt (now (a .b)) (a .n) (a .at)) (c .before .before .before .before .pre))
+    omega (arith, wholes.pool-space _ (stringsAt (termsOf (a .terms)) (now (a .b)) (a .n) (a .at)) (c .before .before .before .before .pre))
 
 constant-pool-len-requires : tie.Need-constant-pool-len-requires
 constant-pool-len-requires c κs = search needs
@@ -30,12 +31,12 @@ sub-constant-pool-len c = search needs
 constant-pool-len-requires-2 : tie.Need-constant-pool-len-requires-2
 constant-pool-len-requires-2 c κs =
     let a = c .before .before .before .before .before .before .before .before .before .before .before .before .before .args in
-    omega (arith, wholes.pool-space _ (stringsAt (now (a .b)) (a .n) (a .at)) (c .before .before .before .before .before .before .before .before .before .before .before .before .before .pre), c .before .before .before .write-strings .ensures .end)
+    omega (arith, wholes.pool-space _ (stringsAt (termsOf (a .terms)) (now (a .b)) (a .n) (a .at)) (c .before .before .before .before .before .before .before .before .before .before .before .before .before .pre), c .before .before .before .write-strings .ensures .end)
 
 write-action-header-requires : tie.Need-write-action-header-requires
 write-action-header-requires c κs =
     let a = c .before .before .before .before .before .before .before .before .before .before .before .before .before .before .before .args in
-    omega (arith, wholes.pool-space _ (stringsAt (now (a .b)) (a .n) (a .at)) (c .before .before .before .before .before .before .before .before .before .before .before .before .before .before .before .pre), c .before .before .before .before .before .before .before .before .before .before .write-u16 .kept .0, c .before .before .before .before .before .write-strings .kept .0)
+    omega (arith, wholes.pool-space _ (stringsAt (termsOf (a .terms)) (now (a .b)) (a .n) (a .at)) (c .before .before .before .before .before .before .before .before .before .before .before .before .before .before .before .pre), c .before .before .before .before .before .before .before .before .before .before .write-u16 .kept .0, c .before .before .before .before .before .write-strings .kept .0)
 
 same-length : tie.Need-same-length
 same-length c = search needs

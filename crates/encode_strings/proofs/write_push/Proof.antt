@@ -1,6 +1,7 @@
 -- `encode_strings::write_push` meets its contract: the values and then the header before them are one run. Assumes nothing.
 use native.Mathlib.Omega.{arith}
 use denote.Ref.{now}
+use Rattle.editions.specs.Allowed.{termsOf}
 use borrow.Author.Needs.{needs}
 use Rattle.encode_values.specs.Pieces.{valuesAt}
 use Rattle.encode_strings.proofs.Wholes as wholes
@@ -22,7 +23,7 @@ push-len-requires c κs = search needs
 write-action-header-requires : tie.Need-write-action-header-requires
 write-action-header-requires c κs =
     let a = c .before .before .before .before .before .before .before .before .before .before .args in
-    omega (arith, wholes.push-room (valuesAt (now (a .b)) (a .n) (a .at)) (c .before .before .before .before .before .before .before .before .before .before .pre) .room, c .before .before .before .before .before .write-push-values .kept .0)
+    omega (arith, wholes.push-room (valuesAt (termsOf (a .terms)) (now (a .b)) (a .n) (a .at)) (c .before .before .before .before .before .before .before .before .before .before .pre) .room, c .before .before .before .before .before .write-push-values .kept .0)
 
 same-length : tie.Need-same-length
 same-length c = search needs

@@ -6,33 +6,33 @@ use Rattle.encode_values.proofs.write_string_at.Statement.{statement}
 use Rattle.encode_values.proofs.write_string_at.Tie as tie
 
 u16-at-requires : tie.Need-u16-at-requires
-u16-at-requires c κs = omega (arith, texts.string-room _ _ (c .before .before .pre) .0)
+u16-at-requires c κs = omega (arith, texts.string-room _ _ _ (c .before .before .pre) .0)
 
 add-write-string : tie.Need-add-write-string
-add-write-string c = omega (arith, texts.string-room _ _ (c .before .before .before .before .pre) .0)
+add-write-string c = omega (arith, texts.string-room _ _ _ (c .before .before .before .before .pre) .0)
 
 write-string-requires : tie.Need-write-string-requires
 write-string-requires c κs =
-    let h = texts.string-room _ _ (c .before .before .before .before .pre) in
+    let h = texts.string-room _ _ _ (c .before .before .before .before .pre) in
     (omega (arith, h .1, c .before .u16-at .ensures .0), omega (arith, h .0, c .before .u16-at .ensures .0))
 
-add-t9 : tie.Need-add-t9
-add-t9 c = omega (arith, texts.string-room _ _ (c .before .before .before .before .before .before .before .pre) .0)
-
 add-t10 : tie.Need-add-t10
-add-t10 c = omega (arith, texts.string-room _ _ (c .before .before .before .before .before .before .before .pre) .0, c .before .before .before .before .u16-at .ensures .0)
+add-t10 c = omega (arith, texts.string-room _ _ _ (c .before .before .before .before .before .before .before .pre) .0)
+
+add-t11 : tie.Need-add-t11
+add-t11 c = omega (arith, texts.string-room _ _ _ (c .before .before .before .before .before .before .before .pre) .0, c .before .before .before .before .u16-at .ensures .0)
 
 string-len-requires : tie.Need-string-len-requires
 string-len-requires c κs = search needs
 
-add-t12 : tie.Need-add-t12
-add-t12 c = search needs
+add-t13 : tie.Need-add-t13
+add-t13 c = search needs
 
 same-length : tie.Need-same-length
 same-length c = search needs
 
 returns : tie.Need-returns
-returns c = texts.string-put _ _ (c .before .before .before .before .before .before .before .before .before .pre) _ _ (c .before .before .before .before .before .before .u16-at .ensures .0) (c .before .string-len .ensures) (c .before .before .before .before .write-string .ensures)
+returns c = texts.string-put _ _ _ (c .before .before .before .before .before .before .before .before .before .pre) _ _ (c .before .before .before .before .before .before .u16-at .ensures .0) (c .before .string-len .ensures) (c .before .before .before .before .write-string .ensures)
 
 pub write-string-at-spec : {M : Type 1} → statement M
 write-string-at-spec =
@@ -41,9 +41,9 @@ write-string-at-spec =
     u16-at-requires
     add-write-string
     write-string-requires
-    add-t9
     add-t10
+    add-t11
     string-len-requires
-    add-t12
+    add-t13
     same-length
     returns)

@@ -8,20 +8,20 @@ sub-if1 : tie.Need-sub-if1
 sub-if1 c = search needs
 
 returns : tie.Need-returns
-returns c = values.named-out _ _ _ _ (omega arith)
+returns c = values.named-out _ _ _ _ _ (omega arith)
 
 add-scan-string : tie.Need-add-scan-string
 add-scan-string c = search needs
 
-add-t6 : tie.Need-add-t6
-add-t6 c = search needs
+add-t7 : tie.Need-add-t7
+add-t7 c = search needs
 
 scan-string-requires : tie.Need-scan-string-requires
 scan-string-requires c κs = search needs
 
 returns-2 : tie.Need-returns-2
-returns-2 c = values.named-in _ _ _ _ _ (omega arith) (c .scan-string .ensures)
+returns-2 c = values.named-in _ _ _ _ _ _ (omega arith) (c .scan-string .ensures)
 
 pub scan-named-spec : {M : Type 1} → statement M
 scan-named-spec =
-    tie.close (tie.spec sub-if1 returns add-scan-string add-t6 scan-string-requires returns-2)
+    tie.close (tie.spec sub-if1 returns add-scan-string add-t7 scan-string-requires returns-2)

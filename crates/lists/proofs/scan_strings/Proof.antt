@@ -1,3 +1,4 @@
+use Rattle.editions.specs.Allowed.{termsOf}
 use borrow.Author.Needs.{needs}
 use Rattle.layout.specs.Read.{placed, readCounted}
 use Rattle.layout.specs.Lengths.{total}
@@ -9,11 +10,11 @@ use Rattle.lists.proofs.scan_strings.Statement.{statement}
 use Rattle.lists.proofs.scan_strings.Tie as tie
 
 abbrev Inv-loop : tie.InvT-loop
-Inv-loop b at skip left₀ p₀ w₀ left p w =
-    lists.Going (readNamed b skip) (namedSize skip) b (scanned (total (namedSize skip)) (w₀ .0) (readCounted b (readNamed b skip) (placed at))) left p w
+Inv-loop b terms at skip left₀ p₀ w₀ left p w =
+    lists.Going (readNamed (termsOf terms) b skip) (namedSize skip) b (scanned (total (namedSize skip)) (w₀ .0) (readCounted b (readNamed (termsOf terms) b skip) (placed at))) left p w
 
 abbrev μ-loop : tie.MeasureT-loop
-μ-loop b at skip left₀ p₀ w₀ left p w = left
+μ-loop b terms at skip left₀ p₀ w₀ left p w = left
 
 sub-if1 : tie.Need-sub-if1 Inv-loop μ-loop
 sub-if1 c = search needs
@@ -50,7 +51,7 @@ loop-less : tie.Need-loop-less Inv-loop μ-loop
 loop-less c = search needs
 
 loop-again : tie.Need-loop-again Inv-loop μ-loop
-loop-again c = let g = c .before .before .before .before .before .loop .inv in lists.going-ends _ _ _ _ _ _ _ g (c .before .before .before .before .loop-test .taken) _ (c .before .before .before .scan-named .ensures) (lists.named-grows _ (g .roomy .bytes) _) _ _ (c .before .q .given .1)
+loop-again c = let g = c .before .before .before .before .before .loop .inv in lists.going-ends _ _ _ _ _ _ _ g (c .before .before .before .before .loop-test .taken) _ (c .before .before .before .scan-named .ensures) (lists.named-grows _ _ (g .roomy .bytes) _) _ _ (c .before .q .given .1)
 
 returns-3 : tie.Need-returns-3 Inv-loop μ-loop
 returns-3 c = lists.going-end _ _ _ _ _ _ _ (c .before .loop .inv) (c .loop-test .left)

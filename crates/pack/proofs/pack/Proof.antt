@@ -1,46 +1,66 @@
--- `pack::pack` meets its contract: a table of homes is lent where the mode is contained. Assumes nothing.
-use mathlib.Core.Path.{sym, _∙_}
-use mathlib.Core.Bool.{false≢true}
-use Prim.Native.Nat.{ℕ}
-use lib.ListN.{length-replicate}
-use Rattle.scan.proofs.Mains.{zeros-cleared}
+-- `pack::pack` meets its contract: what the cut refuses, or what is made of the main body. Assumes nothing.
+use Prim.Native.Nat.{_≤_}
+use native.Mathlib.Omega.{arith}
+use lib.ListN.{length}
+use Rattle.cut.proofs.Mains as cuts
+use Rattle.pack.proofs.Packs as packs
 use borrow.Author.Needs.{needs}
 use Rattle.pack.proofs.pack.Statement.{statement}
 use Rattle.pack.proofs.pack.Tie as tie
 
-slice-aggregate-pack-with-homes : tie.Need-slice-aggregate-pack-with-homes
-slice-aggregate-pack-with-homes c = search needs
+cut-main-requires : tie.Need-cut-main-requires
+cut-main-requires c κs = search needs
 
-pack-with-homes-requires : tie.Need-pack-with-homes-requires
-pack-with-homes-requires c κs = (λ e. length-replicate {A = ℕ} 1024 0, zeros-cleared 1024)
+enum-known-n : tie.Need-enum-known-n
+enum-known-n c = search needs
+
+enum-told : tie.Need-enum-told
+enum-told c = search needs
+
+enum-known-edition : tie.Need-enum-known-edition
+enum-known-edition c = search needs
+
+-- the main body lies in the sheet
+lies : (c : tie.After-known-told2) → (c .before .edition .given .0 .1 .0 ≤ c .before .edition .given .0 .1 .1 .0) × (c .before .edition .given .0 .1 .1 .0 ≤ length (c .before .before .before .before .before .before .args .sheet .now))
+lies c = cuts.cut-within _ _ (c .before .before .before .cut-main .ensures .0) _ _ _ (c .before .edition .given .1) (c .before .before .before .cut-main .ensures .1)
+
+sub-pack-edition : tie.Need-sub-pack-edition
+sub-pack-edition c = omega (arith, lies c .0)
+
+part-pack-edition-start : tie.Need-part-pack-edition-start
+part-pack-edition-start c = omega (arith, lies c .0, lies c .1)
+
+part-pack-edition-end : tie.Need-part-pack-edition-end
+part-pack-edition-end c = omega (arith, lies c .1)
+
+pack-edition-requires : tie.Need-pack-edition-requires
+pack-edition-requires c κs = cuts.cut-limits _ _ (c .before .before .before .before .before .cut-main .ensures .0) _ _ _ (c .before .before .before .edition .given .1)
+
+returns : tie.Need-returns
+returns c = packs.cut-long _ _ (c .before .before .before .cut-main .ensures .0) _ _ _ (c .before .n .given .1)
+
+returns-2 : tie.Need-returns-2
+returns-2 c = packs.cut-bad _ _ (c .before .before .cut-main .ensures .0) _ _ (c .enum-told .given .1)
 
 same-length : tie.Need-same-length
 same-length c = search needs
 
-returns : tie.Need-returns
-returns c = search needs
-
-slice-aggregate-pack-with-homes-2 : tie.Need-slice-aggregate-pack-with-homes-2
-slice-aggregate-pack-with-homes-2 c = search needs
-
-pack-with-homes-requires-2 : tie.Need-pack-with-homes-requires-2
-pack-with-homes-requires-2 c κs = (λ e. absurd (false≢true (sym (c .before .before .if1 .left) ∙ e)), zeros-cleared 0)
-
-same-length-2 : tie.Need-same-length-2
-same-length-2 c = search needs
-
-returns-2 : tie.Need-returns-2
-returns-2 c = search needs
+returns-3 : tie.Need-returns-3
+returns-3 c = packs.cut-packed _ _ (c .before .before .before .before .before .before .before .before .cut-main .ensures .0) _ _ _ _ _ (c .before .before .before .before .before .before .edition .given .1) _ _ (c .before .before .pack-edition .ensures)
 
 pub pack-spec : {M : Type 1} → statement M
 pack-spec =
     tie.close
     (tie.spec
-    slice-aggregate-pack-with-homes
-    pack-with-homes-requires
-    same-length
+    cut-main-requires
+    enum-known-n
+    enum-told
+    enum-known-edition
+    sub-pack-edition
+    part-pack-edition-start
+    part-pack-edition-end
+    pack-edition-requires
     returns
-    slice-aggregate-pack-with-homes-2
-    pack-with-homes-requires-2
-    same-length-2
-    returns-2)
+    returns-2
+    same-length
+    returns-3)

@@ -3,8 +3,8 @@ use borrow.Author.Needs.{needs}
 use Rattle.payload.proofs.scan_branch.Statement.{statement}
 use Rattle.payload.proofs.scan_branch.Tie as tie
 
-add-t9 : tie.Need-add-t9
-add-t9 c = search needs
+add-t10 : tie.Need-add-t10
+add-t10 c = search needs
 
 scan-label-requires : tie.Need-scan-label-requires
 scan-label-requires c κs = search needs
@@ -16,19 +16,19 @@ enum-known-p : tie.Need-enum-known-p
 enum-known-p c = search needs
 
 u16-at-requires : tie.Need-u16-at-requires
-u16-at-requires c κs = branches.branch-inside _ _ _ _ _ _ (c .before .before .before .before .before .before .pre .inside) (c .before .before .before .scan-label .ensures) (c .before .p .given .1)
+u16-at-requires c κs = branches.branch-inside _ _ _ _ _ _ _ (c .before .before .before .before .before .before .pre .inside) (c .before .before .before .scan-label .ensures) (c .before .p .given .1)
 
 returns : tie.Need-returns
-returns c = branches.branch-stops _ _ _ _ (c .before .before .before .scan-label .ensures) _ _ (c .before .f .given .1)
+returns c = branches.branch-stops _ _ _ _ _ (c .before .before .before .scan-label .ensures) _ _ (c .before .f .given .1)
 
 returns-2 : tie.Need-returns-2
-returns-2 c = branches.branch-ends _ _ _ _ (c .before .before .before .before .scan-label .ensures) (c .before .before .before .before .before .before .before .pre .inside) _ _ _ (c .before .before .p .given .1) (c .u16-at .ensures .0)
+returns-2 c = branches.branch-ends _ _ _ _ _ (c .before .before .before .before .scan-label .ensures) (c .before .before .before .before .before .before .before .pre .inside) _ _ _ (c .before .before .p .given .1) (c .u16-at .ensures .0)
 
 pub scan-branch-spec : {M : Type 1} → statement M
 scan-branch-spec =
     tie.close
     (tie.spec
-    add-t9
+    add-t10
     scan-label-requires
     enum-known-f
     enum-known-p

@@ -16,7 +16,7 @@ enum-known-p : tie.Need-enum-known-p
 enum-known-p c = search needs
 
 shared-slice-read-shape : tie.Need-shared-slice-read-shape
-shared-slice-read-shape c = lay.caught-inside _ _ _ _ _ _ (c .before .before .before .before .scan-catch .ensures) (c .before .before .p .given .1)
+shared-slice-read-shape c = lay.caught-inside _ _ _ _ _ _ _ (c .before .before .before .before .scan-catch .ensures) (c .before .before .p .given .1)
 
 cast-shape : tie.Need-cast-shape
 cast-shape c = omega (arith, c .shared-slice-known2 .given (c .before .before .before .before .before .before .before .args .at))

@@ -1,46 +1,44 @@
-use Rattle.scan.proofs.Mains.{zeros-cleared, lent-zeros}
+use Prim.Native.Nat.{_≤_}
+use native.Mathlib.Omega.{arith}
+use lib.ListN.{length}
+use Rattle.cut.proofs.Mains.{cut-within, cut-limits}
 use borrow.Author.Needs.{needs}
 use Rattle.read_sheets.proofs.answer.Statement.{statement}
 use Rattle.read_sheets.proofs.answer.Tie as tie
 
-slice-aggregate-read-sheet : tie.Need-slice-aggregate-read-sheet
-slice-aggregate-read-sheet c = search needs
-
-slice-aggregate-read-sheet-2 : tie.Need-slice-aggregate-read-sheet-2
-slice-aggregate-read-sheet-2 c = search needs
-
-slice-aggregate-read-sheet-3 : tie.Need-slice-aggregate-read-sheet-3
-slice-aggregate-read-sheet-3 c = search needs
-
-read-sheet-requires : tie.Need-read-sheet-requires
-read-sheet-requires c κs = lent-zeros _ (zeros-cleared 0)
-
-enum-told : tie.Need-enum-told
-enum-told c = search needs
-
-write-line-requires : tie.Need-write-line-requires
-write-line-requires c κs = search needs
+cut-main-requires : tie.Need-cut-main-requires
+cut-main-requires c κs = search needs
 
 enum-known-n : tie.Need-enum-known-n
 enum-known-n c = search needs
 
+write-line-requires : tie.Need-write-line-requires
+write-line-requires c κs = search needs
+
+enum-told : tie.Need-enum-told
+enum-told c = search needs
+
 write-line-requires-2 : tie.Need-write-line-requires-2
 write-line-requires-2 c κs = search needs
 
-enum-told-2 : tie.Need-enum-told-2
-enum-told-2 c = search needs
+enum-known-edition : tie.Need-enum-known-edition
+enum-known-edition c = search needs
 
-write-line-requires-3 : tie.Need-write-line-requires-3
-write-line-requires-3 c κs = search needs
+-- the main body lies in the sheet
+lies : (c : tie.After-known-told2) → (c .before .edition .given .0 .1 .0 ≤ c .before .edition .given .0 .1 .1 .0) × (c .before .edition .given .0 .1 .1 .0 ≤ length (c .before .before .before .before .before .args .bytes .now))
+lies c = cut-within _ _ (c .before .before .before .cut-main .ensures .0) _ _ _ (c .before .edition .given .1) (c .before .before .before .cut-main .ensures .1)
 
-enum-known-f : tie.Need-enum-known-f
-enum-known-f c = search needs
+sub-answer-main : tie.Need-sub-answer-main
+sub-answer-main c = omega (arith, lies c .0)
 
-fault-number-requires : tie.Need-fault-number-requires
-fault-number-requires c κs = search needs
+part-answer-main-start : tie.Need-part-answer-main-start
+part-answer-main-start c = omega (arith, lies c .0, lies c .1)
 
-write-line-requires-4 : tie.Need-write-line-requires-4
-write-line-requires-4 c κs = search needs
+part-answer-main-end : tie.Need-part-answer-main-end
+part-answer-main-end c = omega (arith, lies c .1)
+
+answer-main-requires : tie.Need-answer-main-requires
+answer-main-requires c κs = cut-limits _ _ (c .before .before .before .before .cut-main .ensures .0) _ _ _ (c .before .before .edition .given .1)
 
 returns : tie.Need-returns
 returns c = search needs
@@ -51,27 +49,20 @@ returns-2 c = search needs
 returns-3 : tie.Need-returns-3
 returns-3 c = search needs
 
-returns-4 : tie.Need-returns-4
-returns-4 c = search needs
-
 pub answer-spec : {M : Type 1} → statement M
 answer-spec =
     tie.close
     (tie.spec
-    slice-aggregate-read-sheet
-    slice-aggregate-read-sheet-2
-    slice-aggregate-read-sheet-3
-    read-sheet-requires
-    enum-told
-    write-line-requires
+    cut-main-requires
     enum-known-n
+    write-line-requires
+    enum-told
     write-line-requires-2
-    enum-told-2
-    write-line-requires-3
-    enum-known-f
-    fault-number-requires
-    write-line-requires-4
+    enum-known-edition
+    sub-answer-main
+    part-answer-main-start
+    part-answer-main-end
+    answer-main-requires
     returns
     returns-2
-    returns-3
-    returns-4)
+    returns-3)

@@ -3,7 +3,7 @@ use mathlib.Core.Path.{_∙_}
 use native.Mathlib.Omega.{arith}
 use Rattle.laws.specs.Fits.{Bytes, all-bytes}
 use Rattle.scan.proofs.Mains.{main-place}
-use Rattle.reading.proofs.Sheets as sheets
+use Rattle.reading.proofs.Mains as mains
 use borrow.Author.Needs.{needs}
 use Rattle.reading.proofs.read_main.Statement.{statement}
 use Rattle.reading.proofs.read_main.Tie as tie
@@ -19,7 +19,7 @@ enum-known-f : tie.Need-enum-known-f
 enum-known-f c = search needs
 
 add-place : tie.Need-add-place
-add-place c = omega (arith, c .before .before .before .before .before .before .before .before .before .before .before .before .before .before .before .before .before .pre .0, c .before .before .before .before .before .before .before .before .before .before .before .before .before .before .before .before .before .pre .1, main-place _ _ _ _ _ (is-bytes (c .before .before .before .before .before .before .before .before .before .before .before .before .before .before .before .before)) (c .before .before .before .before .before .before .before .before .before .scan-main .ensures) _ _ (c .before .f .given .1))
+add-place c = omega (arith, c .before .before .before .before .before .before .before .before .before .before .before .before .before .before .before .before .before .pre .0, c .before .before .before .before .before .before .before .before .before .before .before .before .before .before .before .before .before .pre .1, main-place _ _ _ _ _ _ (is-bytes (c .before .before .before .before .before .before .before .before .before .before .before .before .before .before .before .before)) (c .before .before .before .before .before .before .before .before .before .scan-main .ensures) _ _ (c .before .f .given .1))
 
 enum-known-pos : tie.Need-enum-known-pos
 enum-known-pos c = search needs
@@ -34,7 +34,7 @@ same-length-3 : tie.Need-same-length-3
 same-length-3 c = search needs
 
 returns : tie.Need-returns
-returns c = sheets.main-stops _ _ _ _ _ (c .before .before .before .before .before .before .before .before .before .scan-main .ensures) _ _ _ _ (c .before .f .given .1)
+returns c = mains.main-stops _ _ _ _ _ _ (c .before .before .before .before .before .before .before .before .before .scan-main .ensures) _ _ _ (c .before .f .given .1)
 
 same-length-4 : tie.Need-same-length-4
 same-length-4 c = search needs
@@ -46,7 +46,7 @@ same-length-6 : tie.Need-same-length-6
 same-length-6 c = search needs
 
 returns-2 : tie.Need-returns-2
-returns-2 c = sheets.main-whole _ _ _ _ _ (c .before .before .before .before .before .before .before .before .before .scan-main .ensures) _ _ _ _ (c .before .pos .given .1) (is-bytes (c .before .before .before .before .before .before .before .before .before .before .before .before .before .before .before .before)) (c .before .before .before .before .before .before .before .before .before .before .before .before .before .before .before .before .before .pre .0) (c .before .before .before .before .before .before .before .before .before .scan-main .kept .1 .1 .1 .0 ∙ c .before .before .before .before .before .before .before .before .before .before .before .before .before .before .before .before .before .pre .2 .two)
+returns-2 c = mains.main-whole _ _ _ _ _ _ (c .before .before .before .before .before .before .before .before .before .scan-main .ensures) _ _ _ (c .before .pos .given .1) (is-bytes (c .before .before .before .before .before .before .before .before .before .before .before .before .before .before .before .before)) (c .before .before .before .before .before .before .before .before .before .before .before .before .before .before .before .before .before .pre .0) (c .before .before .before .before .before .before .before .before .before .scan-main .kept .1 .1 .1 .1 .0 ∙ c .before .before .before .before .before .before .before .before .before .before .before .before .before .before .before .before .before .pre .2 .two) (omega (arith, c .before .before .before .before .before .before .before .before .before .before .before .before .before .before .before .before .before .pre .2 .slots .enough, c .before .before .before .before .before .before .before .before .before .scan-main .kept .1 .1 .0))
 
 pub read-main-spec : {M : Type 1} → statement M
 read-main-spec =

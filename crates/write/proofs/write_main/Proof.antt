@@ -1,4 +1,4 @@
--- `write_main` meets its contract: one writer takes the actions and one End, and its last position is returned. The two shared slices go to `append_main`. Assumes nothing.
+-- `write_main` meets its contract: one writer takes the actions and one End, and its last position is returned. The two shared slices and the terms go to `append_main`. Assumes nothing.
 use mathlib.Core.Path.{_≡_, refl, _∙_}
 use Prim.Native.Nat.{ℕ, _<_, _^_}
 use native.Mathlib.Omega.{arith}
@@ -37,6 +37,8 @@ use denote.Triple.Table.{entered, cited}
 use denote.Triple.Walked.{says, needs, Stays, stay-dropped, gave-slice, walkOf, goes-dropped, goes-gave-slice, Walks, ends-at, walked, walk-meets}
 use denote.Exit.{yes}
 use denote.Signature.{Slot, plain, shrSliceOf}
+use Rattle.editions.specs.declared.Terms.{Terms}
+use Rattle.editions.specs.Allowed.{termsOf}
 use Rattle.positions.specs.declared.BytePosition.{BytePosition}
 use Rattle.positions.proofs.BytePosition.Laws as P′
 use Rattle.writer.specs.declared.Writer.{Writer}
@@ -59,6 +61,7 @@ use Rattle.writer.proofs.finish.Symbol.{name as #finish}
 use Rattle.writer.proofs.finish.Met as finish-thm
 use Rattle.write.specs.Bodies.{MainWritable, AppendedMain}
 use Rattle.write.proofs.Block.{end, actions, last, end-room, last-long, main-wrote}
+use Rattle.write.proofs.Handed.{Handed, TermsS, handed, handed-vals, handed-tells, handed-typed}
 use Rattle.write.proofs.append_main as append-main
 use Rattle.write.proofs.append_main.Symbol as append-main-def
 use Rattle.write.proofs.append_main.Symbol.{name as #append-main}
@@ -78,7 +81,7 @@ TableS = shrSliceOf (1 ∷ []) tt (plain (λ _. usize))
 
 -- What is had of the arguments at exit: of the output, only its last list.
 abbrev stayed : Stays (me.ended .signature .params) (me.ended .kept)
-stayed = (stay-dropped BodyS yes, (stay-dropped TableS yes, (gave-slice (2 ∷ []) tt (plain (λ _. u8)), tt)))
+stayed = (stay-dropped BodyS yes, (stay-dropped (TermsS 3) yes, (stay-dropped TableS yes, (gave-slice (2 ∷ []) tt (plain (λ _. u8)), tt))))
 
 module _ {M : Type 1} (𝓤 : URA M) (H : Heap 𝓤) (A : Atoms 𝓤) (mem : Memory → SProp 𝓤) (run : Routine → Fun 𝓤) where
   -- The contract of `append_main`.
@@ -86,11 +89,11 @@ module _ {M : Type 1} (𝓤 : URA M) (H : Heap 𝓤) (A : Atoms 𝓤) (mem : Mem
   Main = tripleOf 𝓤 H A append-main.signature (append-main.spec 𝓤 H A mem run)
 
   -- What `append_main` ensures of its result.
-  main-of : (κs : Lfts 3) (h : Writer) (body table : RefT (List ℕ)) (r : Writer)
-      → ent 𝓤 (ensured 𝓤 H A append-main.ended (append-main.clauses 𝓤 H A mem run) κs (h, (body, (table, tt))) tt r) (fact 𝓤 (AppendedMain (body .now) h r))
-  main-of κs h body table r = exE 𝓤 _ (λ ws. snd∗ 𝓤 (sem 𝓤 H A (lasts append-main.ended κs (h, (body, (table, tt))) ws)) (fact 𝓤 (AppendedMain (body .now) h r)))
+  main-of : (κs : Lfts 3) (h : Writer) (body table : RefT (List ℕ)) (terms : Terms) (r : Writer)
+      → ent 𝓤 (ensured 𝓤 H A append-main.ended (append-main.clauses 𝓤 H A mem run) κs (h, (body, (terms, (table, tt)))) tt r) (fact 𝓤 (AppendedMain (termsOf terms) (body .now) h r))
+  main-of κs h body table terms r = exE 𝓤 _ (λ ws. snd∗ 𝓤 (sem 𝓤 H A (lasts append-main.ended κs (h, (body, (terms, (table, tt)))) ws)) (fact 𝓤 (AppendedMain (termsOf terms) (body .now) h r)))
 
-module _ {M : Type 1} (𝓤 : URA M) (H : Heap 𝓤) (A : Atoms 𝓤) (W : Given 𝓤 H A) (mem : Memory → SProp 𝓤) (run : Routine → Fun 𝓤) (κb κt κ : Lft) (qb qt q : Share) (body table : RefT (List ℕ)) (b o : ℕ) (γ : GName) (ys : List ℕ) (more : MainWritable (body .now) (table .now) ys) where
+module _ {M : Type 1} (𝓤 : URA M) (H : Heap 𝓤) (A : Atoms 𝓤) (W : Given 𝓤 H A) (mem : Memory → SProp 𝓤) (run : Routine → Fun 𝓤) (κb κt κ : Lft) (qb qt q : Share) (body table : RefT (List ℕ)) (terms : Terms) (b o : ℕ) (γ : GName) (ys : List ℕ) (more : MainWritable (termsOf terms) (body .now) (table .now) ys) where
   -- The output's lifetime.
   abbrev α : NamedLft
   α = record { mir = named 0; lft = κ }
@@ -121,11 +124,11 @@ module _ {M : Type 1} (𝓤 : URA M) (H : Heap 𝓤) (A : Atoms 𝓤) (W : Given
 
   -- The actions, as bytes.
   abbrev as-bytes : List ℕ
-  as-bytes = actions (body .now) (table .now) ys more
+  as-bytes = actions (termsOf terms) (body .now) (table .now) ys more
 
   -- The output at the end.
   abbrev ending : List ℕ
-  ending = last (body .now) (table .now) ys more
+  ending = last (termsOf terms) (body .now) (table .now) ys more
 
   -- The writer that is made.
   abbrev h₀ : Writer
@@ -149,19 +152,19 @@ module _ {M : Type 1} (𝓤 : URA M) (H : Heap 𝓤) (A : Atoms 𝓤) (W : Given
 
   -- The type of the arguments.
   abbrev Arg : Type 0
-  Arg = RefT (List ℕ) × (RefT (List ℕ) × (RefT (List ℕ) × Unit {0}))
+  Arg = RefT (List ℕ) × (Terms × (RefT (List ℕ) × (RefT (List ℕ) × Unit {0})))
 
   -- The arguments.
   abbrev a : Arg
-  a = (body, (table, (x, tt)))
+  a = (body, (terms, (table, (x, tt))))
 
   -- The arguments' machine values.
-  abbrev vals : List Val × (List Val × (List Val × Unit {0}))
-  vals = (sb ∷ [], (st ∷ [], (s ∷ [], tt)))
+  abbrev vals : List Val × (List Val × (List Val × (List Val × Unit {0})))
+  vals = (sb ∷ [], (handed terms ∷ [], (st ∷ [], (s ∷ [], tt))))
 
-  -- What the shared slices own.
+  -- What the shared slices and the terms own.
   abbrev Shared : Fml
-  Shared = owns (ShrSlice (named 1) κb u8 ∷ ShrSlice (named 2) κt usize ∷ []) (body, (table, tt)) (sb ∷ [], (st ∷ [], tt))
+  Shared = owns (ShrSlice (named 1) κb u8 ∷ Handed ∷ ShrSlice (named 2) κt usize ∷ []) (body, (terms, (table, tt))) (sb ∷ [], (handed terms ∷ [], (st ∷ [], tt)))
 
   -- What the contract asks of a returned value.
   abbrev Post : Val → SProp 𝓤
@@ -179,7 +182,7 @@ module _ {M : Type 1} (𝓤 : URA M) (H : Heap 𝓤) (A : Atoms 𝓤) (W : Given
 
   -- What `append_main` is called with.
   abbrev to-main : Val → Main 𝓤 H A mem run .Ghost
-  to-main w = (((κ, (κb, (κt, tt))), (q, (qb, (qt, tt))), tt, (h₀, (body, (table, tt))), (w ∷ [], (sb ∷ [], (st ∷ [], tt)))), tt)
+  to-main w = (((κ, (κb, (κt, tt))), (q, (qb, (qt, tt))), tt, (h₀, (body, (terms, (table, tt)))), (w ∷ [], (sb ∷ [], (handed terms ∷ [], (st ∷ [], tt))))), tt)
 
   -- What `append_main` asks is had.
   goes-main : (w : Val) → ent 𝓤 (⋆ 𝓤 H A (((‵ (flft κ q) ⊛ ‵ ftrue) ⊛ ‵ (flft κb qb) ⊛ ‵ (flft κt qt) ⊛ ‵ ftrue) ∷ ‵ (T.the-row α .own h₀ (w ∷ [])) ∷ ‵ Shared ∷ [])) (Main 𝓤 H A mem run .pre (to-main w))
@@ -194,7 +197,7 @@ module _ {M : Type 1} (𝓤 : URA M) (H : Heap 𝓤) (A : Atoms 𝓤) (W : Given
   -- What `append_u8` asks is had.
   goes-byte : (w : Val) → ent 𝓤 (⋆ 𝓤 H A ((‵ (flft κ q) ⊛ ‵ ftrue) ∷ ‵ (T.the-row α .own h₁ (w ∷ [])) ∷ [])) (Byte 𝓤 H A mem run .pre (to-byte w))
   goes-byte w =
-      qed W ((‵ (flft κ q) ⊛ ‵ ftrue) ∷ ‵ (T.the-row α .own h₁ (w ∷ [])) ∷ []) ∵ says ! (end-room (body .now) (table .now) ys more) $ frame ! $
+      qed W ((‵ (flft κ q) ⊛ ‵ ftrue) ∷ ‵ (T.the-row α .own h₁ (w ∷ [])) ∷ []) ∵ says ! (end-room (termsOf terms) (body .now) (table .now) ys more) $ frame ! $
       nothing ! $ owned ! u8 (Is u8) (uint-makes 𝓤 H A W w8) 0 _ (refl, end-fits) $ fjoin ! $ move ! (1 ∷ 0 ∷ []) $ fjoin ! $ done !
 
   -- What `finish` is called with.
@@ -211,27 +214,27 @@ module _ {M : Type 1} (𝓤 : URA M) (H : Heap 𝓤) (A : Atoms 𝓤) (W : Given
       → ent 𝓤 (⋆ 𝓤 H A ((‵ (flft κ q) ⊛ ‵ ftrue) ∷ (‵ (flft κb qb) ⊛ ‵ (flft κt qt) ⊛ ‵ ftrue) ∷ ‵ (finally u8 γ zs) ∷ [])) (Post (pos r))
   exits r zs f e r-fits l =
       qed W ((‵ (flft κ q) ⊛ ‵ ftrue) ∷ (‵ (flft κb qb) ⊛ ‵ (flft κt qt) ⊛ ‵ ftrue) ∷ ‵ (finally u8 γ zs) ∷ []) ∵
-      suffices ! _ (ends-at 𝓤 H A me.ended stayed (me.clauses 𝓤 H A mem run) W ((κs, qs, tt, a, vals), tt) (pos r) (position r) (tt, (tt, (zs, tt))) (tt, (tt, (l ∙ last-long (body .now) (table .now) ys more, tt)))) $
-      says ! (main-wrote (body .now) (table .now) ys more zs r e f) $
+      suffices ! _ (ends-at 𝓤 H A me.ended stayed (me.clauses 𝓤 H A mem run) W ((κs, qs, tt, a, vals), tt) (pos r) (position r) (tt, (tt, (tt, (zs, tt)))) (tt, (tt, (tt, (l ∙ last-long (termsOf terms) (body .now) (table .now) ys more, tt))))) $
+      says ! (main-wrote (termsOf terms) (body .now) (table .now) ys more zs r e f) $
       move ! (1 ∷ []) $ split ! $ move ! (1 ∷ []) $ split ! $ move ! (0 ∷ 3 ∷ []) $ join ! $ move ! (2 ∷ 0 ∷ []) $ join ! $ frame ! $
-      move ! (1 ∷ 0 ∷ []) $ fjoin ! $ nothing ! $ fjoin ! $ nothing ! $ fjoin ! $ has-pos ! r r-fits $ move ! (1 ∷ 0 ∷ []) $ done !
+      move ! (1 ∷ 0 ∷ []) $ fjoin ! $ nothing ! $ fjoin ! $ nothing ! $ fjoin ! $ nothing ! $ fjoin ! $ has-pos ! r r-fits $ move ! (1 ∷ 0 ∷ []) $ done !
 
   module _ (C : Calls 𝓤 H) (Λ : Loops 𝓤 H) (fm : FmC 𝓤 H (W .laws) C) (known-made : Triple 𝓤 (C #writer-at) (Made 𝓤 H A mem run)) (known-main : Triple 𝓤 (C #append-main) (Main 𝓤 H A mem run)) (known-byte : Triple 𝓤 (C #append-u8) (Byte 𝓤 H A mem run)) (known-finish : Triple 𝓤 (C #finish) (Finish 𝓤 H A mem run)) where
     -- The body runs, from what the contract gives, to what it asks.
-    walk : Is (ShrSlice (named 0) κb u8) body (sb ∷ []) → Is (ShrSlice (named 1) κt usize) table (st ∷ []) → Room u8 (length ys) → ent 𝓤 (onEntry 𝓤 H A me.signature κs qs a vals) (WpFn 𝓤 H C Λ code.function (sb ∷ st ∷ s ∷ []) Post)
-    walk is-body is-table room =
-        qed W ((‵ (flft κb qb) ⊛ ‵ (flft κt qt) ⊛ ‵ (flft κ q) ⊛ ‵ ftrue) ∷ ‵ (owns (ShrSlice (named 0) κb u8 ∷ ShrSlice (named 1) κt usize ∷ MutSlice (named 2) κ u8 ∷ []) a vals) ∷ []) ∵ enter ! C Λ code.function (sb ∷ st ∷ s ∷ []) _ $
-        alloc1 ! (λ k₀. alloc1 ! (λ k₁. alloc1 ! (λ k₂. alloc1 ! (λ k₃. alloc1 ! (λ k₄. alloc1 ! (λ k₅. alloc1 ! (λ k₆. alloc1 ! (λ k₇. alloc1 ! (λ k₈. alloc1 ! (λ k₉. alloc0 ! $ params1 ! $
-        pass1 ! (init ! 16 refl (shr-slice-lawful 𝓤 H A W (named 0) κb u8 .typed body _ is-body .0)) $ pass1 ! (init ! 14 refl (shr-slice-lawful 𝓤 H A W (named 1) κt usize .typed table _ is-table .0)) $
+    walk : Is (ShrSlice (named 0) κb u8) body (sb ∷ []) → Is Handed terms (handed terms ∷ []) → Is (ShrSlice (named 1) κt usize) table (st ∷ []) → Room u8 (length ys) → ent 𝓤 (onEntry 𝓤 H A me.signature κs qs a vals) (WpFn 𝓤 H C Λ code.function (sb ∷ handed terms ∷ st ∷ s ∷ []) Post)
+    walk is-body is-terms is-table room =
+        qed W ((‵ (flft κb qb) ⊛ ‵ (flft κt qt) ⊛ ‵ (flft κ q) ⊛ ‵ ftrue) ∷ ‵ (owns (ShrSlice (named 0) κb u8 ∷ Handed ∷ ShrSlice (named 1) κt usize ∷ MutSlice (named 2) κ u8 ∷ []) a vals) ∷ []) ∵ enter ! C Λ code.function (sb ∷ handed terms ∷ st ∷ s ∷ []) _ $
+        alloc1 ! (λ k₀. alloc1 ! (λ k₁. alloc1 ! (λ k₂. alloc1 ! (λ k₃. alloc1 ! (λ k₄. alloc1 ! (λ k₅. alloc1 ! (λ k₆. alloc1 ! (λ k₇. alloc1 ! (λ k₈. alloc1 ! (λ k₉. alloc1 ! (λ k₁₀. alloc0 ! $ params1 ! $
+        pass1 ! (init ! 18 refl (shr-slice-lawful 𝓤 H A W (named 0) κb u8 .typed body _ is-body .0)) $ pass1 ! (init ! 16 refl (handed-typed terms is-terms)) $ pass1 ! (init ! 14 refl (shr-slice-lawful 𝓤 H A W (named 1) κt usize .typed table _ is-table .0)) $
         pass1 ! (init ! 12 refl (tt, (tt, (record { fits = room .0 }, tt)))) $ pass0 ! $
         -- the slice is put together again, and the start is made
         assigns ! (addr ! (from ! (fld ! refl (hop ! (look-in ! 12 (sub ! 0 refl (whole !))) (stop !))))) (from ! (stop !)) (init ! 4 refl (tt, tt)) $
         assigns ! (agg ! (and-then ! (load ! (from ! (stop !)) (look ! 4 refl)) (and-then ! (load ! (from ! (fld ! refl (stop !))) (look-in ! 12 (sub ! 1 refl (whole !)))) (no-more !)))) (from ! (stop !)) (init ! 2 refl (tt, (tt, (record { fits = room .0 }, tt)))) $
         assigns ! (agg ! (and-then ! (lit ! tt) (no-more !))) (from ! (stop !)) (init ! 0 refl (tt, (record { fits = start-fits }, tt))) $
-        -- [what the shared slices own; what the output owns; _9; …; the tokens]
-        move ! (21 ∷ []) $ fsplit ! $ move ! (1 ∷ []) $ fsplit ! $ move ! (1 ∷ []) $ fsplit ! $ move ! (2 ∷ 1 ∷ []) $ fjoin ! $ move ! (2 ∷ 0 ∷ []) $ fjoin ! $
-        -- [the shared slices' tokens; the output's; what the shared slices own; what the output owns; _9; …]
-        move ! (22 ∷ []) $ split ! $ move ! (1 ∷ []) $ split ! $ nothing ! $ move ! (1 ∷ 0 ∷ []) $ join ! $ move ! (2 ∷ 0 ∷ []) $ join ! $
+        -- [what the shared slices and the terms own; what the output owns; _10; …; the tokens]
+        move ! (23 ∷ []) $ fsplit ! $ move ! (1 ∷ []) $ fsplit ! $ move ! (1 ∷ []) $ fsplit ! $ move ! (1 ∷ []) $ fsplit ! $ move ! (2 ∷ 1 ∷ []) $ fjoin ! $ move ! (2 ∷ 0 ∷ []) $ fjoin ! $ move ! (2 ∷ 0 ∷ []) $ fjoin ! $
+        -- [the shared slices' tokens; the output's; what the shared slices and the terms own; what the output owns; _10; …]
+        move ! (24 ∷ []) $ split ! $ move ! (1 ∷ []) $ split ! $ nothing ! $ move ! (1 ∷ 0 ∷ []) $ join ! $ move ! (2 ∷ 0 ∷ []) $ join ! $
         -- `writer_at`
         move ! (1 ∷ 3 ∷ []) $ use2 W (raw (Made 𝓤 H A mem run .pre to-made)) goes-made $
         calls-at ! fm (Made 𝓤 H A mem run) known-made to-made (and-then ! (load ! (from ! (stop !)) (look ! 5 refl)) (and-then ! (load ! (from ! (stop !)) (look ! 3 refl)) (no-more !))) (λ w₀.
@@ -241,9 +244,9 @@ module _ {M : Type 1} (𝓤 : URA M) (H : Heap 𝓤) (A : Atoms 𝓤) (W : Given
         move ! (1 ∷ []) $ peeks ! (T.the-row α) (Is (T.the-row α)) (shows 𝓤 H A (T.the-row α)) h₀ (w₀ ∷ []) (λ is₀. land ! (from ! (stop !)) (init ! 10 refl (writer-typed κ h₀ w₀ is₀)) $
         -- `append_main`
         move ! (1 ∷ 2 ∷ []) $ join ! $ use3 W (raw (Main 𝓤 H A mem run .pre (to-main w₀))) (goes-main w₀) $
-        calls-at ! fm (Main 𝓤 H A mem run) known-main (to-main w₀) (and-then ! (load ! (from ! (stop !)) (look ! 7 refl)) (and-then ! (load ! (from ! (stop !)) (look ! 17 refl)) (and-then ! (load ! (from ! (stop !)) (look ! 15 refl)) (no-more !)))) (λ w₁.
-        use1 W (later (some (λ (r : Writer). ((‵ (flft κ q) ⊛ ‵ (flft κb qb) ⊛ ‵ (flft κt qt) ⊛ ‵ ftrue) ⊛ ‵ (T.the-row α .own r (w₁ ∷ []))) ⊛ raw (ensured 𝓤 H A append-main.ended (append-main.clauses 𝓤 H A mem run) (κ, (κb, (κt, tt))) (h₀, (body, (table, tt))) tt r)))) (id⊢ 𝓤 _) $ await ! tt $ pick ! (λ r₁.
-        split ! $ move ! (1 ∷ []) $ use1 W (raw (fact 𝓤 (AppendedMain (body .now) h₀ r₁))) (main-of 𝓤 H A mem run (κ, (κb, (κt, tt))) h₀ body table r₁) $ heard ! (AppendedMain (body .now) h₀ r₁) (λ e₁.
+        calls-at ! fm (Main 𝓤 H A mem run) known-main (to-main w₀) (and-then ! (load ! (from ! (stop !)) (look ! 7 refl)) (and-then ! (load ! (from ! (stop !)) (look ! 19 refl)) (and-then ! (load ! (from ! (stop !)) (look ! 17 refl)) (and-then ! (load ! (from ! (stop !)) (look ! 15 refl)) (no-more !))))) (λ w₁.
+        use1 W (later (some (λ (r : Writer). ((‵ (flft κ q) ⊛ ‵ (flft κb qb) ⊛ ‵ (flft κt qt) ⊛ ‵ ftrue) ⊛ ‵ (T.the-row α .own r (w₁ ∷ []))) ⊛ raw (ensured 𝓤 H A append-main.ended (append-main.clauses 𝓤 H A mem run) (κ, (κb, (κt, tt))) (h₀, (body, (terms, (table, tt)))) tt r)))) (id⊢ 𝓤 _) $ await ! tt $ pick ! (λ r₁.
+        split ! $ move ! (1 ∷ []) $ use1 W (raw (fact 𝓤 (AppendedMain (termsOf terms) (body .now) h₀ r₁))) (main-of 𝓤 H A mem run (κ, (κb, (κt, tt))) h₀ body table terms r₁) $ heard ! (AppendedMain (termsOf terms) (body .now) h₀ r₁) (λ e₁.
         split ! $ rewrite ! 1 (λ (h : Writer). ‵ (T.the-row α .own h (w₁ ∷ []))) (e₁ .is (more .tree) (more .reads)) refl $
         move ! (1 ∷ []) $ peeks ! (T.the-row α) (Is (T.the-row α)) (shows 𝓤 H A (T.the-row α)) h₁ (w₁ ∷ []) (λ is₁. land ! (from ! (stop !)) (init ! 10 refl (writer-typed κ h₁ w₁ is₁)) $
         -- `append_u8`
@@ -260,27 +263,27 @@ module _ {M : Type 1} (𝓤 : URA M) (H : Heap 𝓤) (A : Atoms 𝓤) (W : Given
         split ! $ move ! (1 ∷ []) $ use1 W (some (λ (zs : (List ℕ × Unit {0}) × Unit {0}). ‵ (lasts finish.ended (κ, tt) (h₂, tt) zs) ⊛ raw (fact 𝓤 ((r ≡ h₂ .at) × (zs .0 .0 ≡ ending))))) (id⊢ 𝓤 _) $ pick ! (λ zs.
         split ! $ move ! (1 ∷ []) $ heard ! ((r ≡ h₂ .at) × (zs .0 .0 ≡ ending)) (λ e. fsplit ! $ fsplit ! $ fsplit ! $ move ! (1 ∷ []) $ feqL ! (λ l.
         move ! (3 ∷ []) $ split ! $ move ! (1 ∷ []) $ peeks ! Pos (Is Pos) (shows 𝓤 H A Pos) r (w ∷ []) (λ is.
-        land ! (from ! (stop !)) (init ! 24 refl (pos-typed r w is)) $ rewrite ! 24 (λ (v : Val). ‵ (fat fullShare P′.mir k₀ 0 v)) (pos-told r w is) refl $
-        returns ! (look ! 24 refl) $ forget ! 6 refl $ forget ! 8 refl $ forget ! 10 refl $ forget ! 12 refl $ forget ! 14 refl $ forget ! 16 refl $ forget ! 18 refl $ forget ! 20 refl $ forget ! 22 refl $ forget ! 24 refl $
-        move ! (24 ∷ 25 ∷ []) $ free1 ! $ move ! (22 ∷ 23 ∷ []) $ free1 ! $ move ! (20 ∷ 21 ∷ []) $ free1 ! $ move ! (18 ∷ 19 ∷ []) $ free1 ! $ move ! (16 ∷ 17 ∷ []) $ free1 ! $ move ! (14 ∷ 15 ∷ []) $ free1 ! $ move ! (12 ∷ 13 ∷ []) $ free1 ! $ move ! (10 ∷ 11 ∷ []) $ free1 ! $ move ! (8 ∷ 9 ∷ []) $ free1 ! $ move ! (6 ∷ 7 ∷ []) $ free1 ! $ free0 ! $
-        keep ! (1 ∷ 5 ∷ 2 ∷ []) $ by ! (exits (r .0) (zs .0 .0) (λ i. e .0 i .0) (e .1) (pos-fits r _ is) l)))))))))))))))))))))))))))))
+        land ! (from ! (stop !)) (init ! 26 refl (pos-typed r w is)) $ rewrite ! 26 (λ (v : Val). ‵ (fat fullShare P′.mir k₀ 0 v)) (pos-told r w is) refl $
+        returns ! (look ! 26 refl) $ forget ! 6 refl $ forget ! 8 refl $ forget ! 10 refl $ forget ! 12 refl $ forget ! 14 refl $ forget ! 16 refl $ forget ! 18 refl $ forget ! 20 refl $ forget ! 22 refl $ forget ! 24 refl $ forget ! 26 refl $
+        move ! (26 ∷ 27 ∷ []) $ free1 ! $ move ! (24 ∷ 25 ∷ []) $ free1 ! $ move ! (22 ∷ 23 ∷ []) $ free1 ! $ move ! (20 ∷ 21 ∷ []) $ free1 ! $ move ! (18 ∷ 19 ∷ []) $ free1 ! $ move ! (16 ∷ 17 ∷ []) $ free1 ! $ move ! (14 ∷ 15 ∷ []) $ free1 ! $ move ! (12 ∷ 13 ∷ []) $ free1 ! $ move ! (10 ∷ 11 ∷ []) $ free1 ! $ move ! (8 ∷ 9 ∷ []) $ free1 ! $ move ! (6 ∷ 7 ∷ []) $ free1 ! $ free0 ! $
+        keep ! (1 ∷ 5 ∷ 2 ∷ []) $ by ! (exits (r .0) (zs .0 .0) (λ i. e .0 i .0) (e .1) (pos-fits r _ is) l))))))))))))))))))))))))))))))
 
 module _ {M : Type 1} (𝓤 : URA M) (H : Heap 𝓤) (A : Atoms 𝓤) (W : Given 𝓤 H A) (mem : Memory → SProp 𝓤) (run : Routine → Fun 𝓤) where
   -- The same for all arguments.
   walks : (C : Calls 𝓤 H) (Λ : Loops 𝓤 H) → FmC 𝓤 H (W .laws) C → Triple 𝓤 (C #writer-at) (Made 𝓤 H A mem run) → Triple 𝓤 (C #append-main) (Main 𝓤 H A mem run) → Triple 𝓤 (C #append-u8) (Byte 𝓤 H A mem run) → Triple 𝓤 (C #finish) (Finish 𝓤 H A mem run)
       → Walks 𝓤 H A me.ended stayed (WpFn 𝓤 H C Λ code.function) (me.clauses 𝓤 H A mem run)
   walks C Λ fm known-made known-main known-byte known-finish = walked 𝓤 H A me.ended stayed (me.clauses 𝓤 H A mem run) (WpFn 𝓤 H C Λ code.function)
-      (λ κs. (slice-vals, (slice-vals, (slice-vals, tt)))) (λ κs. (shr-slice-tells (named 0) (κs .0) u8, (shr-slice-tells (named 1) (κs .1 .0) usize, (mut-slice-tells (named 2) (κs .1 .1 .0) u8, tt))))
-      (λ κs qs bounds a g are. needs 𝓤 (MainWritable (a .0 .now) (a .1 .0 .now) (a .1 .1 .0 .now)) _ (λ more.
-      walk 𝓤 H A W mem run (κs .0) (κs .1 .0) (κs .1 .1 .0) (qs .0) (qs .1 .0) (qs .1 .1 .0) (a .0) (a .1 .0) (a .1 .1 .0 .ptr .0) (a .1 .1 .0 .ptr .1) (a .1 .1 .0 .name) (a .1 .1 .0 .now) more
-      C Λ fm known-made known-main known-byte known-finish (are .0) (are .1 .0) (are .1 .1 .0 .0 .1)))
+      (λ κs. (slice-vals, (handed-vals, (slice-vals, (slice-vals, tt))))) (λ κs. (shr-slice-tells (named 0) (κs .0) u8, (handed-tells, (shr-slice-tells (named 1) (κs .1 .0) usize, (mut-slice-tells (named 2) (κs .1 .1 .0) u8, tt)))))
+      (λ κs qs bounds a g are. needs 𝓤 (MainWritable (termsOf (a .1 .0)) (a .0 .now) (a .1 .1 .0 .now) (a .1 .1 .1 .0 .now)) _ (λ more.
+      walk 𝓤 H A W mem run (κs .0) (κs .1 .0) (κs .1 .1 .0) (qs .0) (qs .1 .0) (qs .1 .1 .0) (a .0) (a .1 .1 .0) (a .1 .0) (a .1 .1 .1 .0 .ptr .0) (a .1 .1 .1 .0 .ptr .1) (a .1 .1 .1 .0 .name) (a .1 .1 .1 .0 .now) more
+      C Λ fm known-made known-main known-byte known-finish (are .0) (are .1 .0) (are .1 .1 .0) (are .1 .1 .1 .0 .0 .1)))
 
 -- The body meets the contract.
 meets : {M : Type 1} (𝓤 : URA M) (H : Heap 𝓤) (A : Atoms 𝓤) → Given 𝓤 H A → (mem : Memory → SProp 𝓤) (run : Routine → Fun 𝓤) (𝓣 : Tables 𝓤 H)
     → Triple 𝓤 (𝓣 .C #writer-at) (Made 𝓤 H A mem run) → Triple 𝓤 (𝓣 .C #append-main) (Main 𝓤 H A mem run) → Triple 𝓤 (𝓣 .C #append-u8) (Byte 𝓤 H A mem run) → Triple 𝓤 (𝓣 .C #finish) (Finish 𝓤 H A mem run)
     → Meets 𝓤 H A me.signature (WpFn 𝓤 H (𝓣 .C) (𝓣 .Λ) code.function) (me.spec 𝓤 H A mem run)
 meets 𝓤 H A W mem run 𝓣 known-made known-main known-byte known-finish =
-    walk-meets 𝓤 H A me.ended stayed W (goes-dropped 𝓤 H A W 3 BodyS yes (λ κs x f. refl), (goes-dropped 𝓤 H A W 3 TableS yes (λ κs x f. refl), (goes-gave-slice 𝓤 H A W 3 2 tt (plain (λ _. u8)), tt))) (me.clauses 𝓤 H A mem run)
+    walk-meets 𝓤 H A me.ended stayed W (goes-dropped 𝓤 H A W 3 BodyS yes (λ κs x f. refl), (goes-dropped 𝓤 H A W 3 (TermsS 3) yes (λ κs x f. refl), (goes-dropped 𝓤 H A W 3 TableS yes (λ κs x f. refl), (goes-gave-slice 𝓤 H A W 3 2 tt (plain (λ _. u8)), tt)))) (me.clauses 𝓤 H A mem run)
     (WpFn 𝓤 H (𝓣 .C) (𝓣 .Λ) code.function) (WpFn-mono 𝓤 H (W .laws) 𝓣 code.function) (walks 𝓤 H A W mem run (𝓣 .C) (𝓣 .Λ) (fmOf 𝓤 H (W .laws) 𝓣) known-made known-main known-byte known-finish)
 
 -- The function meets its contract.

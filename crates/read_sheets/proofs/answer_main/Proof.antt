@@ -1,0 +1,64 @@
+use mathlib.Core.Path.{sym, subst}
+use Prim.Native.Nat.{_≤_}
+use native.Mathlib.Omega.{arith}
+use Rattle.layout.specs.Read.{Terms}
+use Rattle.editions.proofs.Bounds.{most-labels}
+use Rattle.scan.proofs.Mains.{zeros-cleared, zeros-slots, lent-empty}
+use borrow.Author.Needs.{needs}
+use Rattle.read_sheets.proofs.answer_main.Statement.{statement}
+use Rattle.read_sheets.proofs.answer_main.Tie as tie
+
+terms-of-requires : tie.Need-terms-of-requires
+terms-of-requires c κs = search needs
+
+slice-aggregate-read-main : tie.Need-slice-aggregate-read-main
+slice-aggregate-read-main c = search needs
+
+slice-aggregate-read-main-2 : tie.Need-slice-aggregate-read-main-2
+slice-aggregate-read-main-2 c = search needs
+
+slice-aggregate-read-main-3 : tie.Need-slice-aggregate-read-main-3
+slice-aggregate-read-main-3 c = search needs
+
+read-main-requires : tie.Need-read-main-requires
+read-main-requires c κs =
+    let bound = subst (λ (k : Terms). k .labelBound ≤ 4096) (sym (c .before .before .before .terms-of .ensures)) (most-labels _) in
+    (c .before .before .before .before .before .pre .0, c .before .before .before .before .before .pre .1, lent-empty (zeros-slots _ 4096 bound (omega arith)) (zeros-cleared 4096) (zeros-cleared 0))
+
+enum-told : tie.Need-enum-told
+enum-told c = search needs
+
+write-line-requires : tie.Need-write-line-requires
+write-line-requires c κs = search needs
+
+enum-known-f : tie.Need-enum-known-f
+enum-known-f c = search needs
+
+fault-number-requires : tie.Need-fault-number-requires
+fault-number-requires c κs = search needs
+
+write-line-requires-2 : tie.Need-write-line-requires-2
+write-line-requires-2 c κs = search needs
+
+returns : tie.Need-returns
+returns c = search needs
+
+returns-2 : tie.Need-returns-2
+returns-2 c = search needs
+
+pub answer-main-spec : {M : Type 1} → statement M
+answer-main-spec =
+    tie.close
+    (tie.spec
+    terms-of-requires
+    slice-aggregate-read-main
+    slice-aggregate-read-main-2
+    slice-aggregate-read-main-3
+    read-main-requires
+    enum-told
+    write-line-requires
+    enum-known-f
+    fault-number-requires
+    write-line-requires-2
+    returns
+    returns-2)

@@ -1,0 +1,42 @@
+-- The `Terms` that a walk is handed by value: their machine value, and what is known of it. Assumes nothing.
+use mathlib.Core.Path.{_≡_}
+use Prim.Native.Nat.{ℕ, _<_, _^_}
+use mathlib.Core.List.{List, [], _∷_}
+use mir.Syntax.{w64}
+use mir.Val.{Val, WT, hasTy, vint, vstruct, vnil, vcons}
+use lib.Dec.{T as Holds}
+use denote.RattleType.{RattleType}
+use denote.Laws.{Is}
+use denote.Signature.{Slot, plain}
+use denote.Struct.Laws as LL
+use Rattle.editions.specs.declared.Terms.{Terms}
+use Rattle.editions.proofs.Terms as E
+use Rattle.editions.proofs.Terms.Laws as E′
+
+-- The type, as a parameter's.
+abbrev pub Handed : RattleType
+Handed = E.the-row
+
+-- The terms' place in a signature of n lifetimes.
+abbrev pub TermsS : (n : ℕ) → Slot n
+TermsS n = plain (λ _. Handed)
+
+-- The machine value of terms: a struct of one word.
+abbrev pub handed : Terms → Val
+handed t = vstruct (vcons (vint w64 (t .«label_bound»)) vnil)
+
+-- The machine values of terms as a walk has them.
+abbrev pub handed-vals : Terms → List Val
+handed-vals = LL.vals E.the-type E′.the-laws
+
+-- Terms are their machine value.
+pub handed-tells : (t : Terms) (vs : List Val) → Is Handed t vs → vs ≡ handed t ∷ []
+handed-tells = LL.tells E.the-type E′.the-laws
+
+-- The bound of terms is a word.
+pub handed-fits : (t : Terms) (vs : List Val) → Is Handed t vs → t .«label_bound» < 2 ^ 64
+handed-fits t vs is = LL.owed E.the-type E′.the-laws t vs is .0 .1
+
+-- The machine value of terms has the struct's machine type.
+pub handed-typed : (t : Terms) → Is Handed t (handed t ∷ []) → Holds (hasTy E′.mir (handed t)) × WT (handed t)
+handed-typed t is = (tt, (record { fits = handed-fits t _ is }, tt))
