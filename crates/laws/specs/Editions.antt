@@ -13,15 +13,15 @@ use lib.Dec.{leb, ltb, eqb}
 use borrow.Author.Tests.{leb-true, ltb-true, ltb-false}
 use Rattle.layout.specs.Lists.{pick, firstWith}
 use Rattle.layout.specs.Numbers.{u16At, u32At, le16}
-use Rattle.layout.specs.Answers.{Fault, BadField, Refusal, ReadingFault, Answer, Done, Refused}
+use Rattle.layout.specs.Answers.{Fault, BadField, Refusal, ReadingFault, Done, Refused}
 use Rattle.layout.specs.OpCode.{OpCode, opcodeOf}
 use Rattle.layout.specs.PushKind.{PushKind, kindOf}
-use Rattle.layout.specs.Tree.{PushValueOf, FunctionParamOf, CatchTargetOf, Entry, entry, ActionOf, flat, branch, owner, Try, ActionListOf, empty, more, ActionsOf, Actions, body, CatchOf, noCatch, catch, FinallyOf, noFinally, finally}
+use Rattle.layout.specs.Tree.{CatchTargetOf, Entry, entry, ActionOf, flat, branch, owner, Try, ActionListOf, empty, more, ActionsOf, Actions, body, CatchOf, noCatch, catch, FinallyOf, noFinally, finally}
 use Rattle.layout.specs.Read.{Text, Terms, edition1, edition2, deepest, Place, placed, Read, got, bad, ahead, Reader, chain, ifWhole, ifWithin, ifNothingLeft, tested, repeat, isShape, hasCatch, hasFinally, hasRegister, readU8, readU16, readCounted, readString, readValueOf, readValueIf, readValue, readParam, readLabel, readEntries, readCatchTarget, readCatch, readFinally, readTry, readFields, readFieldsIf, readAction, readActions, readBodyWith, readBody, readMain}
 use Rattle.layout.specs.Strings.{mapAction, mapActions, mapBody, mapCatch, mapFinally}
 use Rattle.layout.specs.Judge.{Mode}
 use Rattle.layout.specs.Cut.{Edition, First, Second, editionNumber, editions, editionOf, Cut, main, uncut, sheetLimit, trailerDistance, trailerEdition, isMarked, cutIf, cutAt, cutIfTrailer, cutIfShort, cut}
-use Rattle.layout.specs.Pack.{editionTerms, spelling, packRead, packCut, pack, ReadsAs}
+use Rattle.layout.specs.Pack.{editionTerms, spelling, packCut, pack, ReadsAs}
 use Rattle.layout.specs.Order.{fault-next}
 use Rattle.laws.specs.Packed.{refused-done}
 

@@ -1,6 +1,5 @@
 -- `judge::judge_branch` meets its contract. Assumes nothing.
 use Rattle.judge.proofs.Distances.{branch-unrecorded, branch-stray, branch-far, branch-near}
-use native.Mathlib.Omega.{arith}
 use borrow.Author.Needs.{needs}
 use Rattle.judge.proofs.judge_branch.Statement.{statement}
 use Rattle.judge.proofs.judge_branch.Tie as tie
