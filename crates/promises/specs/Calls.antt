@@ -24,7 +24,7 @@ use Rattle.laws.specs.Modes.{OfMode, never-recorded, stray-branch, asks, Strict
 use Rattle.laws.specs.Barred.{Stray, TreeRecorded, TreeContained, recorded-plain, done-recorded, done-contained, FirstWrong, unrecorded-first, stray-first}
 use Rattle.laws.specs.Packed.{Written, refused-done, Packed, is-packed, sheetDistance}
 use Rattle.laws.specs.Demands.{same-meaning, length-done, noteLength, same-note, same-note-output}
-use Rattle.laws.specs.Editions.{sheetIn, other-edition}
+use Rattle.laws.specs.Editions.{sheetIn, LabelRefused, other-edition}
 use Rattle.agreement.specs.Source.{ActionEncoder, Result, ok, err, encode}
 use Rattle.agreement.specs.SourceAgrees.{Agrees, in-room, no-room, overflowed, same-as-source, agrees-once}
 use Rattle.agreement.specs.Published.{Block, asWritten, asPublished, BodyUndisputed}
@@ -139,12 +139,12 @@ same-but-note m s s′ l r o n n′ v v′ after after′ h h′ =
 
 -- ---- the edition
 
--- two calls on sheets that differ only in the edition, with equal outputs: number, value and output are equal, or the call on edition 1
--- answers 5 and leaves the output as it was
+-- two calls on sheets that differ only in the edition, with equal outputs: number, value and output are equal; or the call on edition 1
+-- answers 5, for a label number from 1,024 on, and leaves the output as it was
 pub same-but-edition : (m : Mode) (front mark : List ℕ) → length mark ≡ 2 → (o : List ℕ) (n n′ : ℕ) (v v′ : ℤ) (after after′ : List ℕ)
-    → Outcome m (sheetIn First front mark) o n v after → Outcome m (sheetIn Second front mark) o n′ v′ after′ → ((n ≡ n′) × (v ≡ v′) × (after ≡ after′)) ⊎ ((n ≡ 5) × (after ≡ o))
+    → Outcome m (sheetIn First front mark) o n v after → Outcome m (sheetIn Second front mark) o n′ v′ after′ → ((n ≡ n′) × (v ≡ v′) × (after ≡ after′)) ⊎ ((n ≡ 5) × (after ≡ o) × LabelRefused m (sheetIn First front mark) (sheetIn Second front mark) (length o))
 unfolding number refusalNumber faultNumber output
-same-but-edition m front mark two o n n′ v v′ after after′ h h′ = ⊎-elim (λ e. inl (equal e)) (λ r. inr (refused (r .is-refused))) (other-edition m front mark two (length o))
+same-but-edition m front mark two o n n′ v v′ after after′ h h′ = ⊎-elim (λ e. inl (equal e)) (λ r. inr (refused (r .is-refused) .0, refused (r .is-refused) .1, r)) (other-edition m front mark two (length o))
   where
     equal : pack m (sheetIn First front mark) (length o) ≡ pack m (sheetIn Second front mark) (length o) → (n ≡ n′) × (v ≡ v′) × (after ≡ after′)
     equal e = same-outcome h (record { told = rw e (h′ .told); holds = rw e (h′ .holds) })
