@@ -3,10 +3,10 @@
  *
  *   driver < crates/replay/stdin
  *
- * A record is as crates/replay/src/main.rt tells: lengths, the room, the mode, the oracle's number and value, and the patterns of
- * the sheet and of the block, which are as crates/patterns/src/lib.rt tells. Number, value and block must be the oracle's. It
- * writes what crates/replay writes: a line for each number that was met, with its count; then how many answers differ, and the
- * first that does.
+ * A record is as crates/replay/src/main.rt tells: lengths, the room, the mode, the oracle's number, value and action number, and
+ * the patterns of the sheet and of the block, which are as crates/patterns/src/lib.rt tells. Number, value, action number and block
+ * must be the oracle's. It writes what crates/replay writes: a line for each number that was met, with its count; then how many
+ * answers differ, and the first that does.
  *
  * Each sheet and block ends where memory ends, so a byte read past it stops the program. Each sheet and block is also stepped
  * through, and so is every block of up to 4 bytes from a choice of seven; the answer is held to a stepper written here.
@@ -24,9 +24,10 @@
 #include "merinovault.h"
 
 enum {
-    GUARD = 64,             /* bytes on both sides of the output and of the value that must keep theirs */
+    HALF = 8,               /* the bytes of a value, and of an action number: half of a value slice */
+    GUARD = 64,             /* bytes on both sides of the output and of the value slice that must keep theirs */
     SPACE = 4 * 1024 * 1024, /* the longest sheet and block, and the largest room, of a record */
-    HEAD = 22,              /* the bytes of a record before its patterns */
+    HEAD = 26,              /* the bytes of a record before its patterns */
     STRICT = 1,             /* the bits of a mode */
     CONTAINED = 2,
     MODES = 4,
@@ -57,12 +58,19 @@ static uint8_t *memory_end(size_t size)
     return start + pages;
 }
 
-static int64_t number_in(const uint8_t *value)
+/* The number that fills these HALF bytes. */
+static int64_t number_in(const uint8_t *bytes)
 {
     uint64_t bits = 0;
-    for (size_t i = MERINOVAULT_VALUE_LEN; i > 0; i--)
-        bits = bits << 8 | value[i - 1];
+    for (size_t i = HALF; i > 0; i--)
+        bits = bits << 8 | bytes[i - 1];
     return (int64_t)bits;
+}
+
+/* Whether a value slice holds this value, and behind it this action number. */
+static bool holds(const uint8_t *slice, int64_t value, int64_t action)
+{
+    return number_in(slice) == value && number_in(slice + HALF) == action;
 }
 
 /* How many of these bytes are not `fill`. */
@@ -76,7 +84,7 @@ static size_t changed(const uint8_t *bytes, size_t len, uint8_t fill)
 
 struct answer {
     uint32_t number;
-    int64_t value;
+    int64_t value, action;
     size_t changed; /* bytes that must keep their values and did not */
 };
 
@@ -96,6 +104,7 @@ static struct answer pack(unsigned mode, const uint8_t *sheet, size_t len, uint8
     struct answer a;
     a.number = pack_in(mode, sheet, len, out, room, value + GUARD, MERINOVAULT_VALUE_LEN);
     a.value = number_in(value + GUARD);
+    a.action = number_in(value + GUARD + HALF);
     a.changed = changed(value, GUARD, fill) + changed(value + GUARD + MERINOVAULT_VALUE_LEN, GUARD, fill);
     size_t written = a.number == MERINOVAULT_DONE ? (size_t)a.value : 0;
     if (written > room)
@@ -104,7 +113,7 @@ static struct answer pack(unsigned mode, const uint8_t *sheet, size_t len, uint8
     return a;
 }
 
-/* Stepping by the words of documents 01 and 02. */
+/* Stepping by the words of documents 01 and 02. Its action number is always 0. */
 static struct answer stepped(const uint8_t *block, size_t len)
 {
     size_t at = 0, steps = 0;
@@ -115,12 +124,13 @@ static struct answer stepped(const uint8_t *block, size_t len)
         if (opcode >= 0x80)
             size = left < 3 ? SIZE_MAX : 3 + (size_t)block[at + 1] + 256 * (size_t)block[at + 2];
         if (size > left)
-            return (struct answer){MERINOVAULT_UNCLEAN, (int64_t)at, 0};
+            return (struct answer){MERINOVAULT_UNCLEAN, (int64_t)at, 0, 0};
         at += size;
         steps++;
         ended = opcode == 0;
     }
-    return ended ? (struct answer){MERINOVAULT_DONE, (int64_t)steps, 0} : (struct answer){MERINOVAULT_UNCLEAN, (int64_t)len, 0};
+    return ended ? (struct answer){MERINOVAULT_DONE, (int64_t)steps, 0, 0}
+                 : (struct answer){MERINOVAULT_UNCLEAN, (int64_t)len, 0, 0};
 }
 
 /* Steps through a block by the entry too; it must end where memory ends. */
@@ -130,7 +140,7 @@ static void step(const uint8_t *block, size_t len, size_t line)
     memset(value, 0xA5, sizeof value);
     uint32_t number = merinovault_step(block, len, value + GUARD, MERINOVAULT_VALUE_LEN);
     struct answer due = stepped(block, len);
-    if (number != due.number || number_in(value + GUARD) != due.value)
+    if (number != due.number || !holds(value + GUARD, due.value, due.action))
         fault(line, "stepping tells something else");
     if (changed(value, GUARD, 0xA5) + changed(value + GUARD + MERINOVAULT_VALUE_LEN, GUARD, 0xA5) != 0)
         fault(line, "stepping changed a byte beside the value");
@@ -158,11 +168,11 @@ static void step_short(uint8_t *end)
         }
 }
 
-/* A value slice that has not 8 bytes, and runs without a byte, in one mode. */
+/* A value slice that has not 16 bytes, and runs without a byte, in one mode. */
 static void edges(unsigned mode)
 {
     const uint8_t empty[12] = {0, 0, 0, 0, 4, 0, 0, 0, 1, 0, 0x41, 0x31}, one[1] = {0};
-    uint8_t out[4], value[16];
+    uint8_t out[4], value[2 * MERINOVAULT_VALUE_LEN];
     memset(out, 0xA5, sizeof out);
     memset(value, 0xA5, sizeof value);
     for (size_t n = 0; n <= sizeof value; n++)
@@ -170,19 +180,19 @@ static void edges(unsigned mode)
             if (pack_in(mode, empty, sizeof empty, out, sizeof out, value, n) != MERINOVAULT_NO_ROOM ||
                 pack_in(mode, NULL, 0, out, sizeof out, value, n) != MERINOVAULT_NO_ROOM ||
                 merinovault_step(one, sizeof one, value, n) != MERINOVAULT_NO_ROOM)
-                fault(0, "a value slice of another length than 8 is not answered 11");
+                fault(0, "a value slice of another length than 16 is not answered 11");
         }
     if (pack_in(mode, empty, sizeof empty, out, sizeof out, NULL, 0) != MERINOVAULT_NO_ROOM ||
         merinovault_step(one, sizeof one, NULL, 0) != MERINOVAULT_NO_ROOM)
         fault(0, "no value slice is not answered 11");
     if (changed(out, sizeof out, 0xA5) + changed(value, sizeof value, 0xA5) != 0)
-        fault(0, "a byte changed beside a value slice of another length than 8");
-    if (pack_in(mode, NULL, 0, out, sizeof out, value, 8) != MERINOVAULT_BAD_TRAILER || number_in(value) != 0)
-        fault(0, "the empty sheet is not answered 2 with 0");
-    if (pack_in(mode, empty, sizeof empty, NULL, 0, value, 8) != MERINOVAULT_NO_ROOM || number_in(value) != 1)
-        fault(0, "an empty output is not answered 11 with 1");
-    if (merinovault_step(NULL, 0, value, 8) != MERINOVAULT_UNCLEAN || number_in(value) != 0)
-        fault(0, "the empty block is not answered 13 with 0");
+        fault(0, "a byte changed beside a value slice of another length than 16");
+    if (pack_in(mode, NULL, 0, out, sizeof out, value, MERINOVAULT_VALUE_LEN) != MERINOVAULT_BAD_TRAILER || !holds(value, 0, 0))
+        fault(0, "the empty sheet is not answered 2 with 0 and 0");
+    if (pack_in(mode, empty, sizeof empty, NULL, 0, value, MERINOVAULT_VALUE_LEN) != MERINOVAULT_NO_ROOM || !holds(value, 1, 0))
+        fault(0, "an empty output is not answered 11 with 1 and 0");
+    if (merinovault_step(NULL, 0, value, MERINOVAULT_VALUE_LEN) != MERINOVAULT_UNCLEAN || !holds(value, 0, 0))
+        fault(0, "the empty block is not answered 13 with 0 and 0");
     if (changed(out, sizeof out, 0xA5) != 0)
         fault(0, "a refusal changed the output");
 }
@@ -238,7 +248,7 @@ static bool agrees(const uint8_t *head, const struct space *space, size_t line)
 
     /* A byte that is written with what it holds already shows in the other of two fills. */
     struct answer first = pack(head[12], sheet, n, out, room, 0x5A), a = pack(head[12], sheet, n, out, room, 0xA5);
-    if (first.number != a.number || first.value != a.value)
+    if (first.number != a.number || first.value != a.value || first.action != a.action)
         fault(line, "a second call tells something else");
     if (first.changed + a.changed != 0)
         fault(line, "a byte changed that must keep its value");
@@ -246,7 +256,8 @@ static bool agrees(const uint8_t *head, const struct space *space, size_t line)
         fault(line, "the sheet changed");
 
     size_t written = a.number == MERINOVAULT_DONE ? (size_t)a.value : 0;
-    bool same = a.number == head[13] && a.value == number_in(head + 14) && written == m && memcmp(out, space->block, m) == 0;
+    bool same = a.number == head[13] && a.value == number_in(head + 14) && a.action == (int64_t)u32_at(head + 22) && written == m &&
+                memcmp(out, space->block, m) == 0;
     step(sheet, n, line);
     if (a.number == MERINOVAULT_DONE)
         step_all(out, written, space->block_end, line);

@@ -4,13 +4,20 @@
 
 #include "merinovault.h"
 
-/* The number that fills the 8 bytes of a value. */
-static int64_t number_in(const uint8_t value[MERINOVAULT_VALUE_LEN])
+/* The number that fills 8 bytes: those of the answer's value, or of its action number behind it. */
+static int64_t number_in(const uint8_t bytes[8])
 {
     uint64_t bits = 0;
-    for (size_t i = MERINOVAULT_VALUE_LEN; i > 0; i--)
-        bits = bits << 8 | value[i - 1];
+    for (size_t i = 8; i > 0; i--)
+        bits = bits << 8 | bytes[i - 1];
     return (int64_t)bits;
+}
+
+/* Whether a refusal with this number names an action. */
+static bool names_action(uint32_t number)
+{
+    return (number >= MERINOVAULT_CUT_SHORT && number <= MERINOVAULT_JUMP_OFFSET_OVERFLOW) ||
+           number == MERINOVAULT_NEVER_RECORDED || number == MERINOVAULT_STRAY_BRANCH;
 }
 
 /* Steps through the block and prints the answer: 0 with the number of steps, or 13 with a place. */
@@ -27,7 +34,10 @@ static void show(const uint8_t *sheet, size_t sheet_len, bool strict, bool conta
     uint8_t block[64], value[MERINOVAULT_VALUE_LEN];
     uint32_t number = merinovault_pack(sheet, sheet_len, strict, contained, block, sizeof block, value, sizeof value);
     if (number != MERINOVAULT_DONE) {
-        printf("refused: answer %" PRIu32 ", value %" PRId64 "\n", number, number_in(value));
+        printf("refused: answer %" PRIu32 ", value %" PRId64, number, number_in(value));
+        if (names_action(number))
+            printf(", action %" PRId64, number_in(value + 8));
+        printf("\n");
         return;
     }
     size_t len = (size_t)number_in(value);
@@ -51,8 +61,8 @@ int main(void)
     show(sheet, sizeof sheet, false, false);
     sheet[4] = 2; /* label 0 past the body's end, which is no record */
     show(sheet, sizeof sheet, false, false);
-    show(sheet, sizeof sheet, true, false); /* NeverRecorded: the Jump's operand, at byte 3 of the block */
-    sheet[8] = 0x98;                        /* no opcode: UnknownCode at byte 8 of the sheet */
+    show(sheet, sizeof sheet, true, false); /* NeverRecorded: the operand of action 0, at byte 3 of the block */
+    sheet[8] = 0x98;                        /* no opcode: UnknownCode at byte 8 of the sheet, action 0 */
     show(sheet, sizeof sheet, true, false);
 
     uint8_t form[] = {
@@ -69,7 +79,7 @@ int main(void)
     form[15] = 3; /* no edition: BadTrailer */
     show(form, sizeof form, false, false);
 
-    const uint8_t into[] = {
+    uint8_t into[] = {
         0x00, 0x00,                         /* no label entry */
         0x02, 0x00,                         /* two actions: */
         0x9B, 0x01, 0x00, 0x66, 0x00, 0x00, /* DefineFunction f, without parameters; its body: */
@@ -78,8 +88,11 @@ int main(void)
         0x99, 0x00, 0x00,                   /* Jump to label 0 */
         0x16, 0x00, 0x00, 0x00, 0x01, 0x00, 0x41, 0x31,
     };
+    /* Counted through all bodies, DefineFunction is action 0, Play 1 and Jump 2. */
     show(into, sizeof into, true, false);
-    show(into, sizeof into, true, true); /* StrayBranch: the Jump leaves the main body */
+    show(into, sizeof into, true, true); /* StrayBranch: action 2, the Jump, leaves the main body */
+    into[18] = 0x98;                     /* no opcode in Play's place: UnknownCode at byte 18 of the sheet, action 1 */
+    show(into, sizeof into, true, true);
 
     const uint8_t block[] = {
         0x96, 0x02, 0x00, 0x04, 0x01, /* Push register 1 */

@@ -2,8 +2,9 @@
  * merinovault.h: packs a sheet of ActionScript 2 actions into the block of bytes that a player reads, and steps through a block.
  * Link libmerinovault.a, which `rt staticlib merinovault` proves and builds; docs/LINKING.md tells how.
  *
- * Each function returns its answer's number, and fills the 8 bytes of value with the answer's value, a little-endian signed
- * 64-bit number. If value_len is not 8, it returns MERINOVAULT_NO_ROOM before everything else and writes nothing at all.
+ * Each function returns its answer's number and fills the 16 bytes of value: first the answer's value, then its action number,
+ * each a little-endian signed 64-bit number of 8 bytes. If value_len is not 16, so if it is 8 too, the function returns
+ * MERINOVAULT_NO_ROOM before everything else and writes nothing at all.
  *
  * What the caller owes. Nothing tests it, and the proofs count on it:
  *  - A pointer and the length after it are one run of bytes, at most PTRDIFF_MAX long. All of it may be read, and all of out and
@@ -28,8 +29,8 @@
 extern "C" {
 #endif
 
-/* The length that value must have. */
-#define MERINOVAULT_VALUE_LEN 8u
+/* The length that value must have: 8 bytes of the answer's value, then 8 of its action number. */
+#define MERINOVAULT_VALUE_LEN 16u
 
 /* The answers' numbers, and the value of each. A place counts bytes from 0, the first byte of the sheet or block. */
 #define MERINOVAULT_DONE 0u                  /* length of the block written; of stepping: the number of all steps */
@@ -48,6 +49,20 @@ extern "C" {
 #define MERINOVAULT_UNCLEAN 13u              /* place of an opcode whose step passes the end, or block_len; of stepping alone */
 #define MERINOVAULT_NEVER_RECORDED 14u       /* place in the block of a branch's operand; of strict mode alone */
 #define MERINOVAULT_STRAY_BRANCH 15u         /* place in the block of a branch's operand; of contained mode alone */
+
+/*
+ * The action number of each answer. Actions count from 0 in sheet order through all bodies; an action comes before those in its
+ * bodies.
+ *
+ *   CUT_SHORT, UNKNOWN_CODE, BAD_FIELD     the action being read. Where an opcode is missing, or the field is one of a body's label
+ *                                          entries or counts, the number that the next action would have had
+ *   TOO_DEEP, BLOCK_LEN_OVERFLOW           the action that owns the body
+ *   LEFT_OVER                              how many actions were read
+ *   ACTION_LEN_OVERFLOW                    the action whose payload it is
+ *   JUMP_OFFSET_OVERFLOW, NEVER_RECORDED,
+ *   STRAY_BRANCH                           the branch
+ *   every other answer                     0
+ */
 
 /*
  * Packs sheet into the front of out: 0 to 11, 14 or 15. Bytes of out past a Done length keep their values, and on any other
@@ -71,7 +86,8 @@ uint32_t merinovault_pack(const uint8_t *sheet, size_t sheet_len, bool strict, b
  *
  * DONE if the last step is an End, byte 00, with the number of all steps; an End may stand in the middle too, with a branch
  * past it. Otherwise UNCLEAN: with the place of an opcode whose step passes the end, or whose two length bytes are not all
- * there; with block_len if the last step is no End; with 0 if the block is empty. A value_len other than 8 gives NO_ROOM.
+ * there; with block_len if the last step is no End; with 0 if the block is empty. The action number is always 0. A value_len
+ * other than 16 gives NO_ROOM.
  */
 uint32_t merinovault_step(const uint8_t *block, size_t block_len, uint8_t *value, size_t value_len);
 

@@ -8,6 +8,7 @@ import struct
 import subprocess
 from collections import Counter
 
+import numbering
 import readings
 from readings import LABELS, ORACLE, OTHER_EDITIONS, body, function2, nested, sheet, string, u16
 
@@ -169,7 +170,7 @@ def small_questions():
     mains = [main for main, _ in HAND] + [*labels_and_branches(), *strings_and_values()]
     sheets = [sheet(main) for main in mains] + [sheet(mains[11], note=b"a note"), sheet(mains[11], note=bytes(9))]
     sheets += [sheet(main, edition=2) for main, _ in HAND + HAND_2] + [sheet(HAND_2[0][0], note=b"a note", edition=2)]
-    for s, (number, n, _) in zip(sheets, answers((s, SHEETS_SPACE, PLAIN) for s in sheets)):
+    for s, (number, n, *_) in zip(sheets, answers((s, SHEETS_SPACE, PLAIN) for s in sheets)):
         yield s, SHEETS_SPACE
         if number == 0:
             yield from ((s, room) for room in (n, n - 1, 0))
@@ -447,6 +448,67 @@ def editions():
     yield sheet(HAND_2[0][0], edition=2)[:-1] + b"2", alike((2, 0))
 
 
+def numbered():
+    """Document 02's item 7: a main body, and the answers in each mode, with action numbers and not all with values."""
+    f = lambda inside: function(b"f", [], inside)
+    # An owner of a body, how many actions it has up to that body, itself counted, and behind it; whether it is a function.
+    owners = [
+        (f, 1, 0, True),
+        (lambda inside: function2(1)[:-4] + inside, 1, 0, True),
+        (lambda inside: b"\x94" + inside, 1, 0, False),
+        (lambda inside: attempt(inside, body(POP), body(POP)), 1, 2, False),
+        (lambda inside: attempt(body(POP), inside, body(POP)), 2, 1, False),
+        (lambda inside: attempt(body(POP), body(POP), inside), 3, 0, False),
+    ]
+    far = [POP] * 32768
+    for owner, n, m, apart in owners:
+        # the second action of its body, where it stands second in main; and the action behind it, where its body has two
+        inner, behind = 1 + n + 1, 1 + n + 2 + m
+        pops = owner(body(POP, POP))
+        # a payload that is too long: inside and behind
+        yield body(POP, owner(body(POP, target(65535)))), alike((8, 65536, inner))
+        yield body(POP, pops, target(65535)), alike((8, 65536, behind))
+        # a body that is too long: its own, behind a body; one inside; its own by the one inside; another behind it
+        yield body(with_(POP), owner(of_length(65536))), alike((9, 65536, 2))
+        yield body(POP, owner(body(POP, b"\x94" + of_length(65538)))), alike((9, 65538, inner))
+        yield body(POP, owner(body(POP, b"\x94" + of_length(65530)))), alike((9, 65536, 1))
+        yield body(POP, pops, b"\x94" + of_length(65537)), alike((9, 65537, behind))
+        # a branch that goes too far, behind one that every mode takes: inside and behind
+        inside = owner(body(POP, jump(1)))
+        strays = by_contained if apart else lambda plain, _: alike(plain)
+        yield body(branch(0), inside, *far, labels=[(0, 0), (1, 32770)]), strays((10, None, inner), (15, None, inner))
+        yield body(branch(0), pops, jump(1), *far, labels=[(0, 0), (1, 32771)]), alike((10, 32768, behind))
+        # one without a record
+        yield body(branch(0), inside, jump(2), labels=[(0, 0)]), by_strict((0, None), (14, None, inner))
+        yield body(branch(0), pops, jump(1), labels=[(0, 0)]), by_strict((0, None), (14, None, behind))
+        # one that leaves its function, out of the second in the body and into it
+        out, into = f(body(POP, jump(0))), f(body(POP, labels=[(1, 0)]))
+        yield body(branch(0), owner(body(POP, out)), labels=[(0, 0)]), by_contained((0, None), (15, None, inner + 2))
+        yield body(branch(0), owner(body(POP, into)), jump(1), labels=[(0, 0)]), by_contained((0, None), (15, None, behind + 1))
+    # an owner's payload is tested before what stands in its bodies, and Try's bodies after it
+    bad_payload = body(POP, target(65535))
+    yield body(POP, function(b"a" * 65531, [], bad_payload)), alike((8, 65536, 1))
+    yield body(POP, attempt(bad_payload, bad_payload, name=b"a" * 65528)), alike((8, 65536, 1))
+    yield body(POP, attempt(of_length(65536), bad_payload, body())), alike((8, 65536, 65537))
+    yield body(POP, attempt(of_length(65536), body(POP, b"\x94" + of_length(65538)), body())), alike((9, 65538, 65537))
+    yield body(POP, attempt(body(with_(POP)), of_length(65538), of_length(65540))), alike((9, 65538, 1))
+    # at depth 16, and as the last of 65,535 actions
+    yield at_depth_16(bad_payload), alike((8, 65536, 16))
+    yield at_depth_16(body(POP, jump(0))), by_strict((0, None), (14, None, 16))
+    yield body(*[POP] * 65534, jump(0)), by_strict((0, 65540), (14, 65537, 65534))
+    # behind more actions than a u16 counts
+    many = [with_(*[POP] * 65535)] * 2
+    yield body(*many, b"\x01"), alike((4, None, 131072))
+    yield body(*many, target(65535)), alike((8, 65536, 131072))
+    yield body(*many, b"\x94" + of_length(65536)), alike((9, 65536, 131072))
+    yield body(*many, jump(0), labels=[(0, 0)]), alike((10, -131085, 131072))
+    yield body(*many, jump(0)), by_strict((0, 131086), (14, 131083, 131072))
+    yield body(*many, f(body(jump(0))), labels=[(0, 2)]), by_contained((0, 131095), (15, 131092, 131073))
+    yield body(*[with_(*[POP] * 65535)] * 15) + POP, alike((7, None, 983040))
+    # all other answers give 0
+    yield body(with_(POP), POP), alike((0, 8, 0))
+
+
 def tables_2():
     """4,096 label entries in edition 2, and a jump to every 65th label: a sheet, and the answers in each mode."""
     actions = [POP if n % 64 else jump(n // 64 * 65) for n in range(4096)]
@@ -521,6 +583,11 @@ def long_questions():
         # 8 to 10, 14 and 15 come before 11
         if any(number in (8, 9, 10, 14, 15) for number, _ in due):
             yield s, 0, tuple(map(without_room, due))
+    for s, due in readings.numbered():
+        yield s, SHEETS_SPACE, alike(due)
+    for i, (main, due) in enumerate(numbered()):
+        s, is_taken = sheet(main, edition=1 + i % 2), any(number == 0 for number, *_ in due)
+        yield s, LONG_SPACE if is_taken and len(s) > 1000 else SHEETS_SPACE, due
     for s, due in tables_2():
         yield s, LONG_SPACE, due
     for n, main in payloads():
@@ -531,7 +598,7 @@ def long_questions():
     for main in tables():
         yield sheet(main), LONG_SPACE, alike(None)
     sheets = [sheet(main) for main, number, _ in RUN if number == 0] + list(long_sheets())
-    for s, (number, n, _) in zip(sheets, answers((s, LONG_SPACE, PLAIN) for s in sheets)):
+    for s, (number, n, *_) in zip(sheets, answers((s, LONG_SPACE, PLAIN) for s in sheets)):
         yield s, LONG_SPACE, alike(None)
         if number == 0:
             yield from ((s, room, ((0, n) if room == n else (11, n), None, None, None)) for room in (n, n - 1, 0))
@@ -567,14 +634,14 @@ def question(s, room, mode):
 
 
 def answers(questions):
-    """Number, value and block of each answer of the oracle."""
+    """Number, value, action number and block of each answer of the oracle."""
     stream = b"".join(question(*asked) for asked in questions)
     told = subprocess.run([ORACLE, "stream"], input=stream, stdout=subprocess.PIPE, check=True).stdout
     found, at = [], 0
     while at < len(told):
-        number, value, length = struct.unpack_from("<BqI", told, at)
-        found.append((number, value, told[at + 13 : at + 13 + length]))
-        at += 13 + length
+        number, value, action, length = struct.unpack_from("<BqII", told, at)
+        found.append((number, value, action, told[at + 17 : at + 17 + length]))
+        at += 17 + length
     return found
 
 
@@ -593,15 +660,14 @@ def pattern(s):
     return b"".join(struct.pack("<IH", len(part) * times, len(part)) + part for part, times in runs)
 
 
-def record(s, room, mode, number, value, block):
+def record(s, room, mode, number, value, action, block):
     sheet, block = pattern(s), pattern(block)
-    return struct.pack("<IIIBBq", len(sheet), len(block), room, mode, number, value) + sheet + block
+    return struct.pack("<IIIBBqI", len(sheet), len(block), room, mode, number, value, action) + sheet + block
 
 
 def check(due, answer):
-    """Holds the oracle's answer against what the documents say, as far as they do."""
-    number, value, _ = answer
-    assert due is None or due == (number, value) or due == (number, None), (due, number, value)
+    """Holds the oracle's answer against what the documents say, as far as they do: number, value and action number."""
+    assert all(part in (None, told) for part, told in zip(due or (), answer)), (due, answer[:3])
 
 
 def main():
@@ -609,7 +675,7 @@ def main():
     told = answers((sheet(main, edition=edition), 32, PLAIN) for edition, main, _ in by_hand)
     for (*_, text), answer in zip(by_hand, told):
         block = bytes.fromhex(text)
-        assert answer == (0, len(block), block), answer
+        assert answer == (0, len(block), 0, block), answer
 
     sheets = [(s, room, alike(None)) for s, room in small_questions()] + list(long_questions())
     asked = [(s, room, mode) for s, room, _ in sheets for mode in range(len(MODES))]
@@ -622,16 +688,17 @@ def main():
         for number, answer in ((14, strict), (15, contained)):
             assert answer == plain or answer[0] == number and plain[0] in (0, 10, 11), (plain, answer)
         assert both in (strict, contained), (strict, contained, both)
+    numbering.check((s, *answer[:3]) for (s, *_), answer in zip(asked, told))
     stdin = b"".join(record(*question, *answer) for question, answer in zip(asked, told))
     assert len(stdin) < 3145728, len(stdin)
-    numbers = Counter(number for number, _, _ in told)
+    numbers = Counter(number for number, *_ in told)
     lines = [f"{number} {count}\n" for number, count in sorted(numbers.items())] + ["differ 0, first 0\n"]
     open("crates/replay/stdin", "wb").write(stdin)
     open("crates/replay/stdout", "w").write("".join(lines))
     of_edition_2 = sum(s.endswith(b"\x02\x00A1") for s, *_ in sheets)
     print(len(sheets), "sheets,", of_edition_2, "of them of edition 2, each in every mode,", len(stdin), "bytes")
     for mode, found in zip(MODES, by_mode):
-        print(mode, dict(sorted(Counter(number for number, _, _ in found).items())))
+        print(mode, dict(sorted(Counter(number for number, *_ in found).items())))
 
 
 if __name__ == "__main__":

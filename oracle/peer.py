@@ -61,8 +61,8 @@ def generated(family, seed, count):
     told = subprocess.run([ORACLE, "stream"], input=asked, stdout=subprocess.PIPE, check=True).stdout
     at = 0
     while at < len(told):
-        number, _, length = struct.unpack_from("<BqI", told, at)
-        at += 13 + length
+        number, _, _, length = struct.unpack_from("<BqII", told, at)
+        at += 17 + length
         if number == 0:
             yield told[at - length : at]
 
@@ -83,8 +83,8 @@ def replayed():
         records = file.read()
     at = 0
     while at < len(records):
-        sheet, block, _, _, number, _ = struct.unpack_from("<IIIBBq", records, at)
-        at += 22 + sheet + block
+        sheet, block, _, _, number, _, _ = struct.unpack_from("<IIIBBqI", records, at)
+        at += 26 + sheet + block
         if number == 0:
             yield unrolled(records[at - block : at])
 

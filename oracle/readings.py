@@ -7,6 +7,8 @@ import struct
 import subprocess
 from collections import Counter
 
+import numbering
+
 CRATE = "crates/read_sheets"
 ORACLE = "oracle/target/release/oracle"
 # By the edition: the number that its label numbers are under.
@@ -106,10 +108,11 @@ def sheets():
         yield sheet(body(b"\x9a" + bytes([flag]) + b"\x00\x00"))
         yield sheet(body(b"\x9a\x01" + bytes([flag]) + b"\x00"))
         yield sheet(body(b"\x9f" + u16(1) + bytes([flag])))
-    # every Try shape, with a name and with a register
+    # every Try shape; those without other bits also with a name and with a register
     for shape in range(256):
-        yield sheet(body(attempt(shape, string(b"e"))))
+        yield sheet(body(b"\x8f" + bytes([shape])))
     for shape in range(8):
+        yield sheet(body(attempt(shape, string(b"e"))))
         yield sheet(body(attempt(shape, b"\x03")))
         yield sheet(body(attempt(shape)))
     # flags up to bit 8, and from bit 9 on
@@ -164,8 +167,52 @@ def entries():
     yield sheet(body(b"\x99" + u16(4095), labels=[(n, n % 3) for n in range(4096)]), edition=2), (0, 0)
 
 
+def numbered():
+    """Document 02's item 7: a sheet, and the number, value and action number of its reading."""
+    pop, wrong = b"\x17", b"\x99" + u16(65535)
+    # what stands before a body, from its owner's opcode on, and how many actions that is; no body of the owner comes behind it
+    owners = [
+        (b"\x94", 1),
+        (b"\x9b" + string(b"f") + u16(0), 1),
+        (function2(0)[:-4], 1),
+        (b"\x8f\x00", 1),
+        (b"\x8f\x01" + string(b"e") + body(pop), 2),
+        (b"\x8f\x07\x03" + body(b"\x94" + body(pop)) + body(pop), 4),
+    ]
+    # from the body on: the bytes, the number, and the place and the action counted from there
+    faults = [
+        # the count of entries, a label, its index and the count of actions give the next action
+        (b"", 3, 0, 0),
+        (u16(1) + u16(65535), 5, 2, 0),
+        (u16(1) + u16(5) + b"\x00", 3, 4, 0),
+        (u16(0) + b"\x01", 3, 2, 0),
+        # so does an opcode that is missing; an unknown one is the action's own, and so are a count, a kind and a label
+        (body(pop, pop)[:-1], 3, 5, 1),
+        (body(pop, b"\x01"), 4, 5, 1),
+        (body(pop, b"\x88\x01"), 3, 6, 1),
+        (body(pop, b"\x96" + u16(1) + b"\x01"), 4, 8, 1),
+        (body(pop, wrong), 5, 6, 1),
+        # behind the body: an opcode that is missing, a label, and bytes that are left over
+        (body(pop, pop), 3, 6, 2),
+        (body(pop) + wrong, 5, 6, 1),
+        (body(pop, pop) + pop + pop, 7, 7, 3),
+    ]
+    for owner, n in owners:
+        front = u16(0) + u16(3) + pop + owner
+        for rest, number, place, action in faults:
+            yield sheet(front + rest), (number, len(front) + place, 1 + n + action)
+    # a body that is too deep: a Pop beside each With; in functions; in the last bodies of Trys, where the first of one is too deep
+    yield sheet((u16(0) + u16(2) + pop + b"\x94") * 16), (6, 96, 31)
+    yield sheet((u16(0) + u16(1) + b"\x9b" + string(b"") + u16(0)) * 16 + body()), (6, 144, 15)
+    attempts = u16(0) + u16(1) + b"\x8f\x02" + body(pop)
+    yield sheet(attempts * 15 + attempts[:6] + body()), (6, 171, 30)
+    # behind a body
+    withs = (u16(0) + u16(1) + b"\x94") * 15
+    yield sheet(u16(0) + u16(2) + b"\x94" + body(pop, pop) + b"\x94" + withs + body()), (6, 87, 18)
+
+
 def main():
-    dues = [(s, None) for s in sheets()] + [*editions(), *entries()]
+    dues = [(s, None) for s in sheets()] + [*editions(), *entries(), *numbered()]
     questions = [struct.pack("<I", len(s)) + s + struct.pack("<I", 1 << 20) for s, _ in dues]
     stream = b"".join(questions)
     assert len(stream) <= 65536, len(stream)
@@ -174,15 +221,16 @@ def main():
     answers = subprocess.run([ORACLE, "stream"], input=asked, stdout=subprocess.PIPE, check=True).stdout
     told, at = [], 0
     while at < len(answers):
-        number, value, length = struct.unpack_from("<BqI", answers, at)
-        at += 13 + length
-        told.append((number, value) if 1 <= number <= 7 else (0, 0))
+        number, value, action, length = struct.unpack_from("<BqII", answers, at)
+        at += 17 + length
+        told.append((number, value, action) if 1 <= number <= 7 else (0, 0, 0))
     assert len(told) == len(dues)
     for (s, due), answer in zip(dues, told):
-        assert due in (None, answer), (s.hex(), due, answer)
+        assert due is None or due == answer[: len(due)], (s.hex(), due, answer)
+    numbering.check((s, *answer) for (s, _), answer in zip(dues, told))
     open(f"{CRATE}/stdin", "wb").write(stream)
-    open(f"{CRATE}/stdout", "w").write("".join(f"{number} {value}\n" for number, value in told))
-    print(len(told), "sheets,", len(stream), "bytes,", dict(sorted(Counter(number for number, _ in told).items())))
+    open(f"{CRATE}/stdout", "w").write("".join(f"{number} {value} {action}\n" for number, value, action in told))
+    print(len(told), "sheets,", len(stream), "bytes,", dict(sorted(Counter(number for number, *_ in told).items())))
 
 
 if __name__ == "__main__":

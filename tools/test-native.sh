@@ -54,8 +54,12 @@ tells "$made/accept_leaves_its_function" 0 pack --strict <"$made/accept_leaves_i
 tells samples/accept_leaves_its_function.contained.out 1 pack --contained <"$made/accept_leaves_its_function.sheet"
 tells samples/accept_leaves_its_function.contained.out 1 pack --strict --contained <"$made/accept_leaves_its_function.sheet"
 tells "$made/form_with_many_labels" 0 pack --strict --contained <"$made/form_with_many_labels.sheet"
+for name in refused_cut_string refused_too_deep refused_boolean_in_catch; do
+  samples/hex.sh "samples/$name.hex" >"$made/$name.sheet"
+  tells "samples/$name.plain.out" 1 pack <"$made/$name.sheet"
+done
 tells /dev/null 2 pack --other </dev/null 2>/dev/null
-say "the Rust example pack tells of five samples what it must, of four in strict mode and of three in contained mode too"
+say "the Rust example pack tells of eight samples what it must, of four in strict mode and of three in contained mode too"
 
 # The block of a sample, whole and without its last byte.
 sed 1d samples/end_in_the_middle.out | xxd -r -p >"$made/block"

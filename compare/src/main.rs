@@ -1,10 +1,10 @@
 //! `compare [SHEETS]` packs generated sheets of both editions by the C entry and by the oracle, a million unless told otherwise,
-//! each in every mode: number, value, block, and every byte that must keep its value. It steps through each sheet and each block
-//! by the C entry and by the oracle's plain stepper; a block must be clean. It prints counts by answer and mode, by edition, and
-//! the smallest sheet that is answered differently.
+//! each in every mode: number, value, action number, block, and every byte that must keep its value. It steps through each sheet
+//! and each block by the C entry and by the oracle's plain stepper; a block must be clean. It prints counts by answer and mode, by
+//! edition, and the smallest sheet that is answered differently.
 
-use merinovault::{Mode, pack, step};
-use oracle::answer::{self, Answer, number, value};
+use merinovault::{Mode, VALUE_LEN, raw};
+use oracle::answer::{self, Answer, action, number, value};
 use oracle::generate::{Family, questions};
 use oracle::sheet::{Edition, cut};
 use oracle::steps::{self, Stepped};
@@ -23,7 +23,7 @@ const MODES: [(&str, Mode, answer::Mode); 4] = [
     ),
 ];
 
-/// What the output holds before a call, and the bytes before and behind it.
+/// What the output and the value slice hold before a call, and the bytes before and behind the output.
 const FRESH: u8 = 0xA5;
 const GUARD: usize = 64;
 
@@ -37,6 +37,8 @@ struct Counts {
     editions: [u64; Edition::ALL.len()],
     /// By number, in each of the modes.
     answers: [[u64; MODES.len()]; 16],
+    /// Answers that give an action other than the first.
+    later: u64,
     /// Sheets and blocks that were stepped through, and those of them that are clean.
     stepped: u64,
     clean: u64,
@@ -60,6 +62,7 @@ impl Counts {
         for (column, (name, ours, theirs)) in MODES.into_iter().enumerate() {
             let theirs = oracle::pack::pack(sheet, theirs, room);
             self.answers[usize::from(number(&theirs))][column] += 1;
+            self.later += u64::from(action(&theirs) > 0);
             if let Some(what) = self.difference(sheet, ours, room, &theirs) {
                 self.differs(sheet, room, format!("{name}: {what}"));
             }
@@ -75,15 +78,16 @@ impl Counts {
     /// Steps through a sheet's bytes, or through its block, by the C entry and by the oracle's stepper. A block must be clean.
     fn compare_steps(&mut self, sheet: &[u8], room: usize, block: Option<&[u8]>) {
         let (name, bytes) = block.map_or(("sheet", sheet), |block| ("block", block));
-        let ours = step(bytes).map_err(|unclean| unclean.place);
-        let theirs = steps::step(bytes);
+        let ours = told_by(|value| raw::step(bytes, value));
+        let stepped = steps::step(bytes);
+        let theirs = told_of_steps(stepped);
         self.stepped += 1;
-        self.clean += u64::from(theirs.is_ok());
+        self.clean += u64::from(stepped.is_ok());
         if ours != theirs {
-            let what = format!("{}, not {}", told(ours), told(theirs));
+            let what = format!("{}, not {}", text(ours), text(theirs));
             self.differs(sheet, room, format!("stepping through the {name}: {what}"));
-        } else if block.is_some() && theirs.is_err() {
-            let what = format!("stepping through the block: {}, not clean", told(theirs));
+        } else if block.is_some() && stepped.is_err() {
+            let what = format!("stepping through the block: {}, not clean", text(theirs));
             self.differs(sheet, room, what);
         }
     }
@@ -108,13 +112,10 @@ impl Counts {
     ) -> Option<String> {
         self.output.clear();
         self.output.resize(room + 2 * GUARD, FRESH);
-        let ours = pack(sheet, mode, &mut self.output[GUARD..GUARD + room]);
-        let (n, v) = match &ours {
-            Ok(length) => (0, *length as i64),
-            Err(refusal) => (refusal.number(), refusal.value()),
-        };
-        if (n, v) != (u32::from(number(theirs)), value(theirs)) {
-            return Some(format!("{n} {v}, not {} {}", number(theirs), value(theirs)));
+        let out = &mut self.output[GUARD..GUARD + room];
+        let ours = told_by(|value| raw::pack(sheet, mode.strict, mode.contained, out, value));
+        if ours != told_of(theirs) {
+            return Some(format!("{}, not {}", text(ours), text(told_of(theirs))));
         }
         let block = theirs.as_deref().unwrap_or(&[]);
         let (before, rest) = self.output.split_at(GUARD);
@@ -125,6 +126,36 @@ impl Counts {
         let kept = before.iter().chain(behind).all(|b| *b == FRESH);
         (!kept).then(|| "a byte changed that must keep its value".to_string())
     }
+}
+
+/// Number, value and action number of an answer.
+type Told = (u32, i64, i64);
+
+/// By a C entry, which returns the number and fills a slice with the other two.
+fn told_by(entry: impl FnOnce(&mut [u8]) -> u32) -> Told {
+    let mut slice = [FRESH; VALUE_LEN];
+    let number = entry(&mut slice);
+    let (value, action) = slice.split_at(VALUE_LEN / 2);
+    let i64_of = |bytes: &[u8]| i64::from_le_bytes(bytes.try_into().expect("8 bytes"));
+    (number, i64_of(value), i64_of(action))
+}
+
+/// By the oracle.
+fn told_of(answer: &Answer) -> Told {
+    let number = u32::from(number(answer));
+    (number, value(answer), action(answer) as i64)
+}
+
+/// By the oracle's stepper. Stepping is of no action.
+fn told_of_steps(stepped: Stepped) -> Told {
+    match stepped {
+        Ok(steps) => (0, steps as i64, 0),
+        Err(place) => (13, place as i64, 0),
+    }
+}
+
+fn text((number, value, action): Told) -> String {
+    format!("{number} {value} of action {action}")
 }
 
 fn main() -> ExitCode {
@@ -149,7 +180,10 @@ fn main() -> ExitCode {
     }
     println!("random families: seeds {SEED} to {}", seed - 1);
     print_answers(&counts.answers);
-    println!("each sheet was packed in every mode");
+    println!(
+        "each sheet was packed in every mode; {} answers give an action other than the first",
+        counts.later
+    );
     let [one, two] = counts.editions;
     println!("{one} sheets have a good trailer of edition 1, {two} of edition 2");
     println!(
@@ -166,14 +200,6 @@ fn main() -> ExitCode {
     let hex: Vec<String> = sheet.iter().map(|b| format!("{b:02X}")).collect();
     println!("smallest, at room {room}: {what}\n{}", hex.join(" "));
     ExitCode::FAILURE
-}
-
-/// Number and value of an answer of stepping.
-fn told(stepped: Stepped) -> String {
-    match stepped {
-        Ok(steps) => format!("0 {steps}"),
-        Err(place) => format!("13 {place}"),
-    }
 }
 
 /// A line for each number that was met.

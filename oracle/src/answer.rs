@@ -1,4 +1,4 @@
-//! The answers of documents 01 and 02: number and value of each; and the modes in which a sheet is packed.
+//! The answers of documents 01 and 02: number, value and action number of each; and the modes in which a sheet is packed.
 
 /// Document 02's modes of packing.
 #[derive(Clone, Copy, Debug, Eq, PartialEq)]
@@ -51,19 +51,19 @@ pub enum Fault {
     LeftOver,
 }
 
-/// 1 to 12, 14 and 15, with what their values are made of.
+/// 1 to 12, 14 and 15, with what their values are made of; behind that, in 3 to 10, 14 and 15, the action's number.
 #[derive(Clone, Copy, Debug, Eq, PartialEq)]
 pub enum Refusal {
     SheetTooLong(usize),
     BadTrailer,
-    Reading(Fault, usize),
-    ActionLenOverflow(usize),
-    BlockLenOverflow(usize),
-    JumpOffsetOverflow(isize),
+    Reading(Fault, usize, usize),
+    ActionLenOverflow(usize, usize),
+    BlockLenOverflow(usize, usize),
+    JumpOffsetOverflow(isize, usize),
     NoRoom(usize),
     InputFull(usize),
-    NeverRecorded(usize),
-    StrayBranch(usize),
+    NeverRecorded(usize, usize),
+    StrayBranch(usize, usize),
 }
 
 /// Done with the block, or a refusal.
@@ -74,33 +74,49 @@ impl Refusal {
         match self {
             Refusal::SheetTooLong(_) => 1,
             Refusal::BadTrailer => 2,
-            Refusal::Reading(Fault::CutShort, _) => 3,
-            Refusal::Reading(Fault::UnknownCode, _) => 4,
-            Refusal::Reading(Fault::BadField, _) => 5,
-            Refusal::Reading(Fault::TooDeep, _) => 6,
-            Refusal::Reading(Fault::LeftOver, _) => 7,
-            Refusal::ActionLenOverflow(_) => 8,
-            Refusal::BlockLenOverflow(_) => 9,
-            Refusal::JumpOffsetOverflow(_) => 10,
+            Refusal::Reading(Fault::CutShort, ..) => 3,
+            Refusal::Reading(Fault::UnknownCode, ..) => 4,
+            Refusal::Reading(Fault::BadField, ..) => 5,
+            Refusal::Reading(Fault::TooDeep, ..) => 6,
+            Refusal::Reading(Fault::LeftOver, ..) => 7,
+            Refusal::ActionLenOverflow(..) => 8,
+            Refusal::BlockLenOverflow(..) => 9,
+            Refusal::JumpOffsetOverflow(..) => 10,
             Refusal::NoRoom(_) => 11,
             Refusal::InputFull(_) => 12,
-            Refusal::NeverRecorded(_) => 14,
-            Refusal::StrayBranch(_) => 15,
+            Refusal::NeverRecorded(..) => 14,
+            Refusal::StrayBranch(..) => 15,
         }
     }
 
     pub fn value(self) -> i64 {
         match self {
             Refusal::BadTrailer => 0,
-            Refusal::JumpOffsetOverflow(distance) => distance as i64,
+            Refusal::JumpOffsetOverflow(distance, _) => distance as i64,
             Refusal::SheetTooLong(n)
-            | Refusal::Reading(_, n)
-            | Refusal::ActionLenOverflow(n)
-            | Refusal::BlockLenOverflow(n)
+            | Refusal::Reading(_, n, _)
+            | Refusal::ActionLenOverflow(n, _)
+            | Refusal::BlockLenOverflow(n, _)
             | Refusal::NoRoom(n)
             | Refusal::InputFull(n)
-            | Refusal::NeverRecorded(n)
-            | Refusal::StrayBranch(n) => n as i64,
+            | Refusal::NeverRecorded(n, _)
+            | Refusal::StrayBranch(n, _) => n as i64,
+        }
+    }
+
+    /// The number of the action, counted from 0 in sheet order through all bodies.
+    pub fn action(self) -> usize {
+        match self {
+            Refusal::SheetTooLong(_)
+            | Refusal::BadTrailer
+            | Refusal::NoRoom(_)
+            | Refusal::InputFull(_) => 0,
+            Refusal::Reading(_, _, action)
+            | Refusal::ActionLenOverflow(_, action)
+            | Refusal::BlockLenOverflow(_, action)
+            | Refusal::JumpOffsetOverflow(_, action)
+            | Refusal::NeverRecorded(_, action)
+            | Refusal::StrayBranch(_, action) => action,
         }
     }
 }
@@ -116,4 +132,9 @@ pub fn value(answer: &Answer) -> i64 {
         Ok(block) => block.len() as i64,
         Err(refusal) => refusal.value(),
     }
+}
+
+/// The answer's action number; Done's is 0.
+pub fn action(answer: &Answer) -> usize {
+    answer.as_ref().map_or_else(|r| r.action(), |_| 0)
 }

@@ -1,6 +1,6 @@
-//! Where branches and label records stand in a block, reckoned from document 01's lengths over the tree of actions, and in which
-//! function bodies. What a mode refuses is judged by it, since the encoder knows no function around a label and does not tell
-//! which branches it left alone.
+//! Where branches and label records stand in a block, reckoned from document 01's lengths over the tree of actions, in which
+//! function bodies, and which of these lengths is too long first. What a mode refuses is judged by it, since the encoder knows no
+//! function around a label and does not tell which branches it left alone; so is which action is refused, which it does not tell.
 
 use crate::answer::{Mode, Refusal};
 use crate::internal::as2_pcode::{Action, Actions, CatchTarget, PushValue};
@@ -9,6 +9,8 @@ use std::collections::HashMap;
 /// An opcode from 80 on and its payload length.
 const HEADER: usize = 3;
 const OPERAND: usize = 2;
+/// Of a payload, and of a body inside an action.
+const LONGEST: usize = 65_535;
 
 /// Where a branch's operand or a label's record stands.
 #[derive(Clone, Copy, Default)]
@@ -19,15 +21,25 @@ struct Spot {
     function: usize,
 }
 
-/// What a walk in writing order has met.
+/// A branch: its operand, its label, and the number of the action.
+struct Branch<'a> {
+    operand: Spot,
+    label: &'a str,
+    action: usize,
+}
+
+/// What a walk in writing order has met. That is sheet order too: an action comes before those in its bodies.
 #[derive(Default)]
 pub struct Walk<'a> {
     /// Where it stands.
     now: Spot,
+    /// How many actions have begun, in all bodies.
+    actions: usize,
     /// How many function bodies have begun, the main block left out.
     functions: usize,
-    /// Each branch's operand, and its label.
-    branches: Vec<(Spot, &'a str)>,
+    /// The first payload or body that is too long.
+    too_long: Option<Refusal>,
+    branches: Vec<Branch<'a>>,
     /// The last record of each label.
     records: HashMap<&'a str, Spot>,
 }
@@ -41,21 +53,26 @@ impl<'a> Walk<'a> {
         walk
     }
 
-    /// The first branch that is too far; in strict mode, that has no record; in contained mode, that leaves its function body.
+    /// The first length that is too long. Then the first branch that is too far; in strict mode, that has no record; in contained
+    /// mode, that leaves its function body.
     pub fn judge(&self, mode: Mode) -> Result<(), Refusal> {
-        for (operand, label) in &self.branches {
-            let Some(record) = self.records.get(label) else {
+        if let Some(refusal) = self.too_long {
+            return Err(refusal);
+        }
+        for branch in &self.branches {
+            let (operand, action) = (&branch.operand, branch.action);
+            let Some(record) = self.records.get(branch.label) else {
                 if mode.strict {
-                    return Err(Refusal::NeverRecorded(operand.position));
+                    return Err(Refusal::NeverRecorded(operand.position, action));
                 }
                 continue;
             };
             if mode.contained && record.function != operand.function {
-                return Err(Refusal::StrayBranch(operand.position));
+                return Err(Refusal::StrayBranch(operand.position, action));
             }
             let distance = distance(operand, record);
             if i16::try_from(distance).is_err() {
-                return Err(Refusal::JumpOffsetOverflow(distance));
+                return Err(Refusal::JumpOffsetOverflow(distance, action));
             }
         }
         Ok(())
@@ -64,7 +81,7 @@ impl<'a> Walk<'a> {
     /// Holds the walk against a block of the encoder: its length, and where each branch stands with which distance.
     pub fn assert_wrote(&self, block: &[u8]) {
         assert_eq!(self.now.position, block.len());
-        for (operand, label) in &self.branches {
+        for Branch { operand, label, .. } in &self.branches {
             let record = self.records.get(label);
             let distance = record.map_or(0, |record| distance(operand, record));
             let distance = i16::try_from(distance).expect("a distance that the encoder took");
@@ -94,22 +111,44 @@ impl<'a> Walk<'a> {
         }
     }
 
+    /// A payload is tested before the bodies; bodies, of which only Try has several, after all of them.
     fn action(&mut self, action: &'a Action) {
+        let number = self.actions;
+        self.actions += 1;
         if let Action::Jump(label) | Action::If(label) = action {
             let mut operand = self.now;
             operand.position += HEADER;
-            self.branches.push((operand, label));
+            self.branches.push(Branch {
+                operand,
+                label,
+                action: number,
+            });
         }
-        self.now.position += payload(action).map_or(1, |length| HEADER + length);
+        let payload = payload(action);
+        self.test(payload.unwrap_or(0), number, Refusal::ActionLenOverflow);
+        self.now.position += payload.map_or(1, |length| HEADER + length);
         let around = self.now.function;
         if let Action::DefineFunction { .. } | Action::DefineFunction2 { .. } = action {
             self.functions += 1;
             self.now.function = self.functions;
         }
+        let mut lengths = vec![];
         for body in bodies(action) {
+            let start = self.now.position;
             self.body(body);
+            lengths.push(self.now.position - start);
+        }
+        for length in lengths {
+            self.test(length, number, Refusal::BlockLenOverflow);
         }
         self.now.function = around;
+    }
+
+    /// Keeps the first length that is too long, with the action's number.
+    fn test(&mut self, length: usize, action: usize, refusal: fn(usize, usize) -> Refusal) {
+        if length > LONGEST {
+            self.too_long.get_or_insert(refusal(length, action));
+        }
     }
 }
 

@@ -99,7 +99,7 @@ fn room_for(sheet: &[u8], random: &mut Random) -> u32 {
 #[cfg(test)]
 mod tests {
     use super::*;
-    use crate::answer::number;
+    use crate::answer::{action, number};
     use crate::sheet::{Edition, cut, read};
     use std::collections::BTreeSet;
 
@@ -108,6 +108,8 @@ mod tests {
     struct Met {
         /// Numbers, in each of the modes.
         numbers: BTreeSet<[u8; 4]>,
+        /// Numbers that came with an action other than the first.
+        later: BTreeSet<u8>,
         /// Whether sheets of edition 1, and of edition 2, read whole.
         editions: [bool; 2],
         /// Whether a sheet of edition 2 does that would be 5 in edition 1.
@@ -118,8 +120,10 @@ mod tests {
         let mut met = Met::default();
         questions(family, 1, 40, &mut |question| {
             let mut sheet = question.sheet;
-            let number = |mode| number(&pack(&sheet, mode, question.room as usize));
-            met.numbers.insert(Mode::ALL.map(number));
+            let answers = Mode::ALL.map(|mode| pack(&sheet, mode, question.room as usize));
+            met.numbers.insert(answers.each_ref().map(number));
+            let later = answers.iter().filter(|answer| action(answer) > 0);
+            met.later.extend(later.map(number));
             let (Ok((_, edition)), Ok(_)) = (cut(&sheet), read(&sheet, b'y')) else {
                 return;
             };
@@ -133,7 +137,8 @@ mod tests {
     }
 
     /// What each family is made to meet: in all modes; in plain mode, where strict mode answers 14; there, where contained mode
-    /// answers 15. And sheets of both editions, with label numbers that edition 1 does not have.
+    /// answers 15. And sheets of both editions, with label numbers that edition 1 does not have; and every answer that gives an
+    /// action, also with one that is not the first.
     #[test]
     fn families_meet_their_answers() {
         type Due = &'static [u8];
@@ -164,6 +169,10 @@ mod tests {
             }
             for n in stray {
                 assert!(meets(2, *n, 15), "{family:?} {n} and 15: {numbers:?}");
+            }
+            let later = same.iter().filter(|n| (3..=10).contains(*n));
+            for n in later.chain(&[14, 15]) {
+                assert!(met.later.contains(n), "{family:?} {n}: {:?}", met.later);
             }
             assert_eq!(met.editions, [true; 2], "{family:?}");
             assert!(met.beyond_edition_1, "{family:?}");

@@ -82,6 +82,8 @@ mod tests {
         sheet[4] = 2;
         assert_eq!(text(&sheet, Mode::STRICT), "14 3\n");
         assert_eq!(text(&sheet, Mode::CONTAINED), "0 6\n99 02 00 00 00 00\n");
+        // the action's number is not printed
+        assert_eq!(print(&Err(Refusal::JumpOffsetOverflow(-5, 7))), "10 -5\n");
         let whole_lines = vec![0x0A; 32];
         let line = ["0A"; 16].join(" ");
         assert_eq!(print(&Ok(whole_lines)), format!("0 32\n{line}\n{line}\n"));

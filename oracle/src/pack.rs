@@ -5,16 +5,17 @@ use crate::branches::Walk;
 use crate::sheet;
 use crate::source::encoder::entry::{self, Overflow};
 
-/// Packs a sheet: 1 to 7 by our reader, 8 to 10 and the block by the encoder, 14 and 15 by our walk, 11 by the room.
+/// Packs a sheet: 1 to 7 by our reader, 8 to 10 and the block by the encoder, 14 and 15 by our walk, 11 by the room. The reader and
+/// the walk tell which action it is.
 ///
 /// The encoder takes strings of UTF-8 only, measures them and copies them. A sheet with others is packed twice, with
 /// the letter y and with the letter z for each of their bytes: the places where the two blocks differ are theirs, and
 /// they are put back there in order. No Rust stands behind those bytes, as document 01 says.
 pub fn pack(sheet: &[u8], mode: Mode, room: usize) -> Answer {
     let with_y = sheet::read(sheet, b'y')?;
-    let mut block = judged(&with_y, mode, encode(&with_y))?;
+    let mut block = judged(&with_y, mode)?;
     if !with_y.foreign.is_empty() {
-        let marked = encode(&sheet::read(sheet, b'z')?)?;
+        let marked = encode(&sheet::read(sheet, b'z')?).expect("a letter changes no length");
         put_back(&mut block, &marked, &with_y.foreign);
     }
     if block.len() <= room {
@@ -24,28 +25,36 @@ pub fn pack(sheet: &[u8], mode: Mode, room: usize) -> Answer {
     }
 }
 
-/// The block of a sheet that reads whole, or the overflow.
-pub fn encode(sheet: &sheet::Whole) -> Answer {
-    entry::encode(&sheet.actions).map_err(|overflow| match overflow {
-        Overflow::ActionLen(n) => Refusal::ActionLenOverflow(n),
-        Overflow::BlockLen(n) => Refusal::BlockLenOverflow(n),
-        Overflow::JumpOffset(n) => Refusal::JumpOffsetOverflow(n),
-    })
+/// The encoder's block of a sheet that reads whole, or its overflow.
+pub fn encode(sheet: &sheet::Whole) -> Result<Vec<u8>, Overflow> {
+    entry::encode(&sheet.actions)
 }
 
-/// What the encoder gave; or 14 or 15, if the mode refuses a branch that does not come behind the one that the encoder refused.
-/// The walk is first held against the encoder, so that what a mode refuses rests on a walk that agrees with it.
-fn judged(sheet: &sheet::Whole, mode: Mode, encoded: Answer) -> Answer {
-    if let Err(Refusal::ActionLenOverflow(_) | Refusal::BlockLenOverflow(_)) = encoded {
-        return encoded;
-    }
+/// The encoder's block; or its overflow, of the walk's action; or 14 or 15, if the mode refuses a branch that does not come behind
+/// the one that the encoder refused. The walk is first held against the encoder, so that what a mode refuses, and which action it
+/// is, rest on a walk that agrees with it.
+fn judged(sheet: &sheet::Whole, mode: Mode) -> Answer {
+    let encoded = encode(sheet);
     let walk = Walk::over(&sheet.actions);
-    match &encoded {
-        Ok(block) => walk.assert_wrote(block),
-        Err(refusal) => assert_eq!(walk.judge(Mode::PLAIN), Err(*refusal)),
+    let found = walk.judge(Mode::PLAIN);
+    assert_eq!(
+        found.map_err(|refusal| (refusal.number(), refusal.value())),
+        encoded.as_ref().map(|_| ()).map_err(number_and_value)
+    );
+    if let Ok(block) = &encoded {
+        walk.assert_wrote(block);
     }
     walk.judge(mode)?;
-    encoded
+    Ok(encoded.expect("plain mode takes what another mode takes"))
+}
+
+/// Document 01's number and value of an overflow.
+fn number_and_value(overflow: &Overflow) -> (u8, i64) {
+    match *overflow {
+        Overflow::ActionLen(n) => (8, n as i64),
+        Overflow::BlockLen(n) => (9, n as i64),
+        Overflow::JumpOffset(n) => (10, n as i64),
+    }
 }
 
 /// Puts the bytes back where the two blocks differ.

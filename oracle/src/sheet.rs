@@ -56,10 +56,13 @@ pub fn read(sheet: &[u8], letter: u8) -> Result<Whole, Refusal> {
         edition,
         letter: char::from(letter),
         foreign: Vec::new(),
+        begun: 0,
+        now: 0,
     };
     let actions = reader.body(1)?;
     if reader.at < reader.bytes.len() {
-        return Err(Refusal::Reading(Fault::LeftOver, reader.at));
+        reader.now = reader.begun;
+        return Err(reader.fault(Fault::LeftOver, reader.at));
     }
     Ok(Whole {
         actions,
@@ -92,18 +95,26 @@ struct Reader<'a> {
     edition: Edition,
     letter: char,
     foreign: Vec<u8>,
+    /// How many actions have begun, in all bodies: the opcode of each is read.
+    begun: usize,
+    /// The number of the action that a fault gives here.
+    now: usize,
 }
 
 type Read<T> = Result<T, Refusal>;
 
 impl Reader<'_> {
+    fn fault(&self, fault: Fault, place: usize) -> Refusal {
+        Refusal::Reading(fault, place, self.now)
+    }
+
     fn field<const N: usize>(&mut self) -> Read<[u8; N]> {
         match self.bytes[self.at..].first_chunk::<N>() {
             Some(field) => {
                 self.at += N;
                 Ok(*field)
             }
-            None => Err(Refusal::Reading(Fault::CutShort, self.at)),
+            None => Err(self.fault(Fault::CutShort, self.at)),
         }
     }
 
@@ -126,7 +137,7 @@ impl Reader<'_> {
         if within(value) {
             Ok(value)
         } else {
-            Err(Refusal::Reading(Fault::BadField, place))
+            Err(self.fault(Fault::BadField, place))
         }
     }
 
@@ -137,10 +148,10 @@ impl Reader<'_> {
     fn string(&mut self) -> Read<String> {
         let length = usize::from(self.u16()?);
         let Some(bytes) = self.bytes[self.at..].get(..length) else {
-            return Err(Refusal::Reading(Fault::CutShort, self.at));
+            return Err(self.fault(Fault::CutShort, self.at));
         };
         if let Some(nul) = bytes.iter().position(|&b| b == 0) {
-            return Err(Refusal::Reading(Fault::BadField, self.at + nul));
+            return Err(self.fault(Fault::BadField, self.at + nul));
         }
         self.at += length;
         Ok(match str::from_utf8(bytes) {
@@ -169,10 +180,13 @@ impl Reader<'_> {
         Ok(name(self.label(0)?))
     }
 
+    /// A body that is too deep gives its owner, which is still being read: of a Try's bodies it is the first. A fault in entries or
+    /// counts gives the action that would come next.
     fn body(&mut self, depth: u32) -> Read<Actions> {
         if depth > DEEPEST {
-            return Err(Refusal::Reading(Fault::TooDeep, self.at));
+            return Err(self.fault(Fault::TooDeep, self.at));
         }
+        self.now = self.begun;
         let mut body = Actions::empty();
         let mut least = 0;
         for _ in 0..self.u16()? {
@@ -188,10 +202,13 @@ impl Reader<'_> {
         Ok(body)
     }
 
-    /// An action of a body at this depth.
+    /// An action of a body at this depth. It has its number from before its opcode, which may be missing.
     fn action(&mut self, depth: u32) -> Read<Action> {
+        self.now = self.begun;
         let place = self.at;
-        Ok(match self.u8()? {
+        let opcode = self.u8()?;
+        self.begun += 1;
+        Ok(match opcode {
             0x81 => Action::GotoFrame(self.u16()?),
             0x83 => Action::GetUrl {
                 url: self.string()?,
@@ -228,7 +245,7 @@ impl Reader<'_> {
                 scene_bias: self.u16()?,
                 play: self.flag()?,
             },
-            opcode => bare(opcode).ok_or(Refusal::Reading(Fault::UnknownCode, place))?,
+            _ => bare(opcode).ok_or(self.fault(Fault::UnknownCode, place))?,
         })
     }
 
@@ -294,7 +311,7 @@ impl Reader<'_> {
             6 => PushValue::Float(f64::from_bits(u64::from_le_bytes(self.field()?))),
             7 => PushValue::Integer(i32::from_le_bytes(self.field()?)),
             8 => PushValue::Constant(self.u16()?),
-            _ => return Err(Refusal::Reading(Fault::UnknownCode, place)),
+            _ => return Err(self.fault(Fault::UnknownCode, place)),
         })
     }
 }

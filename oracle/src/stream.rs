@@ -1,8 +1,8 @@
 //! Sheets and answers as streams of records; numbers are little-endian.
 //! A question: u32 length, the sheet, u32 room, u8 mode (bit 0 is strict, bit 1 contained). An answer: u8 number, i64 value,
-//! u32 length, the block (empty unless Done).
+//! u32 action number, u32 length, the block (empty unless Done).
 
-use crate::answer::{Answer, Mode, number, value};
+use crate::answer::{Answer, Mode, action, number, value};
 use std::io::{self, Read, Write};
 
 pub struct Question {
@@ -45,12 +45,17 @@ pub fn write_answer(answer: &Answer, to: &mut impl Write) -> io::Result<()> {
     let block = answer.as_deref().unwrap_or(&[]);
     to.write_all(&[number(answer)])?;
     to.write_all(&value(answer).to_le_bytes())?;
+    to.write_all(&u32_of(action(answer)))?;
     to.write_all(&length_of(block))?;
     to.write_all(block)
 }
 
 fn length_of(bytes: &[u8]) -> [u8; 4] {
-    u32::try_from(bytes.len())
+    u32_of(bytes.len())
+}
+
+fn u32_of(n: usize) -> [u8; 4] {
+    u32::try_from(n)
         .expect("a record of under 4 GiB")
         .to_le_bytes()
 }
@@ -85,15 +90,17 @@ mod tests {
     }
 
     #[test]
-    fn answers_are_number_value_and_block() {
+    fn answers_are_number_value_action_and_block() {
         let written = |answer| {
             let mut bytes = vec![];
             write_answer(&answer, &mut bytes).expect("a Vec takes all");
             bytes
         };
-        let done = [0, 2, 0, 0, 0, 0, 0, 0, 0, 2, 0, 0, 0, 6, 0];
+        let done = [0, 2, 0, 0, 0, 0, 0, 0, 0, 0, 0, 0, 0, 2, 0, 0, 0, 6, 0];
         assert_eq!(written(Ok(vec![6, 0])), done);
-        let far = [10, 254, 255, 255, 255, 255, 255, 255, 255, 0, 0, 0, 0];
-        assert_eq!(written(Err(Refusal::JumpOffsetOverflow(-2))), far);
+        let far = [
+            10, 254, 255, 255, 255, 255, 255, 255, 255, 3, 1, 0, 0, 0, 0, 0, 0,
+        ];
+        assert_eq!(written(Err(Refusal::JumpOffsetOverflow(-2, 259))), far);
     }
 }

@@ -1,7 +1,7 @@
 //! Packs sheets of ActionScript 2 actions into the blocks of bytes that a player reads, and steps through blocks.
 //!
-//! The work is done by the proved archive `libmerinovault.a`; this crate only calls it. Answers have the names, numbers and values
-//! of documents 01 and 02.
+//! The work is done by the proved archive `libmerinovault.a`; this crate only calls it. Answers have the names, numbers, values and
+//! action numbers of documents 01 and 02.
 //!
 //! ```
 //! use merinovault::{Mode, Refusal, pack, step};
@@ -16,7 +16,7 @@
 //! // Label 0 past the body's end, which is no record: the Jump goes on with what stands after it, or is refused.
 //! sheet[4] = 2;
 //! assert_eq!(pack(&sheet, Mode::PLAIN, &mut out), Ok(6));
-//! assert_eq!(pack(&sheet, Mode::STRICT, &mut out), Err(Refusal::NeverRecorded { operand: 3 }));
+//! assert_eq!(pack(&sheet, Mode::STRICT, &mut out), Err(Refusal::NeverRecorded { operand: 3, action: 0 }));
 //! # Ok::<(), Refusal>(())
 //! ```
 #![deny(unsafe_code, missing_docs)]
@@ -26,8 +26,8 @@ mod refusal;
 
 pub use refusal::{Refusal, Unclean};
 
-/// The length of the value slice that the entries fill.
-pub const VALUE_LEN: usize = 8;
+/// The length of the value slice that the entries fill: 8 bytes of the value, then 8 of the action number.
+pub const VALUE_LEN: usize = 16;
 
 const DONE: u32 = 0;
 
@@ -85,17 +85,17 @@ impl Mode {
 /// assert_eq!(pack(&sheet, Mode::PLAIN, &mut [0; 64]), Ok(6));
 /// // In edition 1 the label's number is out of range, and there is no edition 3.
 /// sheet[15] = 1;
-/// assert_eq!(pack(&sheet, Mode::PLAIN, &mut [0; 64]), Err(Refusal::BadField { place: 2 }));
+/// assert_eq!(pack(&sheet, Mode::PLAIN, &mut [0; 64]), Err(Refusal::BadField { place: 2, action: 0 }));
 /// sheet[15] = 3;
 /// assert_eq!(pack(&sheet, Mode::PLAIN, &mut [0; 64]), Err(Refusal::BadTrailer));
 /// ```
 pub fn pack(sheet: &[u8], mode: Mode, out: &mut [u8]) -> Result<usize, Refusal> {
     let mut value = [0; VALUE_LEN];
     let number = raw::pack(sheet, mode.strict, mode.contained, out, &mut value);
-    let value = i64::from_le_bytes(value);
+    let (value, action) = told(value);
     match number {
         DONE => Ok(length(value)),
-        _ => Err(Refusal::new(number, value)),
+        _ => Err(Refusal::new(number, value, action)),
     }
 }
 
@@ -117,12 +117,20 @@ pub fn pack(sheet: &[u8], mode: Mode, out: &mut [u8]) -> Result<usize, Refusal> 
 pub fn step(block: &[u8]) -> Result<usize, Unclean> {
     let mut value = [0; VALUE_LEN];
     let number = raw::step(block, &mut value);
-    let value = length(i64::from_le_bytes(value));
+    let value = length(told(value).0);
     match number {
         DONE => Ok(value),
         Unclean::NUMBER => Err(Unclean { place: value }),
         _ => unreachable!("stepping answers 0 or 13, not {number}"),
     }
+}
+
+/// The value and the action number that fill a value slice.
+fn told(slice: [u8; VALUE_LEN]) -> (i64, u64) {
+    let (value, action) = slice.split_at(VALUE_LEN / 2);
+    let number = |bytes: &[u8]| i64::from_le_bytes(bytes.try_into().expect("8 bytes"));
+    let action = u64::try_from(number(action)).expect("an action number is not negative");
+    (number(value), action)
 }
 
 /// A value that counts bytes or steps.

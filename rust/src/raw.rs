@@ -1,5 +1,6 @@
-//! The entries of the archive as they are: the answer's number is returned, and the value fills a lent slice of 8 bytes as a
-//! little-endian i64. A value slice of another length is answered 11 before everything else, and nothing is written.
+//! The entries of the archive as they are: the answer's number is returned, and a lent slice of 16 bytes is filled with the value
+//! and then the action number, each a little-endian i64. Stepping's action number is always 0. A value slice of another length is
+//! answered 11 before everything else, and nothing is written.
 #![allow(unsafe_code)]
 
 mod entries {

@@ -4,7 +4,8 @@ use std::error::Error;
 use std::fmt;
 
 /// Why a sheet was not packed: answers 1 to 11 of document 01, and 14 and 15 of document 02. A place counts bytes from 0, the
-/// sheet's first.
+/// sheet's first. The number of an action is counted from 0 in sheet order through all bodies; an action comes before those in its
+/// bodies.
 #[derive(Clone, Copy, Debug, PartialEq, Eq, Hash)]
 #[non_exhaustive]
 pub enum Refusal {
@@ -19,41 +20,59 @@ pub enum Refusal {
     CutShort {
         /// Where the field begins.
         place: usize,
+        /// The number of the action being read, counted from 0 in sheet order through all bodies. Where the field is an opcode, or
+        /// one of a body's label entries or counts, it is the number that the next action would have had.
+        action: u64,
     },
     /// 4: an opcode, or a pushed value's kind, is not listed.
     UnknownCode {
         /// Where it stands.
         place: usize,
+        /// The number of the action whose opcode or pushed value it is, counted from 0 in sheet order through all bodies.
+        action: u64,
     },
     /// 5: a field is outside its range or order, or a string holds a zero byte. The range of label numbers is the edition's.
     BadField {
         /// Where the field begins; of a string, where its first zero byte stands.
         place: usize,
+        /// The number of the action being read, counted from 0 in sheet order through all bodies. Where the field is one of a body's
+        /// label entries, it is the number that the next action would have had.
+        action: u64,
     },
     /// 6: a body is at depth 17; the main body is at depth 1.
     TooDeep {
         /// Where the body begins.
         place: usize,
+        /// The number of the action that owns the body, counted from 0 in sheet order through all bodies.
+        action: u64,
     },
     /// 7: bytes stand between the main body and the trailer.
     LeftOver {
         /// Where the first of them stands.
         place: usize,
+        /// How many actions were read, in all bodies: the number that the next action would have had.
+        action: u64,
     },
     /// 8: an action's payload is over 65,535 bytes.
     ActionLenOverflow {
         /// The payload's length.
         length: usize,
+        /// The number of the action whose payload it is, counted from 0 in sheet order through all bodies.
+        action: u64,
     },
     /// 9: a body is over 65,535 bytes.
     BlockLenOverflow {
         /// The body's length.
         length: usize,
+        /// The number of the action that owns the body, counted from 0 in sheet order through all bodies.
+        action: u64,
     },
     /// 10: a branch's label is further than 32,767 bytes forward or 32,768 back.
     JumpOffsetOverflow {
         /// From the end of the branch to its label; negative is back.
         distance: i64,
+        /// The number of the branch among the actions, counted from 0 in sheet order through all bodies.
+        action: u64,
     },
     /// 11: the block is longer than the output.
     NoRoom {
@@ -64,19 +83,23 @@ pub enum Refusal {
     NeverRecorded {
         /// The byte position in the block at which the branch's operand would begin.
         operand: usize,
+        /// The number of the branch among the actions, counted from 0 in sheet order through all bodies.
+        action: u64,
     },
     /// 15: a branch's label is last recorded in another function body. Only contained mode refuses this.
     StrayBranch {
         /// The byte position in the block at which the branch's operand would begin.
         operand: usize,
+        /// The number of the branch among the actions, counted from 0 in sheet order through all bodies.
+        action: u64,
     },
 }
 
 use Refusal::*;
 
 impl Refusal {
-    /// The refusal with this number and value. The entry is proved to return no other number.
-    pub(crate) fn new(number: u32, value: i64) -> Self {
+    /// The refusal with this number, value and action number. The entry is proved to return no other number.
+    pub(crate) fn new(number: u32, value: i64, action: u64) -> Self {
         match number {
             1 => SheetTooLong {
                 length: length(value),
@@ -84,34 +107,46 @@ impl Refusal {
             2 => BadTrailer,
             3 => CutShort {
                 place: length(value),
+                action,
             },
             4 => UnknownCode {
                 place: length(value),
+                action,
             },
             5 => BadField {
                 place: length(value),
+                action,
             },
             6 => TooDeep {
                 place: length(value),
+                action,
             },
             7 => LeftOver {
                 place: length(value),
+                action,
             },
             8 => ActionLenOverflow {
                 length: length(value),
+                action,
             },
             9 => BlockLenOverflow {
                 length: length(value),
+                action,
             },
-            10 => JumpOffsetOverflow { distance: value },
+            10 => JumpOffsetOverflow {
+                distance: value,
+                action,
+            },
             11 => NoRoom {
                 needed: length(value),
             },
             14 => NeverRecorded {
                 operand: length(value),
+                action,
             },
             15 => StrayBranch {
                 operand: length(value),
+                action,
             },
             _ => unreachable!("packing answers 0 to 11, 14 or 15, not {number}"),
         }
@@ -159,17 +194,35 @@ impl Refusal {
     pub fn value(&self) -> i64 {
         match *self {
             BadTrailer => 0,
-            CutShort { place }
-            | UnknownCode { place }
-            | BadField { place }
-            | TooDeep { place }
-            | LeftOver { place } => place as i64,
+            CutShort { place, .. }
+            | UnknownCode { place, .. }
+            | BadField { place, .. }
+            | TooDeep { place, .. }
+            | LeftOver { place, .. } => place as i64,
             SheetTooLong { length }
-            | ActionLenOverflow { length }
-            | BlockLenOverflow { length } => length as i64,
-            JumpOffsetOverflow { distance } => distance,
+            | ActionLenOverflow { length, .. }
+            | BlockLenOverflow { length, .. } => length as i64,
+            JumpOffsetOverflow { distance, .. } => distance,
             NoRoom { needed } => needed as i64,
-            NeverRecorded { operand } | StrayBranch { operand } => operand as i64,
+            NeverRecorded { operand, .. } | StrayBranch { operand, .. } => operand as i64,
+        }
+    }
+
+    /// The number of the action that the refusal names, counted from 0 in sheet order through all bodies; each case tells which
+    /// action it is. `SheetTooLong`, `BadTrailer` and `NoRoom` name none: there the entry's action number is 0.
+    pub fn action(&self) -> Option<u64> {
+        match *self {
+            SheetTooLong { .. } | BadTrailer | NoRoom { .. } => None,
+            CutShort { action, .. }
+            | UnknownCode { action, .. }
+            | BadField { action, .. }
+            | TooDeep { action, .. }
+            | LeftOver { action, .. }
+            | ActionLenOverflow { action, .. }
+            | BlockLenOverflow { action, .. }
+            | JumpOffsetOverflow { action, .. }
+            | NeverRecorded { action, .. }
+            | StrayBranch { action, .. } => Some(action),
         }
     }
 }
@@ -184,37 +237,39 @@ impl fmt::Display for Refusal {
                 f,
                 "the sheet's last 8 bytes are no trailer: the distance back to the main body, edition 1 or 2 and the mark 41 31"
             ),
-            CutShort { place } => write!(
+            // "At" is true of the action being read and of the one that would have come next.
+            CutShort { place, action } => write!(
                 f,
-                "byte {place} of the sheet: the field that begins here would reach into the trailer"
+                "at action {action}, byte {place} of the sheet: the field that begins here would reach into the trailer"
             ),
-            UnknownCode { place } => write!(
+            UnknownCode { place, action } => write!(
                 f,
-                "byte {place} of the sheet: no action or pushed value has this code"
+                "at action {action}, byte {place} of the sheet: no action or pushed value has this code"
             ),
-            BadField { place } => write!(
+            BadField { place, action } => write!(
                 f,
-                "byte {place} of the sheet: this field is outside its range or order, or is a zero byte in a string"
+                "at action {action}, byte {place} of the sheet: this field is outside its range or order, or is a zero byte in a string"
             ),
-            TooDeep { place } => write!(
+            TooDeep { place, action } => write!(
                 f,
-                "byte {place} of the sheet: the body that begins here is at depth 17; the main body is at depth 1, and 16 is the deepest"
+                "action {action}, byte {place} of the sheet: the body that begins here is at depth 17; the main body is at depth 1, and 16 is the deepest"
             ),
-            LeftOver { place } => write!(
+            LeftOver { place, action } => write!(
                 f,
-                "byte {place} of the sheet: the main body is over, and this byte is not yet the trailer"
+                "after {action} action{}, byte {place} of the sheet: the main body is over, and this byte is not yet the trailer",
+                if action == 1 { "" } else { "s" }
             ),
-            ActionLenOverflow { length } => write!(
+            ActionLenOverflow { length, action } => write!(
                 f,
-                "an action's payload is {length} bytes long; at most 65535 can be written"
+                "action {action}: its payload is {length} bytes long; at most 65535 can be written"
             ),
-            BlockLenOverflow { length } => write!(
+            BlockLenOverflow { length, action } => write!(
                 f,
-                "a body is {length} bytes long; at most 65535 can be written"
+                "action {action}: its body is {length} bytes long; at most 65535 can be written"
             ),
-            JumpOffsetOverflow { distance } => write!(
+            JumpOffsetOverflow { distance, action } => write!(
                 f,
-                "the label is {} bytes {} from the branch; a branch reaches at most 32767 bytes forward and 32768 back",
+                "action {action}: the label is {} bytes {} from the branch; a branch reaches at most 32767 bytes forward and 32768 back",
                 distance.unsigned_abs(),
                 if distance < 0 { "back" } else { "forward" }
             ),
@@ -222,13 +277,13 @@ impl fmt::Display for Refusal {
                 f,
                 "the block needs {needed} bytes, more than the output has"
             ),
-            NeverRecorded { operand } => write!(
+            NeverRecorded { operand, action } => write!(
                 f,
-                "byte {operand} of the block: no body records the label of the branch whose operand begins here"
+                "action {action}, operand at byte {operand} of the block: no body records the label of this branch"
             ),
-            StrayBranch { operand } => write!(
+            StrayBranch { operand, action } => write!(
                 f,
-                "byte {operand} of the block: the branch whose operand begins here goes to a label in another function body"
+                "action {action}, operand at byte {operand} of the block: this branch goes to a label in another function body"
             ),
         }
     }

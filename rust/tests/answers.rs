@@ -3,28 +3,6 @@ mod common;
 use common::*;
 use merinovault::{Mode, Refusal, Unclean, pack, step};
 
-const ROOM: usize = 200_000;
-
-/// The refusal in this mode, with its number and value held to the documents'.
-fn refused_in(mode: Mode, sheet: &[u8], number: u32, value: i64) -> Refusal {
-    let refusal = packed(sheet, mode, ROOM).expect_err("a refusal");
-    assert_eq!(
-        (refusal.number(), refusal.value()),
-        (number, value),
-        "{refusal:?}"
-    );
-    // What is wrong with a sheet comes before the room.
-    assert_eq!(packed(sheet, mode, 0), Err(refusal));
-    refusal
-}
-
-/// The refusal, which is the same in every mode.
-fn refused(sheet: &[u8], number: u32, value: i64) -> Refusal {
-    let refusals = MODES.map(|mode| refused_in(mode, sheet, number, value));
-    assert_eq!(refusals, [refusals[0]; 4]);
-    refusals[0]
-}
-
 /// The block in plain mode.
 fn taken_plain(sheet: &[u8]) -> Vec<u8> {
     packed(sheet, Mode::PLAIN, ROOM).expect("a block")
@@ -69,7 +47,7 @@ fn sheet_too_long() {
     let of = |length: usize| sheet_with_note(&vec![b'n'; length - 8 - main.len()], main);
     assert_eq!(taken(&of(1_048_576)), *block);
     assert_eq!(
-        refused(&of(1_048_577), 1, 1_048_577),
+        refused(&of(1_048_577), 1, 1_048_577, 0),
         Refusal::SheetTooLong { length: 1_048_577 }
     );
 }
@@ -90,55 +68,69 @@ fn bad_trailer() {
         edited(11, 0),
         edited(4, 5),
     ] {
-        assert_eq!(refused(&sheet, 2, 0), Refusal::BadTrailer);
+        assert_eq!(refused(&sheet, 2, 0, 0), Refusal::BadTrailer);
     }
     // editions 0 and 3, and others that have the bytes of 1 or 2
     for edition in [0, 3, 4, 255, 256, 257, 258, 512, 65_535] {
         for main in [body(&[], &[]), body(&[(4095, 0)], &[&jump(4095)])] {
             let sheet = sheet_in(edition, b"a note", &main);
-            assert_eq!(refused(&sheet, 2, 0), Refusal::BadTrailer);
+            assert_eq!(refused(&sheet, 2, 0, 0), Refusal::BadTrailer);
         }
     }
 }
 
 #[test]
 fn cut_short() {
-    assert_eq!(refused(&sheet(&[]), 3, 0), Refusal::CutShort { place: 0 });
-    let main = [&[0, 0, 1, 0, 0x8B][..], &string(5)[..4]].concat();
-    assert_eq!(refused(&sheet(&main), 3, 7), Refusal::CutShort { place: 7 });
+    let cut = |place, action| Refusal::CutShort { place, action };
+    assert_eq!(refused(&sheet(&[]), 3, 0, 0), cut(0, 0));
+    let main = [&[0, 0, 2, 0, 0x17, 0x8B][..], &string(5)[..4]].concat();
+    assert_eq!(refused(&sheet(&main), 3, 8, 1), cut(8, 1));
     // a place counts the note too
-    assert_eq!(
-        refused(&sheet_with_note(&[0; 10], &main), 3, 17),
-        Refusal::CutShort { place: 17 }
-    );
+    let noted = sheet_with_note(&[0; 10], &main);
+    assert_eq!(refused(&noted, 3, 18, 1), cut(18, 1));
 }
 
 #[test]
 fn unknown_code() {
     assert_eq!(
-        refused(&sheet(&body(&[], &[POP, &[0x98]])), 4, 5),
-        Refusal::UnknownCode { place: 5 }
+        refused(&sheet(&body(&[], &[POP, &[0x98]])), 4, 5, 1),
+        Refusal::UnknownCode {
+            place: 5,
+            action: 1
+        }
     );
     assert_eq!(
-        refused(&sheet(&body(&[], &[&[0x96, 1, 0, 9]])), 4, 7),
-        Refusal::UnknownCode { place: 7 }
+        refused(&sheet(&body(&[], &[&[0x96, 1, 0, 9]])), 4, 7, 0),
+        Refusal::UnknownCode {
+            place: 7,
+            action: 0
+        }
     );
 }
 
 #[test]
 fn bad_field() {
     assert_eq!(
-        refused(&sheet(&body(&[(1024, 0)], &[])), 5, 2),
-        Refusal::BadField { place: 2 }
+        refused(&sheet(&body(&[(1024, 0)], &[])), 5, 2, 0),
+        Refusal::BadField {
+            place: 2,
+            action: 0
+        }
     );
     assert_eq!(
-        refused(&sheet(&body(&[(3, 0), (3, 0)], &[])), 5, 6),
-        Refusal::BadField { place: 6 }
+        refused(&sheet(&body(&[(3, 0), (3, 0)], &[])), 5, 6, 0),
+        Refusal::BadField {
+            place: 6,
+            action: 0
+        }
     );
     let nul = [0x8B, 3, 0, b'a', 0, 0];
     assert_eq!(
-        refused(&sheet(&body(&[], &[&nul])), 5, 8),
-        Refusal::BadField { place: 8 }
+        refused(&sheet(&body(&[], &[POP, &nul])), 5, 9, 1),
+        Refusal::BadField {
+            place: 9,
+            action: 1
+        }
     );
 }
 
@@ -152,19 +144,17 @@ fn label_numbers_go_by_the_edition() {
         }
         for label in [last + 1, last + 2, 65_535] {
             // an entry and a branch, alone and behind one that is taken
-            let in_entry = Refusal::BadField { place: 2 };
-            assert_eq!(refused(&to_itself(label), 5, 2), in_entry);
-            refused(&of(&body(&[(last, 0), (label, 0)], &[])), 5, 6);
-            let in_branch = of(&body(&[], &[&jump(label)]));
-            assert_eq!(refused(&in_branch, 5, 5), Refusal::BadField { place: 5 });
+            refused(&to_itself(label), 5, 2, 0);
+            refused(&of(&body(&[(last, 0), (label, 0)], &[])), 5, 6, 0);
+            refused(&of(&body(&[], &[&jump(label)])), 5, 5, 0);
             let inside = with(&body(&[(label, 0)], &[]));
-            refused(&of(&body(&[(last, 0)], &[&jump(last), &inside])), 5, 14);
+            refused(&of(&body(&[(last, 0)], &[&jump(last), &inside])), 5, 14, 2);
         }
     }
     // no number from 1,024 on is one of edition 1
     for label in [1024, 2048, 4095] {
         let main = body(&[(label, 0)], &[&jump(label)]);
-        refused(&sheet_in(1, &[], &main), 5, 2);
+        refused(&sheet_in(1, &[], &main), 5, 2, 0);
         taken(&sheet_in(2, &[], &main));
     }
 }
@@ -201,15 +191,12 @@ fn every_label_of_edition_2_is_its_own() {
         let mut due = due.clone();
         due[operand..operand + 2].fill(0);
         assert!(taken_plain(&sheet) == due, "another block");
-        let refusal = refused_in(Mode::STRICT, &sheet, 14, operand as i64);
-        assert_eq!(refusal, Refusal::NeverRecorded { operand });
+        let action = lost as u64;
+        let refusal = refused_in(Mode::STRICT, &sheet, 14, operand as i64, action);
+        assert_eq!(refusal, Refusal::NeverRecorded { operand, action });
     }
     // as many in edition 1
-    let too_many = sheet(&body(&entries, &actions));
-    assert_eq!(
-        refused(&too_many, 5, 4098),
-        Refusal::BadField { place: 4098 }
-    );
+    refused(&sheet(&body(&entries, &actions)), 5, 4098, 0);
 }
 
 #[test]
@@ -218,15 +205,24 @@ fn too_deep() {
         |depth: usize| (1..depth).fold(body(&[], &[]), |inside, _| body(&[], &[&with(&inside)]));
     assert_eq!(taken(&sheet(&nested(16))).len(), 15 * 5 + 1);
     assert_eq!(
-        refused(&sheet(&nested(17)), 6, 80),
-        Refusal::TooDeep { place: 80 }
+        refused(&sheet(&nested(17)), 6, 80, 15),
+        Refusal::TooDeep {
+            place: 80,
+            action: 15
+        }
     );
 }
 
 #[test]
 fn left_over() {
     let main = [&body(&[], &[POP])[..], &[0xFF]].concat();
-    assert_eq!(refused(&sheet(&main), 7, 5), Refusal::LeftOver { place: 5 });
+    assert_eq!(
+        refused(&sheet(&main), 7, 5, 1),
+        Refusal::LeftOver {
+            place: 5,
+            action: 1
+        }
+    );
 }
 
 #[test]
@@ -234,8 +230,11 @@ fn action_len_overflow() {
     let of = |letters| sheet(&body(&[], &[&set_target(letters)]));
     assert_eq!(taken(&of(65_534)).len(), 65_539);
     assert_eq!(
-        refused(&of(65_535), 8, 65_536),
-        Refusal::ActionLenOverflow { length: 65_536 }
+        refused(&of(65_535), 8, 65_536, 0),
+        Refusal::ActionLenOverflow {
+            length: 65_536,
+            action: 0
+        }
     );
 }
 
@@ -245,8 +244,11 @@ fn block_len_overflow() {
     assert_eq!(taken(&of(&[POP; 65_535])).len(), 65_541);
     let over = [&[CALL][..], &[POP; 65_533]].concat();
     assert_eq!(
-        refused(&of(&over), 9, 65_536),
-        Refusal::BlockLenOverflow { length: 65_536 }
+        refused(&of(&over), 9, 65_536, 0),
+        Refusal::BlockLenOverflow {
+            length: 65_536,
+            action: 0
+        }
     );
 }
 
@@ -262,13 +264,19 @@ fn jump_offset_overflow() {
     let back = |pops: usize| sheet(&body(&[(0, 0)], &[&vec![POP; pops][..], &[&jump]].concat()));
     assert_eq!(taken(&forward(32_767))[..5], [0x99, 2, 0, 0xFF, 0x7F]);
     assert_eq!(
-        refused(&forward(32_768), 10, 32_768),
-        Refusal::JumpOffsetOverflow { distance: 32_768 }
+        refused(&forward(32_768), 10, 32_768, 0),
+        Refusal::JumpOffsetOverflow {
+            distance: 32_768,
+            action: 0
+        }
     );
     assert_eq!(taken(&back(32_763))[32_763..], [0x99, 2, 0, 0x00, 0x80, 0]);
     assert_eq!(
-        refused(&back(32_764), 10, -32_769),
-        Refusal::JumpOffsetOverflow { distance: -32_769 }
+        refused(&back(32_764), 10, -32_769, 32_764),
+        Refusal::JumpOffsetOverflow {
+            distance: -32_769,
+            action: 32_764
+        }
     );
 }
 
@@ -281,6 +289,7 @@ fn no_room() {
                 let refusal = packed(&sheet(&main), mode, room).expect_err("a refusal");
                 assert_eq!(refusal, Refusal::NoRoom { needed });
                 assert_eq!((refusal.number(), refusal.value()), (11, needed as i64));
+                assert_eq!(refusal.action(), None);
             }
         }
     }
@@ -288,12 +297,13 @@ fn no_room() {
 
 /// The modes with a flag refuse the sheet of this main body so, the others take it.
 fn refused_where(flag: fn(Mode) -> bool, main: &[u8], number: u32, refusal: Refusal) {
+    let action = refusal.action().expect("an action");
     // The position is the block's: a note does not move it.
     for sheet in [sheet(main), sheet_with_note(b"a note", main)] {
         let block = taken_plain(&sheet);
         for mode in MODES {
             if flag(mode) {
-                let told = refused_in(mode, &sheet, number, refusal.value());
+                let told = refused_in(mode, &sheet, number, refusal.value(), action);
                 assert_eq!(told, refusal);
             } else {
                 assert_eq!(packed(&sheet, mode, ROOM), Ok(block.clone()));
@@ -302,32 +312,34 @@ fn refused_where(flag: fn(Mode) -> bool, main: &[u8], number: u32, refusal: Refu
     }
 }
 
-/// Strict mode refuses the sheet of this main body at this operand. Plain mode takes it and gives that branch distance 0.
-fn never_recorded(main: &[u8], operand: usize) {
-    let refusal = Refusal::NeverRecorded { operand };
+/// Strict mode refuses the sheet of this main body at this operand, of this action. Plain mode takes it and gives that branch
+/// distance 0.
+fn never_recorded(main: &[u8], operand: usize, action: u64) {
+    let refusal = Refusal::NeverRecorded { operand, action };
     refused_where(|mode| mode.strict, main, 14, refusal);
     assert_eq!(taken_plain(&sheet(main))[operand..operand + 2], [0, 0]);
 }
 
-/// Contained mode refuses the sheet of this main body at this operand.
-fn stray(main: &[u8], operand: usize) {
-    let refusal = Refusal::StrayBranch { operand };
+/// Contained mode refuses the sheet of this main body at this operand, of this action.
+fn stray(main: &[u8], operand: usize, action: u64) {
+    let refusal = Refusal::StrayBranch { operand, action };
     refused_where(|mode| mode.contained, main, 15, refusal);
 }
 
 #[test]
 fn never_recorded_branches() {
-    never_recorded(&p7(), 3);
+    never_recorded(&p7(), 3, 0);
     // Jump and If, without an entry; of two branches the first, behind one that has its record
-    never_recorded(&body(&[], &[&jump(0)]), 3);
-    never_recorded(&body(&[(1, 0)], &[CALL, &[0x9D, 0, 0]]), 6);
-    never_recorded(&body(&[(5, 0)], &[&jump(5), &jump(6), &jump(7)]), 8);
+    never_recorded(&body(&[], &[&jump(0)]), 3, 0);
+    never_recorded(&body(&[(1, 0)], &[CALL, &[0x9D, 0, 0]]), 6, 1);
+    never_recorded(&body(&[(5, 0)], &[&jump(5), &jump(6), &jump(7)]), 8, 1);
     // in a body, which also has the only entry, past its end
     let inside = body(&[(3, 2)], &[&jump(3)]);
-    never_recorded(&body(&[], &[POP, &with(&inside)]), 9);
+    never_recorded(&body(&[], &[POP, &with(&inside)]), 9, 2);
     // in the last body of a Try
     let (empty, last) = (body(&[], &[]), body(&[], &[&jump(1023)]));
-    never_recorded(&body(&[(1022, 0)], &[&attempt(&empty, &empty, &last)]), 15);
+    let main = body(&[(1022, 0)], &[&attempt(&empty, &empty, &last)]);
+    never_recorded(&main, 15, 1);
 }
 
 #[test]
@@ -356,9 +368,9 @@ fn the_first_branch_decides_between_10_and_14() {
         let actions = [&[first, second][..], &pops].concat();
         sheet(&body(&[(0, actions.len())], &actions))
     };
-    refused(&of(&far, &lost), 10, 32_773);
-    refused_in(Mode::STRICT, &of(&lost, &far), 14, 3);
-    refused_in(Mode::PLAIN, &of(&lost, &far), 10, 32_768);
+    refused(&of(&far, &lost), 10, 32_773, 0);
+    refused_in(Mode::STRICT, &of(&lost, &far), 14, 3, 0);
+    refused_in(Mode::PLAIN, &of(&lost, &far), 10, 32_768, 1);
 }
 
 #[test]
@@ -366,20 +378,21 @@ fn stray_branches() {
     let records = body(&[(0, 0)], &[PLAY]);
     let branches = body(&[], &[&[0x9D, 0, 0]]);
     // into a function of either kind, and out of one
-    stray(&body(&[], &[&function(&records), &jump(0)]), 13);
-    stray(&body(&[], &[&function2(&records), &jump(0)]), 16);
-    stray(&body(&[(0, 0)], &[&function(&branches)]), 12);
-    stray(&body(&[(0, 0)], &[&function2(&branches)]), 15);
+    stray(&body(&[], &[&function(&records), &jump(0)]), 13, 2);
+    stray(&body(&[], &[&function2(&records), &jump(0)]), 16, 2);
+    stray(&body(&[(0, 0)], &[&function(&branches)]), 12, 1);
+    stray(&body(&[(0, 0)], &[&function2(&branches)]), 15, 1);
     // from one to another, and to the one around it
-    stray(&body(&[], &[&function(&branches), &function(&records)]), 12);
+    let two = [&function(&branches)[..], &function(&records)];
+    stray(&body(&[], &two), 12, 1);
     let outer = body(&[(0, 0)], &[&function(&branches)]);
-    stray(&body(&[], &[&function(&outer)]), 21);
+    stray(&body(&[], &[&function(&outer)]), 21, 2);
     // to its end, which is also where the branch stands
     let at_end = body(&[(0, 1)], &[PLAY]);
-    stray(&body(&[], &[&function(&at_end), &jump(0)]), 13);
+    stray(&body(&[], &[&function(&at_end), &jump(0)]), 13, 2);
     // in a With that records the label too, but before the function does
     let with_record = with(&body(&[(0, 0)], &[&jump(0)]));
-    stray(&body(&[], &[&with_record, &function(&records)]), 8);
+    stray(&body(&[], &[&with_record, &function(&records)]), 8, 1);
 }
 
 #[test]
@@ -405,13 +418,13 @@ fn branches_in_one_function_are_taken_in_every_mode() {
 fn the_first_branch_decides_between_14_and_15() {
     let (records, lost, stray) = (function(&body(&[(0, 0)], &[])), jump(1), jump(0));
     let lost_first = sheet(&body(&[], &[&records, &lost, &stray]));
-    refused_in(Mode::STRICT, &lost_first, 14, 12);
-    refused_in(Mode::CONTAINED, &lost_first, 15, 17);
-    refused_in(Mode::STRICT_CONTAINED, &lost_first, 14, 12);
+    refused_in(Mode::STRICT, &lost_first, 14, 12, 1);
+    refused_in(Mode::CONTAINED, &lost_first, 15, 17, 2);
+    refused_in(Mode::STRICT_CONTAINED, &lost_first, 14, 12, 1);
     let stray_first = sheet(&body(&[], &[&records, &stray, &lost]));
-    refused_in(Mode::STRICT, &stray_first, 14, 17);
-    refused_in(Mode::CONTAINED, &stray_first, 15, 12);
-    refused_in(Mode::STRICT_CONTAINED, &stray_first, 15, 12);
+    refused_in(Mode::STRICT, &stray_first, 14, 17, 2);
+    refused_in(Mode::CONTAINED, &stray_first, 15, 12, 1);
+    refused_in(Mode::STRICT_CONTAINED, &stray_first, 15, 12, 1);
 }
 
 #[test]
@@ -424,7 +437,7 @@ fn one_branch_is_15_before_10() {
             true => (15, 32_780),
             false => (10, -32_773),
         };
-        refused_in(mode, &both, number, value);
+        refused_in(mode, &both, number, value, 32_769);
     }
 }
 
@@ -435,8 +448,8 @@ fn lengths_come_before_branches() {
     for first in [POP, &records] {
         let jump = jump(0);
         let of = |last: &[u8]| sheet(&body(&[], &[first, &jump, last]));
-        refused(&of(&set_target(65_535)), 8, 65_536);
-        refused(&of(&over), 9, 65_536);
+        refused(&of(&set_target(65_535)), 8, 65_536, 2);
+        refused(&of(&over), 9, 65_536, 2);
     }
 }
 

@@ -1,4 +1,4 @@
-//! The list of crates/replay, packed from Rust: number, value and block are what the oracle answered.
+//! The list of crates/replay, packed from Rust: number, value, action number and block are what the oracle answered.
 mod common;
 use common::{MODES, packed};
 use std::fs;
@@ -52,17 +52,22 @@ fn answers_are_the_oracles() {
         let bits = usize::from(bits);
         by_mode[bits] += 1;
         let value = i64::from_le_bytes(list.array());
+        let action = list.u32() as u64;
         let (sheet, block) = (unrolled(list.bytes(sheet)), unrolled(list.bytes(block)));
         match packed(&sheet, MODES[bits], room) {
             Ok(made) => {
-                assert_eq!((number, value), (0, made.len() as i64), "record {record}");
+                let done = (0, made.len() as i64, 0);
+                assert_eq!((number, value, action), done, "record {record}");
                 assert!(made == block, "record {record}: another block");
                 let edition = usize::from(sheet[sheet.len() - 4]);
                 blocks_by_edition[edition - 1] += 1;
             }
             Err(refusal) => {
-                let told = (refusal.number(), refusal.value());
-                assert_eq!(told, (u32::from(number), value), "record {record}");
+                // One that names no action has action number 0.
+                let named = refusal.action().unwrap_or(0);
+                let told = (refusal.number(), refusal.value(), named);
+                let due = (u32::from(number), value, action);
+                assert_eq!(told, due, "record {record}");
             }
         }
     }

@@ -14,52 +14,99 @@ fn refusals() {
             "the sheet's last 8 bytes are no trailer: the distance back to the main body, edition 1 or 2 and the mark 41 31",
         ),
         (
-            Refusal::CutShort { place: 17 },
-            "byte 17 of the sheet: the field that begins here would reach into the trailer",
+            Refusal::CutShort {
+                place: 17,
+                action: 2,
+            },
+            "at action 2, byte 17 of the sheet: the field that begins here would reach into the trailer",
         ),
         (
-            Refusal::UnknownCode { place: 17 },
-            "byte 17 of the sheet: no action or pushed value has this code",
+            Refusal::UnknownCode {
+                place: 17,
+                action: 2,
+            },
+            "at action 2, byte 17 of the sheet: no action or pushed value has this code",
         ),
         (
-            Refusal::BadField { place: 17 },
-            "byte 17 of the sheet: this field is outside its range or order, or is a zero byte in a string",
+            Refusal::BadField {
+                place: 17,
+                action: 2,
+            },
+            "at action 2, byte 17 of the sheet: this field is outside its range or order, or is a zero byte in a string",
         ),
         (
-            Refusal::TooDeep { place: 80 },
-            "byte 80 of the sheet: the body that begins here is at depth 17; the main body is at depth 1, and 16 is the deepest",
+            Refusal::TooDeep {
+                place: 80,
+                action: 15,
+            },
+            "action 15, byte 80 of the sheet: the body that begins here is at depth 17; the main body is at depth 1, and 16 is the deepest",
         ),
         (
-            Refusal::LeftOver { place: 17 },
-            "byte 17 of the sheet: the main body is over, and this byte is not yet the trailer",
+            Refusal::LeftOver {
+                place: 17,
+                action: 2,
+            },
+            "after 2 actions, byte 17 of the sheet: the main body is over, and this byte is not yet the trailer",
         ),
         (
-            Refusal::ActionLenOverflow { length: 65_536 },
-            "an action's payload is 65536 bytes long; at most 65535 can be written",
+            Refusal::LeftOver {
+                place: 5,
+                action: 1,
+            },
+            "after 1 action, byte 5 of the sheet: the main body is over, and this byte is not yet the trailer",
         ),
         (
-            Refusal::BlockLenOverflow { length: 65_536 },
-            "a body is 65536 bytes long; at most 65535 can be written",
+            Refusal::LeftOver {
+                place: 4,
+                action: 0,
+            },
+            "after 0 actions, byte 4 of the sheet: the main body is over, and this byte is not yet the trailer",
         ),
         (
-            Refusal::JumpOffsetOverflow { distance: 32_768 },
-            "the label is 32768 bytes forward from the branch; a branch reaches at most 32767 bytes forward and 32768 back",
+            Refusal::ActionLenOverflow {
+                length: 65_536,
+                action: 3,
+            },
+            "action 3: its payload is 65536 bytes long; at most 65535 can be written",
         ),
         (
-            Refusal::JumpOffsetOverflow { distance: -32_769 },
-            "the label is 32769 bytes back from the branch; a branch reaches at most 32767 bytes forward and 32768 back",
+            Refusal::BlockLenOverflow {
+                length: 65_536,
+                action: 4,
+            },
+            "action 4: its body is 65536 bytes long; at most 65535 can be written",
+        ),
+        (
+            Refusal::JumpOffsetOverflow {
+                distance: 32_768,
+                action: 7,
+            },
+            "action 7: the label is 32768 bytes forward from the branch; a branch reaches at most 32767 bytes forward and 32768 back",
+        ),
+        (
+            Refusal::JumpOffsetOverflow {
+                distance: -32_769,
+                action: 32_764,
+            },
+            "action 32764: the label is 32769 bytes back from the branch; a branch reaches at most 32767 bytes forward and 32768 back",
         ),
         (
             Refusal::NoRoom { needed: 6 },
             "the block needs 6 bytes, more than the output has",
         ),
         (
-            Refusal::NeverRecorded { operand: 15 },
-            "byte 15 of the block: no body records the label of the branch whose operand begins here",
+            Refusal::NeverRecorded {
+                operand: 15,
+                action: 2,
+            },
+            "action 2, operand at byte 15 of the block: no body records the label of this branch",
         ),
         (
-            Refusal::StrayBranch { operand: 15 },
-            "byte 15 of the block: the branch whose operand begins here goes to a label in another function body",
+            Refusal::StrayBranch {
+                operand: 15,
+                action: 2,
+            },
+            "action 2, operand at byte 15 of the block: this branch goes to a label in another function body",
         ),
     ];
     for (refusal, text) in texts {
@@ -70,6 +117,36 @@ fn refusals() {
             format!("{refusal:?}").split(' ').next(),
             Some(refusal.name())
         );
+    }
+}
+
+#[test]
+fn actions() {
+    let (place, length, distance, operand) = (17, 65_536, 32_768, 15);
+    for action in [0, 1, 80_002] {
+        let named = [
+            Refusal::CutShort { place, action },
+            Refusal::UnknownCode { place, action },
+            Refusal::BadField { place, action },
+            Refusal::TooDeep { place, action },
+            Refusal::LeftOver { place, action },
+            Refusal::ActionLenOverflow { length, action },
+            Refusal::BlockLenOverflow { length, action },
+            Refusal::JumpOffsetOverflow { distance, action },
+            Refusal::NeverRecorded { operand, action },
+            Refusal::StrayBranch { operand, action },
+        ];
+        for refusal in named {
+            assert_eq!(refusal.action(), Some(action), "{refusal:?}");
+        }
+    }
+    let others = [
+        Refusal::SheetTooLong { length },
+        Refusal::BadTrailer,
+        Refusal::NoRoom { needed: 6 },
+    ];
+    for refusal in others {
+        assert_eq!(refusal.action(), None, "{refusal:?}");
     }
 }
 

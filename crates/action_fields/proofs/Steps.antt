@@ -12,7 +12,7 @@ use Rattle.layout.specs.Lists.{each}
 use Rattle.layout.specs.Numbers.{u16At}
 use Rattle.layout.specs.Answers as answers
 use Rattle.layout.specs.Tree.{GotoFrame2, GetUrl, GetUrl2, WaitForFrame, DefineFunction, DefineFunction2, FunctionParamOf, functionParam, CatchTargetOf, Variable, Register}
-use Rattle.layout.specs.Read.{Text, Terms, Place, placed, ahead, Read, got, bad, Reader, chain, ifWhole, ifWithin, tested, repeat, readU8, readU16, readBytes, readFlag, readString, readParam, readCounted, isShape, hasCatch, hasRegister, readCatchTarget}
+use Rattle.layout.specs.Read.{Text, Terms, Place, placed, stop, ahead, Read, got, bad, Reader, chain, ifWhole, ifWithin, tested, repeat, readU8, readU16, readBytes, readFlag, readString, readParam, readCounted, isShape, hasCatch, hasRegister, readCatchTarget}
 use Rattle.layout.specs.Strings.{mapFlat, mapOwner, mapParam}
 use Rattle.layout.specs.Lengths.{total, payloadLength, ownerLength, stringLength, paramLength, gotoFrame2Length}
 use Rattle.layout.specs.Pack.{spelling}
@@ -25,7 +25,7 @@ use Rattle.positions.specs.declared.Scan.the-variants as scan
 use Rattle.positions.specs.Scanned.{faultOf, scanned, Roomy}
 use Rattle.operands.specs.Operands.{stringSize}
 use Rattle.lists.specs.Elements.{readNamed, namedSize}
-use Rattle.operands.proofs.Scans.{ends-is, stops-is, ends, stops, scanned-as, number-as}
+use Rattle.operands.proofs.Scans.{ends-is, stops-then, ends, stops, scanned-as, number-as}
 use Rattle.operands.proofs.Reading as reading
 use Rattle.action_fields.specs.Fields.{readWaitForFrame, readGotoFrame2, flatSize, readRegisters, ownerSize, readCaught, targetSize, caughtSize}
 
@@ -42,12 +42,7 @@ then-ends size pos s p x k {r} {q} {w} r′ e f h =
 -- it stopped: so does the whole
 pub then-stops : {A B : Type 0} (size : A → ℕ) (pos : ℕ) (s : B → ℕ) (p : ℕ) (x : Read B) (k : B → Reader A) {r : Scan} {f : Fault} {q : ℕ} → r ≡ scanned s p x → r ≡ scan.Stops f q
     → scan.Stops f q ≡ scanned size pos (chain x k)
-then-stops size pos s p x k {r} {f} {q} e h =
-    let i = stops-is s p x e h in
-    go (i .0) (i .1) f (i .2)
-  where
-    go : (g : answers.Fault) → x ≡ bad g (placed q) → (f : Fault) → f ≡ faultOf g → scan.Stops f q ≡ scanned size pos (chain x k)
-    go g m f l = ap (λ z. scan.Stops z q) l ∙ stops size pos (ap (λ z. chain z k) m)
+then-stops size pos s p x k e h = stops-then size pos s p x k e h
 
 -- ---- payloads without a body
 
@@ -221,14 +216,14 @@ module _ (b : List ℕ) (at pos : ℕ) where
 
     pub flags-out : length b < at + 1 + 2 → scan.Stops fault.CutShort (at + 1) ≡ scanned (λ _. 0) pos (readRegisters b (placed at))
     unfolding faultOf tested
-    flags-out l = stops _ pos (registers-if (bad answers.CutShort (placed (at + 1))) (rw (reading.u16-out b (at + 1) l)))
+    flags-out l = stops _ pos (registers-if (bad answers.CutShort (stop (placed (at + 1)))) (rw (reading.u16-out b (at + 1) l)))
 
     module _ (l : at + 1 + 2 ≤ length b) (n : ℕ) (e : n ≡ u16At b (at + 1)) where
       pub flags-big : 511 < n → scan.Stops fault.BadField (at + 1) ≡ scanned (λ _. 0) pos (readRegisters b (placed at))
       unfolding faultOf tested ifWithin
       flags-big k =
           let m : 512 ≤ u16At b (at + 1) = omega arith in
-          stops _ pos (registers-if (bad answers.BadField (placed (at + 1))) (rw (reading.u16-in b (at + 1) l, le-ltb (u16At b (at + 1)) 512 m)))
+          stops _ pos (registers-if (bad answers.BadField (stop (placed (at + 1)))) (rw (reading.u16-in b (at + 1) l, le-ltb (u16At b (at + 1)) 512 m)))
 
       pub flags-in : n ≤ 511 → {w : BytePosition} → w .0 ≡ pos → scan.Ends (at + 1 + 2) w ≡ scanned (λ _. 0) pos (readRegisters b (placed at))
       unfolding tested ifWithin

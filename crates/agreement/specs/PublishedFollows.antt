@@ -428,11 +428,11 @@ last-is (branchAt k s ∷ es) l = last-is es l
 last-is (payloadTooLong n s ∷ es) l = last-is es l
 last-is (bodyTooLong n s ∷ es) l = last-is es l
 
-branch-offset : (o : Option Position) (q : ℕ) → judged o q ≡ none → (bs : List ℕ) → UI16 (distanceBits o q) bs → (z : ℤ) × SI16 z bs × Lands (atOf o) q z
+branch-offset : (o : Option Position) (q k : ℕ) → judged o q k ≡ none → (bs : List ℕ) → UI16 (distanceBits o q) bs → (z : ℤ) × SI16 z bs × Lands (atOf o) q z
 unfolding distanceBits atOf
-branch-offset none q h bs u = (pos 0, positive u (omega arith), unlabelled)
-branch-offset (some s) q h bs u =
-    let n : (s .at ≤ q + 32767) × (q ≤ s .at + 32768) = near-both (s .at) q (near-of s q h) in
+branch-offset none q k h bs u = (pos 0, positive u (omega arith), unlabelled)
+branch-offset (some s) q k h bs u =
+    let n : (s .at ≤ q + 32767) × (q ≤ s .at + 32768) = near-both (s .at) q (near-of s q k h) in
     near-lands (s .at) q (n .0) (n .1) (ltb (s .at) q) refl bs u
 
 is-shape : (c : Catch) (f : Finally) → NameFits c
@@ -462,8 +462,8 @@ module _ (all : List Event) where
       → (z : ℤ) × SI16 z (le16 (offsetBits l (s .at + 5))) × Lands (final l) (s .at + 5) z
   offset-is l s h =
       let p : ℕ = s .at in
-      let j : judged (lookup l all) (p + 5) ≡ none = branch-near record-of l s h in
-      let (z, y, d) = branch-offset (lookup l all) (p + 5) j (le16 (offsetBits l (p + 5)))
+      let j : judged (lookup l all) (p + 5) (s .number + 0) ≡ none = branch-near record-of l s h in
+      let (z, y, d) = branch-offset (lookup l all) (p + 5) (s .number + 0) j (le16 (offsetBits l (p + 5)))
       (is-ui16 (offsetBits l (p + 5)) (bits-small (lookup l all) (p + 5))) in
       (z, y, subst (λ (o : Option ℕ). Lands o (p + 5) z) (sym (last-is all l)) d)
 

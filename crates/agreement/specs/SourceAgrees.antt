@@ -1,6 +1,6 @@
 -- What source 000's ActionEncoder gives for the tree of a sheet agrees with what `pack` answers: `same-as-source`,
 -- `never-panics` and `agrees-once`, at the end. Assumes nothing.
-use mathlib.Core.Path.{_≡_, refl, sym, ap, ap₂, _∙_, subst}
+use mathlib.Core.Path.{_≡_, refl, sym, ap, _∙_, subst}
 use Prim.Native.Nat.{ℕ, _+_, _≤_, _<_}
 use native.Mathlib.Omega.{arith}
 use mathlib.Core.Bool.{Bool, true, false}
@@ -11,12 +11,12 @@ use lib.IntN.{ℤ, pos, subℕ}
 use lib.Dec.{leb}
 use borrow.Author.Tests.{leb-true, leb-false}
 use Rattle.layout.specs.OpCode.{OpCode, SmallOpCode, smallByte, byte}
-use Rattle.layout.specs.Answers.{Fault, CutShort, UnknownCode, BadField, TooDeep, LeftOver, Refusal, SheetTooLong, BadTrailer, ReadingFault, ActionLenOverflow, BlockLenOverflow, JumpOffsetOverflow, NoRoom, InputFull, Unclean, NeverRecorded, StrayBranch, Answer, Done, Refused, faultNumber, refusalNumber, refusalValue}
+use Rattle.layout.specs.Answers.{Refusal, NoRoom, Answer, Done, Refused, refusalNumber, refusalValue, number, value, lengthOf}
 use Rattle.layout.specs.Tree.{Actions}
 use Rattle.layout.specs.Payload.{headed, framed}
 use Rattle.layout.specs.Write.{Position, blockStart, Event, labelAt, branchAt, payloadTooLong, bodyTooLong, traceBody, events, lookup, branchBits, bodyBytes, blockBytes, blockSize}
 use Rattle.layout.specs.Judge.{tooLong, distance, isNear, farUnless, judged, orElse, firstRefused, tooFar, judge, plainMode}
-use Rattle.layout.specs.Pack.{unless, ifRoom, packTree, pack, ReadsAs}
+use Rattle.layout.specs.Pack.{unless, ifRoom, packTree, pack, ReadsAs, output}
 use Rattle.layout.specs.Order.{tree-next}
 use Rattle.layout.specs.Lengths.{length-block}
 use Rattle.laws.specs.Fits.{Bytes, WellBody}
@@ -49,62 +49,44 @@ pub data Agrees (room : ℕ) : Result → Answer (List ℕ) → Type 0 where
   no-room : {e : ActionEncoder} → room < length (e .output) → Agrees room (ok e) (Refused (NoRoom (length (e .output))))
   overflowed : {x : EncoderError} {r : Refusal} → refusalNumber r ≡ errorNumber x → refusalValue r ≡ errorValue x → Agrees room (err x) (Refused r)
 
--- ---- the source's errors as refusals
+-- ---- the source's errors and the refusals, by number and value
 
-unfoldable refusalOf : EncoderError → Refusal
-refusalOf (JumpOffsetOverflow z) = JumpOffsetOverflow z
-refusalOf (ActionLenOverflow n) = ActionLenOverflow n
-refusalOf (BlockLenOverflow n) = BlockLenOverflow n
+-- no error and no refusal, or both with one number and one value; the source has no action number
+data Matches : Option EncoderError → Option Refusal → Type 0 where
+  neither : Matches none none
+  both : {x : EncoderError} {r : Refusal} → refusalNumber r ≡ errorNumber x → refusalValue r ≡ errorValue x → Matches (some x) (some r)
 
-unfoldable refusalsOf : Option EncoderError → Option Refusal
-refusalsOf none = none
-refusalsOf (some x) = some (refusalOf x)
-
--- with the same number and value
-same-number : (x : EncoderError) → refusalNumber (refusalOf x) ≡ errorNumber x
-unfolding refusalNumber refusalOf errorNumber
-same-number (ActionLenOverflow n) = refl
-same-number (BlockLenOverflow n) = refl
-same-number (JumpOffsetOverflow z) = refl
-
-same-value : (x : EncoderError) → refusalValue (refusalOf x) ≡ errorValue x
-unfolding refusalValue refusalOf errorValue
-same-value (ActionLenOverflow n) = refl
-same-value (BlockLenOverflow n) = refl
-same-value (JumpOffsetOverflow z) = refl
-
-first-refusals : (o o′ : Option EncoderError) → refusalsOf (firstOf o o′) ≡ orElse (refusalsOf o) (refusalsOf o′)
-unfolding refusalsOf firstOf orElse
-first-refusals none o′ = refl
-first-refusals (some x) o′ = refl
+first-matches : {o o′ : Option EncoderError} {r r′ : Option Refusal} → Matches o r → Matches o′ r′ → Matches (firstOf o o′) (orElse r r′)
+unfolding firstOf orElse
+first-matches neither m = m
+first-matches (both n v) m = both n v
 
 -- what the definitions find too long is what the source's tests find
-long-is : (es : List Event) → tooLong es ≡ refusalsOf (firstOverflow es)
-unfolding tooLong firstOverflow refusalsOf refusalOf
-long-is [] = refl
-long-is (labelAt l s ∷ es) = long-is es
-long-is (branchAt l s ∷ es) = long-is es
-long-is (payloadTooLong n s ∷ es) = refl
-long-is (bodyTooLong n s ∷ es) = refl
+long-matches : (es : List Event) → Matches (firstOverflow es) (tooLong es)
+unfolding tooLong firstOverflow refusalNumber errorNumber refusalValue errorValue
+long-matches [] = neither
+long-matches (labelAt l s ∷ es) = long-matches es
+long-matches (branchAt l s ∷ es) = long-matches es
+long-matches (payloadTooLong n s ∷ es) = both refl refl
+long-matches (bodyTooLong n s ∷ es) = both refl refl
 
-judged-is : (o : Option Position) (p : ℕ) → judged o p ≡ refusalsOf (farBranch o p)
+judged-matches : (o : Option Position) (p k : ℕ) → Matches (farBranch o p) (judged o p k)
 unfolding judged farBranch distance
-judged-is none p = unfold refusalsOf in refl
-judged-is (some s) p = go (isNear (s .at) p)
+judged-matches none p k = neither
+judged-matches (some s) p k = go (isNear (s .at) p)
   where
-    go : (t : Bool) → farUnless t (subℕ (s .at) p) ≡ refusalsOf (farIf t (subℕ (s .at) p))
-    go true = unfold farUnless farIf refusalsOf in refl
-    go false = unfold farUnless farIf refusalsOf refusalOf in refl
+    go : (t : Bool) → Matches (farIf t (subℕ (s .at) p)) (farUnless t (subℕ (s .at) p) k)
+    go true = unfold farUnless farIf in neither
+    go false = unfold farUnless farIf refusalNumber errorNumber refusalValue errorValue in both refl refl
 
 -- and so for what is too far
-far-is : (all es : List Event) → tooFar all es ≡ refusalsOf (firstFar all es)
+far-matches : (all es : List Event) → Matches (firstFar all es) (tooFar all es)
 unfolding firstRefused firstFar
-far-is all [] = unfold refusalsOf in refl
-far-is all (labelAt l s ∷ es) = far-is all es
-far-is all (branchAt l s ∷ es) =
-    ap₂ orElse (judged-is (lookup l all) (s .at + 2)) (far-is all es) ∙ sym (first-refusals (farBranch (lookup l all) (s .at + 2)) (firstFar all es))
-far-is all (payloadTooLong n s ∷ es) = far-is all es
-far-is all (bodyTooLong n s ∷ es) = far-is all es
+far-matches all [] = neither
+far-matches all (labelAt l s ∷ es) = far-matches all es
+far-matches all (branchAt l s ∷ es) = first-matches (judged-matches (lookup l all) (s .at + 2) (s .number)) (far-matches all es)
+far-matches all (payloadTooLong n s ∷ es) = far-matches all es
+far-matches all (bodyTooLong n s ∷ es) = far-matches all es
 
 -- ---- the whole encoding of a tree whose fields fit
 
@@ -161,52 +143,17 @@ module _ (t : Actions) (well : WellBody t) where
   tree-same : (room : ℕ) → Agrees room (encode t) (packTree plainMode t room)
   unfolding packTree judge
   tree-same room =
-      rw (encoded-is, long-is seen, plain-far (λ l. lookup l seen) seen, far-is seen seen, ← (first-refusals (firstOverflow seen) (firstFar seen seen)))
-      (go (firstOf (firstOverflow seen) (firstFar seen seen)))
+      rw (encoded-is, plain-far (λ l. lookup l seen) seen)
+      (go (firstOf (firstOverflow seen) (firstFar seen seen)) (orElse (tooLong seen) (tooFar seen seen)) (first-matches (long-matches seen) (far-matches seen seen)))
     where
       fit : (z : Bool) → leb (blockSize t) room ≡ z → Agrees room (ok patched) (ifRoom z (blockBytes t) (blockSize t))
       fit true h = unfold ifRoom in in-room {e = patched} (omega (arith, length-block t, leb-true (blockSize t) room h))
       fit false h = unfold ifRoom in rw (← (length-block t)) (no-room {e = patched} (omega (arith, length-block t, leb-false (blockSize t) room h)))
 
-      go : (o : Option EncoderError) → Agrees room (resultOf o patched) (unless (refusalsOf o) (ifRoom (leb (blockSize t) room) (blockBytes t) (blockSize t)))
-      go none = unfold resultOf refusalsOf unless in fit (leb (blockSize t) room) refl
-      go (some x) = unfold resultOf refusalsOf unless in overflowed (same-number x) (same-value x)
-
--- ---- a refusal is known by its number and value, where the number is 8, 9 or 10
-
-fault-under : (f : Fault) → faultNumber f < 8
-unfolding faultNumber
-fault-under CutShort = omega arith
-fault-under UnknownCode = omega arith
-fault-under BadField = omega arith
-fault-under TooDeep = omega arith
-fault-under LeftOver = omega arith
-
-error-from : (x : EncoderError) → (8 ≤ errorNumber x) × (errorNumber x ≤ 10)
-unfolding errorNumber
-error-from (ActionLenOverflow n) = (omega arith, omega arith)
-error-from (BlockLenOverflow n) = (omega arith, omega arith)
-error-from (JumpOffsetOverflow z) = (omega arith, omega arith)
-
-refusal-once : (r : Refusal) (x : EncoderError) → refusalNumber r ≡ errorNumber x → refusalValue r ≡ errorValue x → r ≡ refusalOf x
-unfolding refusalNumber refusalValue
-refusal-once (SheetTooLong n) x e v = absurd (omega (arith, error-from x .0))
-refusal-once BadTrailer x e v = absurd (omega (arith, error-from x .0))
-refusal-once (ReadingFault f p) x e v = absurd (omega (arith, error-from x .0, fault-under f))
-refusal-once (ActionLenOverflow n) (ActionLenOverflow m) e v = unfold refusalOf errorValue in cc
-refusal-once (ActionLenOverflow n) (BlockLenOverflow m) e v = unfold errorNumber in absurd (omega (arith, e))
-refusal-once (ActionLenOverflow n) (JumpOffsetOverflow z) e v = unfold errorNumber in absurd (omega (arith, e))
-refusal-once (BlockLenOverflow n) (ActionLenOverflow m) e v = unfold errorNumber in absurd (omega (arith, e))
-refusal-once (BlockLenOverflow n) (BlockLenOverflow m) e v = unfold refusalOf errorValue in cc
-refusal-once (BlockLenOverflow n) (JumpOffsetOverflow z) e v = unfold errorNumber in absurd (omega (arith, e))
-refusal-once (JumpOffsetOverflow y) (ActionLenOverflow m) e v = unfold errorNumber in absurd (omega (arith, e))
-refusal-once (JumpOffsetOverflow y) (BlockLenOverflow m) e v = unfold errorNumber in absurd (omega (arith, e))
-refusal-once (JumpOffsetOverflow y) (JumpOffsetOverflow z) e v = unfold refusalOf errorValue in cc
-refusal-once (NoRoom n) x e v = absurd (omega (arith, error-from x .1))
-refusal-once InputFull x e v = absurd (omega (arith, error-from x .1))
-refusal-once (Unclean p) x e v = absurd (omega (arith, error-from x .1))
-refusal-once (NeverRecorded p) x e v = absurd (omega (arith, error-from x .1))
-refusal-once (StrayBranch p) x e v = absurd (omega (arith, error-from x .1))
+      go : (o : Option EncoderError) (r : Option Refusal) → Matches o r
+          → Agrees room (resultOf o patched) (unless r (ifRoom (leb (blockSize t) room) (blockBytes t) (blockSize t)))
+      go o r neither = unfold resultOf unless in fit (leb (blockSize t) room) refl
+      go o r (both n v) = unfold resultOf unless in overflowed n v
 
 -- ---- no answer agrees with a panic
 
@@ -232,10 +179,17 @@ same-as-source s t room small h = rw (tree-next plainMode s room t h) (tree-same
 pub never-panics : (s : List ℕ) (t : Actions) → Bytes s → ReadsAs s t → encode t ≡ panicked → ⊥
 never-panics s t small h e = subst Returned e (returned (same-as-source s t 0 small h))
 
--- and only one answer agrees with a result of the source, at one room
-pub agrees-once : (room : ℕ) (r : Result) (a a′ : Answer (List ℕ)) → Agrees room r a → Agrees room r a′ → a ≡ a′
-agrees-once room r a a′ (in-room h) (in-room h′) = refl
+-- two answers with one number, one value and the same bytes in whatever output; the source says nothing of the action number
+pub record Alike (a a′ : Answer (List ℕ)) : Type 0 where
+  pub same-number : number a ≡ number a′
+  pub same-value : value lengthOf a ≡ value lengthOf a′
+  pub same-output : (o : List ℕ) → output a o ≡ output a′ o
+
+-- and only one such answer agrees with a result of the source, at one room
+pub agrees-once : (room : ℕ) (r : Result) (a a′ : Answer (List ℕ)) → Agrees room r a → Agrees room r a′ → Alike a a′
+unfolding number value output
+agrees-once room r a a′ (in-room h) (in-room h′) = record { same-number = refl; same-value = refl; same-output = λ o. refl }
 agrees-once room r a a′ (in-room h) (no-room h′) = absurd (omega arith)
 agrees-once room r a a′ (no-room h) (in-room h′) = absurd (omega arith)
-agrees-once room r a a′ (no-room h) (no-room h′) = refl
-agrees-once room r a a′ (overflowed {x} n v) (overflowed n′ v′) = ap Refused (refusal-once _ x n v ∙ sym (refusal-once _ x n′ v′))
+agrees-once room r a a′ (no-room h) (no-room h′) = record { same-number = refl; same-value = refl; same-output = λ o. refl }
+agrees-once room r a a′ (overflowed n v) (overflowed n′ v′) = record { same-number = n ∙ sym n′; same-value = v ∙ sym v′; same-output = λ o. refl }

@@ -1,11 +1,14 @@
-// The walk of bodies and actions, front to back: it reads and checks (3 to 6), measures, records labels, and notes the first of 8
-// and 9. `home` is the position at which the function body starts that it is in; only a function's body has another.
+// The walk of bodies and actions, front to back: it reads and checks (3 to 6), measures, counts, records labels, and notes the first
+// of 8 and 9. `home` is the position at which the function body starts that it is in; only a function's body has another. `number`
+// is that of the next action.
 ghost use Prim.Native.Nat.{_+_};
-ghost use Rattle.layout.specs.Read.{placed, readBody, readAction, repeat};
+ghost use Rattle.layout.specs.Tree.{count, bodyCount};
+ghost use Rattle.layout.specs.Read.{placed, behind, readBody, readAction};
+ghost use Rattle.layout.specs.Write.{position};
 ghost use Rattle.layout.specs.Lengths.{total};
 ghost use Rattle.laws.specs.Resolved.{actionSize, actionTrace, bodyLength, bodyEvents};
-ghost use Rattle.measure.specs.Walk.{state, outcome, Ran, bodiesEvents};
-ghost use Rattle.labels.specs.Table.{tables, positionOf};
+ghost use Rattle.measure.specs.Walk.{state, standing, outcome, Ran, inTurn, bodiesEvents};
+ghost use Rattle.labels.specs.Table.{tables};
 ghost use Rattle.front.specs.Front.{Fronted};
 ghost use Rattle.editions.specs.Allowed.{termsOf};
 ghost use Rattle.bodies.specs.Ready.{Ready};
@@ -20,9 +23,11 @@ use measure::note_long;
 use opcode::OpCode;
 use payload::scan_payload;
 use positions::ActionIndex;
+use positions::ActionNumber;
 use positions::BytePosition;
 use positions::Fault;
 use positions::Scan;
+use positions::Walked;
 
 // A body; as many as `depth` may stand one in another, itself included.
 pub fn scan_body(
@@ -32,21 +37,32 @@ pub fn scan_body(
     depth: usize,
     pos: BytePosition,
     home: BytePosition,
+    number: ActionNumber,
     tab: &mut [usize],
     homes: &mut [usize],
     over: &mut [usize],
-) -> Scan
-    requires { ⌜ Ready (termsOf terms) (now b) at pos (now tab) (now over) ⌝ }
-    ensures { λ r. ⌜ Ran (outcome bodyLength bodyEvents (positionOf pos home) (state (tables (now (tab .entry)) (now (homes .entry))) (now (over .entry))) (readBody (termsOf terms) (now (b .entry)) depth (placed at))) r (state (tables (now (tab .exit)) (now (homes .exit))) (now (over .exit))) ⌝ }
+) -> Walked
+    requires { ⌜ Ready (termsOf terms) (now b) at pos (number .0) (now tab) (now over) ⌝ }
+    ensures { λ r. ⌜ Ran (outcome bodyLength bodyCount bodyEvents (standing pos home number) (state (tables (now (tab .entry)) (now (homes .entry))) (now (over .entry))) (readBody (termsOf terms) (now (b .entry)) depth (placed at))) r (state (tables (now (tab .exit)) (now (homes .exit))) (now (over .exit))) ⌝ }
 {
     if depth == 0 {
-        return Scan::Stops(Fault::TooDeep, at);
+        return Walked::Stops(Fault::TooDeep, at, number);
     }
     match scan_front(b, terms, at, pos) {
-        Scan::Stops(f, p) => Scan::Stops(f, p),
-        Scan::Ends(front, _) => {
-            scan_actions(b, terms, at, front, depth - 1, pos, home, tab, homes, over)
-        },
+        Scan::Stops(f, p) => Walked::Stops(f, p, number),
+        Scan::Ends(front, _) => scan_actions(
+            b,
+            terms,
+            at,
+            front,
+            depth - 1,
+            pos,
+            home,
+            number,
+            tab,
+            homes,
+            over,
+        ),
     }
 }
 
@@ -59,12 +75,13 @@ fn scan_actions(
     depth: usize,
     pos: BytePosition,
     home: BytePosition,
+    number: ActionNumber,
     tab: &mut [usize],
     homes: &mut [usize],
     over: &mut [usize],
-) -> Scan
-    requires { ⌜ Ready (termsOf terms) (now b) at pos (now tab) (now over) × Fronted (termsOf terms) (now b) at front ⌝ }
-    ensures { λ r. ⌜ Ran (outcome bodyLength bodyEvents (positionOf pos home) (state (tables (now (tab .entry)) (now (homes .entry))) (now (over .entry))) (readBody (termsOf terms) (now (b .entry)) (depth + 1) (placed at))) r (state (tables (now (tab .exit)) (now (homes .exit))) (now (over .exit))) ⌝ }
+) -> Walked
+    requires { ⌜ Ready (termsOf terms) (now b) at pos (number .0) (now tab) (now over) × Fronted (termsOf terms) (now b) at front ⌝ }
+    ensures { λ r. ⌜ Ran (outcome bodyLength bodyCount bodyEvents (standing pos home number) (state (tables (now (tab .entry)) (now (homes .entry))) (now (over .entry))) (readBody (termsOf terms) (now (b .entry)) (depth + 1) (placed at))) r (state (tables (now (tab .exit)) (now (homes .exit))) (now (over .exit))) ⌝ }
 {
     let n = u16_at(b, at);
     let list = at + 2;
@@ -73,24 +90,26 @@ fn scan_actions(
     let mut i = 0;
     let mut p = front;
     let mut w = pos;
+    let mut action = number;
     while i < count {
         next = record_labels(b, list, n, next, ActionIndex(i), w, home, tab, homes);
-        match scan_action(b, terms, p, depth, w, home, tab, homes, over) {
-            Scan::Stops(f, q) => {
-                return Scan::Stops(f, q);
+        match scan_action(b, terms, p, depth, w, home, action, tab, homes, over) {
+            Walked::Stops(f, q, k) => {
+                return Walked::Stops(f, q, k);
             }
-            Scan::Ends(q, x) => {
+            Walked::Ends(q, x, k) => {
                 p = q;
                 w = x;
+                action = k;
             }
         }
         i += 1;
     }
     record_labels(b, list, n, next, ActionIndex(i), w, home, tab, homes);
-    Scan::Ends(p, w)
+    Walked::Ends(p, w, action)
 }
 
-// The n bodies after a payload; their lengths are tested when all are measured.
+// The n bodies after the payload of an action; their lengths are tested when all are measured.
 fn scan_bodies(
     b: &[u8],
     terms: Terms,
@@ -98,33 +117,36 @@ fn scan_bodies(
     depth: usize,
     pos: BytePosition,
     home: BytePosition,
+    action: ActionNumber,
     n: usize,
     tab: &mut [usize],
     homes: &mut [usize],
     over: &mut [usize],
-) -> Scan
-    requires { ⌜ Ready (termsOf terms) (now b) at pos (now tab) (now over) ⌝ }
-    ensures { λ r. ⌜ Ran (outcome (total bodyLength) bodiesEvents (positionOf pos home) (state (tables (now (tab .entry)) (now (homes .entry))) (now (over .entry))) (repeat (readBody (termsOf terms) (now (b .entry)) depth) n (placed at))) r (state (tables (now (tab .exit)) (now (homes .exit))) (now (over .exit))) ⌝ }
+) -> Walked
+    requires { ⌜ Ready (termsOf terms) (now b) at pos (action .0 + 1) (now tab) (now over) ⌝ }
+    ensures { λ r. ⌜ Ran (outcome (total bodyLength) (total bodyCount) (bodiesEvents (action .0)) (position (pos .0) (home .0) (action .0 + 1)) (state (tables (now (tab .entry)) (now (homes .entry))) (now (over .entry))) (inTurn (readBody (termsOf terms) (now (b .entry)) depth) n (placed at))) r (state (tables (now (tab .exit)) (now (homes .exit))) (now (over .exit))) ⌝ }
 {
     let mut left = n;
     let mut p = at;
     let mut w = pos;
+    let mut number = ActionNumber(action.0 + 1);
     let mut long = 0;
     while 0 < left {
-        match scan_body(b, terms, p, depth, w, home, tab, homes, over) {
-            Scan::Stops(f, q) => {
-                return Scan::Stops(f, q);
+        match scan_body(b, terms, p, depth, w, home, number, tab, homes, over) {
+            Walked::Stops(f, q, k) => {
+                return Walked::Stops(f, q, k);
             }
-            Scan::Ends(q, x) => {
+            Walked::Ends(q, x, k) => {
                 long = first_long(long, x.0 - w.0);
                 p = q;
                 w = x;
+                number = k;
             }
         }
         left -= 1;
     }
-    note_long(over, 9, long);
-    Scan::Ends(p, w)
+    note_long(over, 9, long, action);
+    Walked::Ends(p, w, number)
 }
 
 // An action; bodies of `depth` may stand in it.
@@ -135,28 +157,35 @@ fn scan_action(
     depth: usize,
     pos: BytePosition,
     home: BytePosition,
+    number: ActionNumber,
     tab: &mut [usize],
     homes: &mut [usize],
     over: &mut [usize],
-) -> Scan
-    requires { ⌜ Ready (termsOf terms) (now b) at pos (now tab) (now over) ⌝ }
-    ensures { λ r. ⌜ Ran (outcome actionSize actionTrace (positionOf pos home) (state (tables (now (tab .entry)) (now (homes .entry))) (now (over .entry))) (readAction (termsOf terms) (now (b .entry)) (readBody (termsOf terms) (now (b .entry)) depth) (placed at))) r (state (tables (now (tab .exit)) (now (homes .exit))) (now (over .exit))) ⌝ }
+) -> Walked
+    requires { ⌜ Ready (termsOf terms) (now b) at pos (number .0) (now tab) (now over) ⌝ }
+    ensures { λ r. ⌜ Ran (outcome actionSize count actionTrace (standing pos home number) (state (tables (now (tab .entry)) (now (homes .entry))) (now (over .entry))) (readAction (termsOf terms) (now (b .entry)) (behind 1 (readBody (termsOf terms) (now (b .entry)) depth)) (placed at))) r (state (tables (now (tab .exit)) (now (homes .exit))) (now (over .exit))) ⌝ }
 {
     if b.len() <= at {
-        return Scan::Stops(Fault::CutShort, at);
+        return Walked::Stops(Fault::CutShort, at, number);
     }
     let op = b[at];
+    let next = number.0 + 1;
     if op < 0x80 {
         if OpCode::is_listed(op) {
-            return Scan::Ends(at + 1, BytePosition(pos.0 + OpCode::SMALL_LEN));
+            let after = pos.0 + OpCode::SMALL_LEN;
+            return Walked::Ends(at + 1, BytePosition(after), ActionNumber(next));
         }
-        return Scan::Stops(Fault::UnknownCode, at);
+        return Walked::Stops(Fault::UnknownCode, at, number);
     }
-    match scan_payload(b, terms, op, at, pos, over) {
-        Laid::Stops(f, p) => Scan::Stops(f, p),
-        Laid::Flat(p, w) => Scan::Ends(p, w),
-        Laid::Branch(p, w, _) => Scan::Ends(p, w),
-        Laid::Bodies(p, w, n) => scan_bodies(b, terms, p, depth, w, home, n, tab, homes, over),
-        Laid::Function(p, w) => scan_bodies(b, terms, p, depth, w, w, 1, tab, homes, over),
+    match scan_payload(b, terms, op, at, pos, number, over) {
+        Laid::Stops(f, p) => Walked::Stops(f, p, number),
+        Laid::Flat(p, w) => Walked::Ends(p, w, ActionNumber(next)),
+        Laid::Branch(p, w, _) => Walked::Ends(p, w, ActionNumber(next)),
+        Laid::Bodies(p, w, n) => {
+            scan_bodies(b, terms, p, depth, w, home, number, n, tab, homes, over)
+        },
+        Laid::Function(p, w) => {
+            scan_bodies(b, terms, p, depth, w, w, number, 1, tab, homes, over)
+        },
     }
 }

@@ -36,7 +36,7 @@ use Rattle.encode_owners.specs.Payloads.{targetBytes, TargetWithin, functionPay
 -- what a chain of two readings that gave a value is made of
 parts : {A B : Type 0} (x : Read B) (k : B → Reader A) (a : A) (q : Place) → chain x k ≡ got a q → (y : B) × (r : Place) × (x ≡ got y r) × (k y r ≡ got a q)
 parts (got y r) k a q e = (y, r, refl, e)
-parts (bad f r) k a q e =
+parts (bad f s) k a q e =
     let z : _≡_ {A = ℕ} 0 1 = cc in
     absurd (omega arith)
 
@@ -182,7 +182,7 @@ module _ (terms : Terms) (b tab : List ℕ) (at pos : ℕ) where
 
   -- a branch to label l has a slot, and does not go too far
   abbrev Reaches : ℕ → Type 0
-  Reaches l = (l < length tab) × (judged (recordAt tab l) (pos + 5) ≡ none)
+  Reaches l = (l < length tab) × (judged (recordAt tab l) (pos + 5) 0 ≡ none)
 
   -- what is asked of a case besides the room
   abbrev Within : Action → Type 0

@@ -46,10 +46,10 @@ BodiesFrom inner next (branch k l) q = q ≡ placed next
 BodiesFrom inner next (owner o a) q = inner (placed next) ≡ got a q
 BodiesFrom inner next (Try a c f) q = (r : Place) × (s : Place) × (inner (placed next) ≡ got a r) × CatchFrom inner r c s × FinallyFrom inner s f q
 
--- a branch goes to a label without a record, or not too far
+-- a branch goes to a label without a record, or not too far; 0 stands for its action number, which only a refusal names
 abbrev pub NotFar : List ℕ → ActionOf Text ℕ → ℕ → Type 0
 NotFar tab (flat f) p = Unit {0}
-NotFar tab (branch k l) p = judged (recordAt tab l) (p + 5) ≡ none
+NotFar tab (branch k l) p = judged (recordAt tab l) (p + 5) 0 ≡ none
 NotFar tab (owner o a) p = Unit {0}
 NotFar tab (Try a c f) p = Unit {0}
 

@@ -31,13 +31,13 @@ long-action op h = rw (le-ltb op 128 h)
 -- ---- a branch
 
 -- the low sixteen bits of a distance that is not too far, from a position that fits
-near-bits : (slot end bits : ℕ) → end ≤ 1099511627776 → judged (recordOf slot) end ≡ none → bits ≡ bits64 (distance (recordOf slot) end)
+near-bits : (slot end bits : ℕ) → end ≤ 1099511627776 → judged (recordOf slot) end 0 ≡ none → bits ≡ bits64 (distance (recordOf slot) end)
     → bits % 65536 ≡ distanceBits (recordOf slot) end
 unfolding recordOf distanceBits
 near-bits zero end bits h j e = unfold distance bits64 in rw e
 near-bits (suc n) end bits h j e = go (leb n (end + 32767)) (leb end (n + 32768)) refl refl (unfold judged isNear in j)
   where
-    go : (t u : Bool) → leb n (end + 32767) ≡ t → leb end (n + 32768) ≡ u → farUnless (t && u) (distance (some (position n 0)) end) ≡ none
+    go : (t u : Bool) → leb n (end + 32767) ≡ t → leb end (n + 32768) ≡ u → farUnless (t && u) (distance (some (position n 0 0)) end) 0 ≡ none
         → bits % 65536 ≡ (n + 65536 - end) % 65536
     go true true k l f =
         let i = leb-true n (end + 32767) k in
@@ -59,7 +59,7 @@ near-bits (suc n) end bits h j e = go (leb n (end + 32767)) (leb end (n + 32768)
         absurd (omega arith)
 
 -- the same where the code has this position as `after`
-pub branch-bits : (slot end after bits : ℕ) → after ≡ end → end ≤ 1099511627776 → judged (recordOf slot) end ≡ none → bits ≡ bits64 (distance (recordOf slot) after)
+pub branch-bits : (slot end after bits : ℕ) → after ≡ end → end ≤ 1099511627776 → judged (recordOf slot) end 0 ≡ none → bits ≡ bits64 (distance (recordOf slot) after)
     → bits % 65536 ≡ distanceBits (recordOf slot) end
 branch-bits slot end after bits k h j e = near-bits slot end bits h j (rw k at e)
 

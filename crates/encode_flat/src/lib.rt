@@ -66,7 +66,8 @@ pub fn write_u16_action(out: &mut [u8], pos: BytePosition, op: u8, v: usize, nex
     }
 }
 
-// If and Jump: the label table is full, so that the distance is written at once.
+// If and Jump: the label table is full, so that the distance is written at once. It is not too far; the 0 in that demand stands for
+// the action's number, which only a refusal names.
 pub fn write_branch(
     out: &mut [u8],
     pos: BytePosition,
@@ -75,7 +76,7 @@ pub fn write_branch(
     tab: &[usize],
     next: usize,
 ) -> Ends
-    requires { ⌜ (label < length (now tab)) × (judged (recordOf (getD (now tab) label 0)) (pos .0 + 5) ≡ none) × Room (action op (le16 (tableBits (now tab) label (pos .0 + 5))) next) (pos .0) (now out) ⌝ }
+    requires { ⌜ (label < length (now tab)) × (judged (recordOf (getD (now tab) label 0)) (pos .0 + 5) 0 ≡ none) × Room (action op (le16 (tableBits (now tab) label (pos .0 + 5))) next) (pos .0) (now out) ⌝ }
     ensures { λ r. ⌜ Put (action op (le16 (tableBits (now (tab .entry)) label (pos .0 + 5))) next) (pos .0) (now (out .entry)) (now (out .exit)) r ⌝ }
 {
     let after = BytePosition(pos.0 + OpCode::HEADER_LEN + OpCode::U16_LEN);

@@ -12,7 +12,8 @@ use Rattle.layout.specs.Numbers.{u16At}
 use Rattle.layout.specs.Answers.{CutShort, BadField}
 use Rattle.layout.specs.Answers as answers
 use Rattle.layout.specs.Tree.{Entry, entry}
-use Rattle.layout.specs.Read.{Terms, Place, placed, Read, got, bad, chain, readU16, readBytes, readLabel, readEntries}
+use Rattle.layout.specs.Read.{Terms, Place, placed, Stop, stop, Read, got, bad, chain, readU16, readBytes, readLabel, readEntries}
+use Rattle.laws.specs.Begun.{OfFields, read, fields-next, u16-fields, entries-fields}
 use Rattle.labels.specs.Table.{entriesAt, Rising}
 use Rattle.labels.proofs.Labels.{EntriesRead, entries-read}
 use Rattle.positions.specs.declared.BytePosition.{BytePosition}
@@ -97,6 +98,12 @@ module _ (terms : Terms) (b : List ℕ) (at pos : ℕ) where
             count-as : scanned (λ _. 0) (w .0) (readBytes b 2 (placed q)) ≡ scanned (λ _. 0) (w .0) (readU16 b (placed q))
             count-as = unfold readBytes readU16 in number-as _ _ _ _ _ _
 
+-- a fault in a front is met before any action of its body is begun
+pub front-fields : (terms : Terms) (b : List ℕ) → OfFields (readFront terms b)
+unfolding readFront
+front-fields terms b p =
+    fields-next (u16-fields b p) (λ m q. fields-next (entries-fields terms b m 0 q) (λ es r. fields-next (u16-fields b r) (λ n s. read {q = s} (omega arith))))
+
 -- what stands in a front that was read
 pub record FrontRead (terms : Terms) (b : List ℕ) (at end : ℕ) (f : Front) : Type 0 where
   pub inside : end ≤ length b
@@ -109,7 +116,7 @@ pub front-read : (terms : Terms) (b : List ℕ) (at end : ℕ) (f : Front) → a
 unfolding readFront
 front-read terms b at end f l e = first (readU16 b (placed at)) refl
   where
-    no : {A : Type 0} {g : answers.Fault} {p : Place} → bad g p ≡ got f (placed end) → A
+    no : {A : Type 0} {g : answers.Fault} {p : Stop} → bad g p ≡ got f (placed end) → A
     no k =
         let z : _≡_ {A = ℕ} 0 1 = cc in
         absurd (omega arith)
@@ -123,7 +130,7 @@ front-read terms b at end f l e = first (readU16 b (placed at)) refl
             let y : got m q ≡ got (u16At b p) (placed (p + 2)) = sym k ∙ u16-in b p i in
             (cc, ap (λ (v : Place). v .at) (cc), i)
         go false x =
-            let y : got m q ≡ bad CutShort (placed p) = sym k ∙ u16-out b p (leb-false _ _ x) in
+            let y : got m q ≡ bad CutShort (stop (placed p)) = sym k ∙ u16-out b p (leb-false _ _ x) in
             let z : _≡_ {A = ℕ} 0 1 = cc in
             absurd (omega arith)
 

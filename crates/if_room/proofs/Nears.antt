@@ -5,7 +5,7 @@ use native.Mathlib.Omega.{arith}
 use mathlib.Core.List.{List, _++_}
 use lib.IntN.{pos}
 use lib.ListN.{length, take, drop, length-take}
-use Rattle.layout.specs.Answers.{Refusal, NoRoom, Refused, refusalNumber, refusalValue}
+use Rattle.layout.specs.Answers.{Refusal, NoRoom, Refused, refusalNumber, refusalValue, refusalAction}
 use Rattle.layout.specs.Answers as answers
 use Rattle.layout.specs.Tree.{Actions}
 use Rattle.layout.specs.Read.{Terms, deepest}
@@ -19,7 +19,7 @@ use Rattle.laws.specs.Packed.{ReadsMain, spells, same-tree}
 use Rattle.positions.specs.declared.BytePosition.{BytePosition}
 use Rattle.stores.proofs.Stores.{filled}
 use Rattle.write.specs.Bodies.{MainWritable, WroteBlock}
-use Rattle.answer.specs.Answered.{number, value, Answered}
+use Rattle.answer.specs.Answered.{number, value, action, Answered}
 use Rattle.answer.specs.declared.Answer.{Answer}
 use Rattle.answer.specs.declared.Answer.the-variants as answer
 use Rattle.if_room.specs.Near.{MainNear, MainAnswered}
@@ -28,9 +28,9 @@ use Rattle.if_room.specs.Near.{MainNear, MainAnswered}
 
 -- A refusal leaves the output as it was.
 pub refused : {a : answers.Answer (List ℕ)} (x : Refusal) (o : List ℕ) (r : Answer) → a ≡ Refused x → number r ≡ refusalNumber x → value r ≡ refusalValue x
-    → Answered a o r o
-unfolding output answers.number answers.value
-refused x o r e n v = rw e (record { told = record { is-number = n; is-value = v }; holds = refl })
+    → action r ≡ refusalAction x → Answered a o r o
+unfolding output answers.number answers.value answers.action
+refused x o r e n v k = rw e (record { told = record { is-number = n; is-value = v; is-action = k }; holds = refl })
 
 -- What is left for its tree is left for whatever tree it is found to read as.
 pub answered-by : {terms : Terms} {answer : Actions → ℕ → answers.Answer (List ℕ)} {b old new : List ℕ} {r : Answer} (t : Actions) → ReadsMain terms b t → Answered (answer t (length old)) old r new
@@ -65,9 +65,9 @@ module _ (terms : Terms) (b tab : List ℕ) (end : BytePosition) (m : MainNear t
   module _ (o : List ℕ) where
     -- An output that is shorter is left as it was.
     pub near-no-room : length o < end .0 + 1 → MainAnswered terms blockIn b o (answer.NoRoom (end .0 + 1)) o
-    unfolding number value refusalNumber refusalValue
+    unfolding number value action refusalNumber refusalValue refusalAction
     near-no-room l =
-        answered-by t (m .measured .reads) (refused (NoRoom (blockSize t)) o (answer.NoRoom (end .0 + 1)) (no-room t (length o) (omega (arith, len-is))) refl (ap pos len-is))
+        answered-by t (m .measured .reads) (refused (NoRoom (blockSize t)) o (answer.NoRoom (end .0 + 1)) (no-room t (length o) (omega (arith, len-is))) refl (ap pos len-is) refl)
 
     module _ (l : end .0 + 1 ≤ length o) where
       -- The front that is lent to the writer.
@@ -92,11 +92,11 @@ module _ (terms : Terms) (b tab : List ℕ) (end : BytePosition) (m : MainNear t
       -- The block fills that front, and the rest keeps its values. The writer has reached the block's length.
       pub near-done : (front : List ℕ) (reached : BytePosition) → WroteBlock terms b (take (end .0 + 1) o) front reached
           → MainAnswered terms blockIn b o (answer.Done (reached .0)) (front ++ drop (end .0 + 1) o)
-      unfolding output number value answers.number answers.value
+      unfolding output number value action answers.number answers.value answers.action
       near-done front reached w =
           let f : front ≡ blockBytes t = w .wrote t (m .measured .reads) ∙ filled (take (end .0 + 1) o) (blockBytes t) (sym block-long ∙ sym front-long) in
           answered-by t (m .measured .reads) (done (has-room t (length o) (omega (arith, len-is))) block-long (w .long t (m .measured .reads)) f)
         where
           done : blockIn t (length o) ≡ answers.Done (blockBytes t) → end .0 + 1 ≡ length (blockBytes t) → reached .0 ≡ length (blockBytes t) → front ≡ blockBytes t
               → Answered (blockIn t (length o)) o (answer.Done (reached .0)) (front ++ drop (end .0 + 1) o)
-          done e k l f = rw (e, k, l, f) (record { told = record { is-number = refl; is-value = refl }; holds = refl })
+          done e k l f = rw (e, k, l, f) (record { told = record { is-number = refl; is-value = refl; is-action = refl }; holds = refl })

@@ -9,7 +9,7 @@ use mathlib.Core.List.{List, [], _∷_}
 use lib.ListN.{length, getD, List·getD-eq-default}
 use lib.Dec.{leb, ltb}
 use borrow.Author.Tests.{ltb-true, ltb-false, leb-true, le-leb, not-true}
-use Rattle.layout.specs.Tree.{Actions}
+use Rattle.layout.specs.Tree.{Actions, bodyCount}
 use Rattle.layout.specs.Read.{Terms, placed, got, readBody}
 use Rattle.layout.specs.Write.{bodySize, Position, blockStart, Event, labelAt, branchAt, payloadTooLong, bodyTooLong, traceBody, events, lookup}
 use Rattle.layout.specs.Judge.{distance, isNear, farUnless, judged, orElse, Mode, plainMode, refusalIf, barred, judgedIn, firstRefused, tooFar, badBy, badBranch}
@@ -20,11 +20,12 @@ use Rattle.laws.specs.Modes.{plain-if, plain-far}
 use Rattle.laws.specs.ReadFits.{good-got, body-good}
 use Rattle.laws.specs.Packed.{spells, same-tree}
 use Rattle.laws.specs.Within.{AllWithin, body-within, Recorded, lookup-within}
-use Rattle.labels.specs.Table.{slotOf, kept, homed, recordIn, TableHolds}
+use Rattle.labels.specs.Table.{slotOf, kept, homed, unnumbered, recordIn, TableHolds}
+use Rattle.positions.specs.declared.ActionNumber.{ActionNumber}
 use Rattle.positions.specs.declared.BytePosition.{BytePosition}
 use Rattle.labels.proofs.Labels.{table-record, both-record}
 use Rattle.laws.specs.Resolved.{bodyLength, bodyEvents}
-use Rattle.measure.specs.Walk.{measure, branches, measured}
+use Rattle.measure.specs.Walk.{measure, branches, uncounted, measured}
 use Rattle.pcode.proofs.Readings.{given}
 use Rattle.pcode.proofs.Trees.{UnderBody, main-body, body-under}
 use Rattle.pcode.proofs.Labels as labels
@@ -41,10 +42,10 @@ use Rattle.judge.proofs.Loops.{found, found-bad}
 -- ---- a short block
 
 module _ (end : ℕ) where
-  near-short : (o : Option Position) (p : ℕ) → Recorded end o → p + 2 ≤ end → end ≤ 32768 → judged o (p + 2) ≡ none
+  near-short : (o : Option Position) (p k : ℕ) → Recorded end o → p + 2 ≤ end → end ≤ 32768 → judged o (p + 2) k ≡ none
   unfolding judged farUnless isNear
-  near-short none p h k l = refl
-  near-short (some s) p h k l =
+  near-short none p n h k l = refl
+  near-short (some s) p n h k l =
       let i : s .at ≤ p + 2 + 32767 = omega (arith, h, l) in
       let j : p + 2 ≤ s .at + 32768 = omega (arith, k, l) in
       rw (le-leb (s .at) (p + 2 + 32767) i, le-leb (p + 2) (s .at + 32768) j)
@@ -53,7 +54,7 @@ module _ (end : ℕ) where
   unfolding firstRefused orElse
   none-far-short all [] h k l = refl
   none-far-short all (labelAt m s ∷ es) h k l = none-far-short all es h (k .1) l
-  none-far-short all (branchAt m s ∷ es) h k l = rw (near-short (lookup m all) (s .at) (lookup-within end m all h) (k .0) l) (none-far-short all es h (k .1) l)
+  none-far-short all (branchAt m s ∷ es) h k l = rw (near-short (lookup m all) (s .at) (s .number) (lookup-within end m all h) (k .0) l) (none-far-short all es h (k .1) l)
   none-far-short all (payloadTooLong m s ∷ es) h k l = none-far-short all es h (k .1) l
   none-far-short all (bodyTooLong m s ∷ es) h k l = none-far-short all es h (k .1) l
 
@@ -80,6 +81,12 @@ slots-small end tab es m h k l = go (ltb l (length tab)) refl
     go false e =
         let z : getD tab l 0 ≡ 0 = List·getD-eq-default tab 0 (ltb-false l (length tab) e) in
         omega (arith, z)
+
+-- no mode asks for a record's number
+unnumbered-judged : (mode : Mode) (o : Option Position) (s : Position) → judgedIn mode (unnumbered o) s ≡ judgedIn mode o s
+unfolding judgedIn barred judged distance unnumbered
+unnumbered-judged mode none s = refl
+unnumbered-judged mode (some r) s = refl
 
 -- a mode that is not contained does not ask for a record's home
 unhomed : (mode : Mode) → mode .contained ≡ false → (home : ℕ) (o : Option Position) (s : Position) → judgedIn mode (homed home (homed 0 o)) s ≡ judgedIn mode o s
@@ -113,9 +120,10 @@ module _ (terms : Terms) (b : List ℕ) (end : BytePosition) (mode : Mode) (tab 
       let g = good-got (m .reads .read) (m .reads .next) (body-good terms b (m .bytes) spelling (Unit {0}) (spells b (m .bytes) terms) 16 (placed 0) (omega arith)) is-body in
       omega (arith, m .is-end, ap bodySize (m .reads .is-tree), g .0 .1 tt, g .1, m .limited)
 
-  pub main-asks : Judgeable terms (readBody terms b 16 (placed 0)) b 0 (record { 0 = 0 }) mode tab homes
+  pub main-asks : Judgeable terms (readBody terms b 16 (placed 0)) b 0 (record { 0 = 0 }) 0 mode tab homes
   main-asks = record {
     roomy = record { bytes = m .bytes; inside = omega arith; room = omega (arith, m .limited) };
+    before = omega arith;
     slots = m .slots;
     small = slots-small (end .0) tab all end-small (m .holds) within;
     lent = g .lent;
@@ -140,7 +148,7 @@ module _ (terms : Terms) (b : List ℕ) (end : BytePosition) (mode : Mode) (tab 
   branch-same l s h = go (mode .contained) refl
     where
       go : (t : Bool) → mode .contained ≡ t → judgedIn mode (recordIn tab homes l) s ≡ judgedIn mode (lookup l all) s
-      go true e = ap (λ o. judgedIn mode o s) (both-record tab homes all (m .holds) (g .holds) l (omega (arith, h, m .slots)) (omega (arith, h, g .lent e)))
+      go true e = ap (λ o. judgedIn mode o s) (both-record tab homes all (m .holds) (g .holds) l (omega (arith, h, m .slots)) (omega (arith, h, g .lent e))) ∙ unnumbered-judged mode (lookup l all) s
       go false e = ap (λ o. judgedIn mode (homed (getD homes l 0) o) s) (table-record tab all (m .holds) l (omega (arith, h, m .slots))) ∙ unhomed mode e (getD homes l 0) (lookup l all) s
 
   by-tables : badBy mode (recordIn tab homes) (branches (bodyEvents (m .reads .read) blockStart)) ≡ badBranch mode all all
@@ -149,13 +157,13 @@ module _ (terms : Terms) (b : List ℕ) (end : BytePosition) (mode : Mode) (tab 
       ∙ ap (λ (t : Actions). badBy mode (recordIn tab homes) (traceBody t blockStart)) (m .reads .is-tree)
       ∙ (unfold events in refused-same (judgedIn mode) (judgedIn mode) (recordIn tab homes) (λ l. lookup l all) all (each-then (λ l s. l < terms .labelBound) _ branch-same all under))
 
-  module _ (r : Judged) (j : Judging mode tab homes (measured bodyLength bodyEvents blockStart (readBody terms b 16 (placed 0))) r) where
-    here : Judging mode tab homes (got (measure (0 + bodyLength (m .reads .read)) (branches (bodyEvents (m .reads .read) blockStart))) (m .reads .next)) r
-    unfolding measured
+  module _ (r : Judged) (j : Judging mode tab homes (measured bodyLength bodyCount bodyEvents blockStart (readBody terms b 16 (placed 0))) r) where
+    here : Judging mode tab homes (got (measure (0 + bodyLength (m .reads .read)) (0 + bodyCount (m .reads .read)) (branches (bodyEvents (m .reads .read) blockStart))) (m .reads .next)) r
+    unfolding measured uncounted
     here = rw is-body at j
 
-    pub main-passed : (q : ℕ) (w : BytePosition) → r ≡ code.Ends q w → MainJudged terms mode b verdict.Passed
-    main-passed q w e = judged-main verdict.Passed (rw (sym by-tables ∙ found here e .is-passed) Says.passed)
+    pub main-passed : (q : ℕ) (w : BytePosition) (k : ActionNumber) → r ≡ code.Ends q w k → MainJudged terms mode b verdict.Passed
+    main-passed q w k e = judged-main verdict.Passed (rw (sym by-tables ∙ found here e .is-passed) Says.passed)
 
-    pub main-bad : (bad : BadBranch) → r ≡ code.Refused bad → MainJudged terms mode b (verdict.Refused bad)
-    main-bad bad e = judged-main (verdict.Refused bad) (rw (sym by-tables ∙ found-bad here e) (Says.refused {bad = bad}))
+    pub main-bad : (bad : BadBranch) (k : ActionNumber) → r ≡ code.Refused bad k → MainJudged terms mode b (verdict.Refused bad k)
+    main-bad bad k e = judged-main (verdict.Refused bad k) (rw (sym by-tables ∙ found-bad here e) (Says.refused {bad = bad} {k = k}))

@@ -15,6 +15,7 @@ use Rattle.layout.specs.Judge.{Mode, judgedIn, badBy, badBranch}
 use Rattle.laws.specs.Packed.{ReadsMain}
 use Rattle.labels.specs.Table.{recordIn, HomesHold}
 use Rattle.labels.specs.Mains.{MainMeasured}
+use Rattle.positions.specs.declared.ActionNumber.{ActionNumber}
 use Rattle.positions.specs.declared.BytePosition.{BytePosition}
 use Rattle.positions.specs.Scanned.{Roomy}
 use Rattle.measure.specs.Walk.{Measure}
@@ -31,11 +32,11 @@ use Rattle.judge.specs.declared.Verdict.the-variants as verdict
 abbrev pub modeOf : code-mode.Mode → Mode
 modeOf m = record { strict = m .strict; contained = m .contained }
 
--- 10, 14 or 15, each with its value
-unfoldable pub refusalOf : BadBranch → Refusal
-refusalOf (branch.Far bits) = JumpOffsetOverflow (signed64 bits)
-refusalOf (branch.NeverRecorded w) = NeverRecorded (w .0)
-refusalOf (branch.StrayBranch w) = StrayBranch (w .0)
+-- 10, 14 or 15, each with its value and the branch's number
+unfoldable pub refusalOf : BadBranch → ActionNumber → Refusal
+refusalOf (branch.Far bits) k = JumpOffsetOverflow (signed64 bits) (k .0)
+refusalOf (branch.NeverRecorded w) k = NeverRecorded (w .0) (k .0)
+refusalOf (branch.StrayBranch w) k = StrayBranch (w .0) (k .0)
 
 -- ---- by the tables
 
@@ -49,12 +50,15 @@ HomesLent terms mode homes = mode .contained ≡ true → terms .labelBound ≤ 
 
 -- one branch to a label, whose operand stands at a position and ends at a place
 pub data BranchJudged (mode : Mode) (tab homes : List ℕ) (label next : ℕ) (operand : Position) : Judged → Type 0 where
-  passed : {w : BytePosition} → judgedIn mode (recordIn tab homes label) operand ≡ none → w .0 ≡ operand .at + 2 → BranchJudged mode tab homes label next operand (code.Ends next w)
-  refused : {bad : BadBranch} → judgedIn mode (recordIn tab homes label) operand ≡ some (refusalOf bad) → BranchJudged mode tab homes label next operand (code.Refused bad)
+  passed : {w : BytePosition} {k : ActionNumber} → judgedIn mode (recordIn tab homes label) operand ≡ none → w .0 ≡ operand .at + 2 → k .0 ≡ operand .number + 1
+      → BranchJudged mode tab homes label next operand (code.Ends next w k)
+  refused : {bad : BadBranch} {k : ActionNumber} → judgedIn mode (recordIn tab homes label) operand ≡ some (refusalOf bad k) → BranchJudged mode tab homes label next operand (code.Refused bad k)
 
--- what is asked of a place and a position: that something reads there, with a slot for each label that the terms allow
-pub record Judgeable {A : Type 0} (terms : Terms) (read : Read A) (b : List ℕ) (at : ℕ) (pos : BytePosition) (mode : Mode) (tab homes : List ℕ) : Type 0 where
+-- what is asked of a place and a position: that something reads there, with no more actions before than bytes and a slot for each
+-- label that the terms allow
+pub record Judgeable {A : Type 0} (terms : Terms) (read : Read A) (b : List ℕ) (at : ℕ) (pos : BytePosition) (number : ℕ) (mode : Mode) (tab homes : List ℕ) : Type 0 where
   pub roomy : Roomy b at pos
+  pub before : number ≤ at
   pub slots : terms .labelBound ≤ length tab
   pub small : Small tab
   pub lent : HomesLent terms mode homes
@@ -64,8 +68,9 @@ pub record Judgeable {A : Type 0} (terms : Terms) (read : Read A) (b : List ℕ)
 
 -- what is found there: where it ends, or the first branch that is refused
 pub data Judging (mode : Mode) (tab homes : List ℕ) : Read Measure → Judged → Type 0 where
-  passed : {m : Measure} {q : Place} {w : BytePosition} → badBy mode (recordIn tab homes) (m .branching) ≡ none → w .0 ≡ m .end → Judging mode tab homes (got m q) (code.Ends (q .at) w)
-  refused : {m : Measure} {q : Place} {bad : BadBranch} → badBy mode (recordIn tab homes) (m .branching) ≡ some (refusalOf bad) → Judging mode tab homes (got m q) (code.Refused bad)
+  passed : {m : Measure} {q : Place} {w : BytePosition} {k : ActionNumber} → badBy mode (recordIn tab homes) (m .branching) ≡ none → w .0 ≡ m .end → k .0 ≡ m .number
+      → Judging mode tab homes (got m q) (code.Ends (q .at) w k)
+  refused : {m : Measure} {q : Place} {bad : BadBranch} {k : ActionNumber} → badBy mode (recordIn tab homes) (m .branching) ≡ some (refusalOf bad k) → Judging mode tab homes (got m q) (code.Refused bad k)
 
 -- ---- a whole main body
 
@@ -78,7 +83,7 @@ pub record MainJudgeable (terms : Terms) (b : List ℕ) (end : BytePosition) (mo
 -- what the verdict says: no branch is refused, or the refusal
 pub data Says : Option Refusal → Verdict → Type 0 where
   passed : Says none verdict.Passed
-  refused : {bad : BadBranch} → Says (some (refusalOf bad)) (verdict.Refused bad)
+  refused : {bad : BadBranch} {k : ActionNumber} → Says (some (refusalOf bad k)) (verdict.Refused bad k)
 
 -- for whatever tree it is found to read as
 pub record MainJudged (terms : Terms) (mode : Mode) (b : List ℕ) (r : Verdict) : Type 0 where

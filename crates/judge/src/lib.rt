@@ -1,17 +1,19 @@
 // Judging the branches of a main body that reads whole, against the final label tables: 10 and, by the mode, 14 and 15. `home` is
-// the position at which the function body starts that a branch is in; only a function's body has another.
+// the position at which the function body starts that a branch is in; only a function's body has another. `number` is that of the
+// next action.
 ghost use mathlib.Core.Path.{_≡_};
 ghost use mathlib.Core.Bool.{true, _&&_, not};
 ghost use Prim.Native.Nat.{_+_, _≤_, _<_};
 ghost use lib.Dec.{leb};
 ghost use lib.ListN.{length};
-ghost use Rattle.layout.specs.Read.{placed, readAction, readBody, repeat};
+ghost use Rattle.layout.specs.Tree.{count, bodyCount};
+ghost use Rattle.layout.specs.Read.{placed, behind, readAction, readBody};
 ghost use Rattle.layout.specs.Lengths.{total};
 ghost use Rattle.laws.specs.Resolved.{actionSize, actionTrace, bodyLength, bodyEvents};
-ghost use Rattle.measure.specs.Walk.{measured, inBodies};
+ghost use Rattle.measure.specs.Walk.{standing, measured, inTurn, inBodies};
 ghost use Rattle.editions.specs.Allowed.{termsOf};
 ghost use Rattle.judge.specs.Judging.{modeOf, Small, Judgeable, Judging, BranchJudged, MainJudgeable, MainJudged};
-ghost use Rattle.labels.specs.Table.{isRecorded, isAtHome, recordAt, recordIn, positionOf};
+ghost use Rattle.labels.specs.Table.{isRecorded, isAtHome, recordAt, recordIn};
 use editions::Terms;
 use fields::u16_at;
 use labels::distance;
@@ -21,6 +23,7 @@ use labels::is_recorded;
 use measure::Laid;
 use opcode::OpCode;
 use payload::scan_payload;
+use positions::ActionNumber;
 use positions::BytePosition;
 
 // What is asked of a sheet's branches besides their distances: in strict mode, that each one's label is recorded; in a contained
@@ -38,16 +41,17 @@ pub enum BadBranch {
     StrayBranch(BytePosition),
 }
 
-// Where reading and writing would end, or the first branch in writing order that is refused.
+// Where reading and writing would end and the number of the next action, or the first branch in writing order that is refused, with
+// its own.
 pub enum Judged {
-    Ends(usize, BytePosition),
-    Refused(BadBranch),
+    Ends(usize, BytePosition, ActionNumber),
+    Refused(BadBranch, ActionNumber),
 }
 
-// That no branch is refused, or the first in writing order that is.
+// That no branch is refused, or the first in writing order that is, with its number.
 pub enum Verdict {
     Passed,
-    Refused(BadBranch),
+    Refused(BadBranch, ActionNumber),
 }
 
 // Whether strict mode refuses a branch to this label.
@@ -72,31 +76,33 @@ fn is_stray(mode: Mode, label: usize, home: BytePosition, tab: &[usize], homes: 
     false
 }
 
-// A branch to a label, whose operand stands at position `operand` and ends at place `next`.
+// A branch to a label, whose operand stands at position `operand` and ends at place `next`, and its number.
 fn judge_branch(
     label: usize,
     next: usize,
     operand: BytePosition,
     home: BytePosition,
+    action: ActionNumber,
     mode: Mode,
     tab: &[usize],
     homes: &[usize],
 ) -> Judged
-    requires { ⌜ (label < length (now tab)) × (mode .contained ≡ true → label < length (now homes)) × Small (now tab) × (operand .0 + 2 ≤ 1099511627776) ⌝ }
-    ensures { λ r. ⌜ BranchJudged (modeOf mode) (now (tab .entry)) (now (homes .entry)) label next (positionOf operand home) r ⌝ }
+    requires { ⌜ (label < length (now tab)) × (mode .contained ≡ true → label < length (now homes)) × Small (now tab) × (operand .0 + 2 ≤ 1099511627776) × (action .0 + 1 < 18446744073709551616) ⌝ }
+    ensures { λ r. ⌜ BranchJudged (modeOf mode) (now (tab .entry)) (now (homes .entry)) label next (standing operand home action) r ⌝ }
 {
     if is_unrecorded(mode, label, tab) {
-        return Judged::Refused(BadBranch::NeverRecorded(operand));
+        return Judged::Refused(BadBranch::NeverRecorded(operand), action);
     }
     if is_stray(mode, label, home, tab, homes) {
-        return Judged::Refused(BadBranch::StrayBranch(operand));
+        return Judged::Refused(BadBranch::StrayBranch(operand), action);
     }
     let after = operand.0 + OpCode::U16_LEN;
     let bits = distance(tab, label, BytePosition(after));
     if is_far(bits) {
-        return Judged::Refused(BadBranch::Far(bits));
+        return Judged::Refused(BadBranch::Far(bits), action);
     }
-    Judged::Ends(next, BytePosition(after))
+    let later = action.0 + 1;
+    Judged::Ends(next, BytePosition(after), ActionNumber(later))
 }
 
 // A body with `depth` levels allowed, itself included. Its label entries are stepped over.
@@ -107,30 +113,33 @@ fn judge_body(
     depth: usize,
     pos: BytePosition,
     home: BytePosition,
+    number: ActionNumber,
     mode: Mode,
     tab: &[usize],
     homes: &[usize],
 ) -> Judged
-    requires { ⌜ Judgeable (termsOf terms) (readBody (termsOf terms) (now b) depth (placed at)) (now b) at pos (modeOf mode) (now tab) (now homes) ⌝ }
-    ensures { λ r. ⌜ Judging (modeOf mode) (now (tab .entry)) (now (homes .entry)) (measured bodyLength bodyEvents (positionOf pos home) (readBody (termsOf terms) (now (b .entry)) depth (placed at))) r ⌝ }
+    requires { ⌜ Judgeable (termsOf terms) (readBody (termsOf terms) (now b) depth (placed at)) (now b) at pos (number .0) (modeOf mode) (now tab) (now homes) ⌝ }
+    ensures { λ r. ⌜ Judging (modeOf mode) (now (tab .entry)) (now (homes .entry)) (measured bodyLength bodyCount bodyEvents (standing pos home number) (readBody (termsOf terms) (now (b .entry)) depth (placed at))) r ⌝ }
 {
     let front = at + 2 + 4 * u16_at(b, at);
     let mut left = u16_at(b, front);
     let mut p = front + 2;
     let mut w = pos;
+    let mut action = number;
     while 0 < left {
-        match judge_action(b, terms, p, depth - 1, w, home, mode, tab, homes) {
-            Judged::Refused(bad) => {
-                return Judged::Refused(bad);
+        match judge_action(b, terms, p, depth - 1, w, home, action, mode, tab, homes) {
+            Judged::Refused(bad, k) => {
+                return Judged::Refused(bad, k);
             }
-            Judged::Ends(q, x) => {
+            Judged::Ends(q, x, k) => {
                 p = q;
                 w = x;
+                action = k;
             }
         }
         left -= 1;
     }
-    Judged::Ends(p, w)
+    Judged::Ends(p, w, action)
 }
 
 // The n bodies after a payload.
@@ -141,30 +150,33 @@ fn judge_bodies(
     depth: usize,
     pos: BytePosition,
     home: BytePosition,
+    number: ActionNumber,
     n: usize,
     mode: Mode,
     tab: &[usize],
     homes: &[usize],
 ) -> Judged
-    requires { ⌜ Judgeable (termsOf terms) (repeat (readBody (termsOf terms) (now b) depth) n (placed at)) (now b) at pos (modeOf mode) (now tab) (now homes) ⌝ }
-    ensures { λ r. ⌜ Judging (modeOf mode) (now (tab .entry)) (now (homes .entry)) (measured (total bodyLength) inBodies (positionOf pos home) (repeat (readBody (termsOf terms) (now (b .entry)) depth) n (placed at))) r ⌝ }
+    requires { ⌜ Judgeable (termsOf terms) (inTurn (readBody (termsOf terms) (now b) depth) n (placed at)) (now b) at pos (number .0) (modeOf mode) (now tab) (now homes) ⌝ }
+    ensures { λ r. ⌜ Judging (modeOf mode) (now (tab .entry)) (now (homes .entry)) (measured (total bodyLength) (total bodyCount) inBodies (standing pos home number) (inTurn (readBody (termsOf terms) (now (b .entry)) depth) n (placed at))) r ⌝ }
 {
     let mut left = n;
     let mut p = at;
     let mut w = pos;
+    let mut action = number;
     while 0 < left {
-        match judge_body(b, terms, p, depth, w, home, mode, tab, homes) {
-            Judged::Refused(bad) => {
-                return Judged::Refused(bad);
+        match judge_body(b, terms, p, depth, w, home, action, mode, tab, homes) {
+            Judged::Refused(bad, k) => {
+                return Judged::Refused(bad, k);
             }
-            Judged::Ends(q, x) => {
+            Judged::Ends(q, x, k) => {
                 p = q;
                 w = x;
+                action = k;
             }
         }
         left -= 1;
     }
-    Judged::Ends(p, w)
+    Judged::Ends(p, w, action)
 }
 
 // An action within which `depth` bodies may stand one in another. It reads, so its payload never stops; what is noted of its
@@ -176,29 +188,33 @@ fn judge_action(
     depth: usize,
     pos: BytePosition,
     home: BytePosition,
+    number: ActionNumber,
     mode: Mode,
     tab: &[usize],
     homes: &[usize],
 ) -> Judged
-    requires { ⌜ Judgeable (termsOf terms) (readAction (termsOf terms) (now b) (readBody (termsOf terms) (now b) depth) (placed at)) (now b) at pos (modeOf mode) (now tab) (now homes) ⌝ }
-    ensures { λ r. ⌜ Judging (modeOf mode) (now (tab .entry)) (now (homes .entry)) (measured actionSize actionTrace (positionOf pos home) (readAction (termsOf terms) (now (b .entry)) (readBody (termsOf terms) (now (b .entry)) depth) (placed at))) r ⌝ }
+    requires { ⌜ Judgeable (termsOf terms) (readAction (termsOf terms) (now b) (behind 1 (readBody (termsOf terms) (now b) depth)) (placed at)) (now b) at pos (number .0) (modeOf mode) (now tab) (now homes) ⌝ }
+    ensures { λ r. ⌜ Judging (modeOf mode) (now (tab .entry)) (now (homes .entry)) (measured actionSize count actionTrace (standing pos home number) (readAction (termsOf terms) (now (b .entry)) (behind 1 (readBody (termsOf terms) (now (b .entry)) depth)) (placed at))) r ⌝ }
 {
     let op = b[at];
+    let later = number.0 + 1;
+    let k = ActionNumber(later);
     if op < 0x80 {
         let next = at + 1;
         let after = pos.0 + OpCode::SMALL_LEN;
-        return Judged::Ends(next, BytePosition(after));
+        return Judged::Ends(next, BytePosition(after), k);
     }
-    let mut over = [0; 2];
-    match scan_payload(b, terms, op, at, pos, &mut over) {
-        Laid::Stops(_, p) => Judged::Ends(p, pos),
-        Laid::Flat(p, w) => Judged::Ends(p, w),
+    let mut over = [0; 3];
+    match scan_payload(b, terms, op, at, pos, number, &mut over) {
+        Laid::Stops(_, p) => Judged::Ends(p, pos, number),
+        Laid::Flat(p, w) => Judged::Ends(p, w, k),
         Laid::Branch(p, _, label) => {
             let operand = pos.0 + OpCode::HEADER_LEN;
-            judge_branch(label, p, BytePosition(operand), home, mode, tab, homes)
+            let at = BytePosition(operand);
+            judge_branch(label, p, at, home, number, mode, tab, homes)
         }
-        Laid::Bodies(p, w, n) => judge_bodies(b, terms, p, depth, w, home, n, mode, tab, homes),
-        Laid::Function(p, w) => judge_bodies(b, terms, p, depth, w, w, 1, mode, tab, homes),
+        Laid::Bodies(p, w, n) => judge_bodies(b, terms, p, depth, w, home, k, n, mode, tab, homes),
+        Laid::Function(p, w) => judge_bodies(b, terms, p, depth, w, w, k, 1, mode, tab, homes),
     }
 }
 
@@ -238,11 +254,12 @@ pub fn judge_main(
         16,
         BytePosition(0),
         BytePosition(0),
+        ActionNumber(0),
         mode,
         tab,
         homes,
     ) {
-        Judged::Refused(bad) => Verdict::Refused(bad),
-        Judged::Ends(_, _) => Verdict::Passed,
+        Judged::Refused(bad, action) => Verdict::Refused(bad, action),
+        Judged::Ends(_, _, _) => Verdict::Passed,
     }
 }

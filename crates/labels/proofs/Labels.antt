@@ -11,12 +11,12 @@ use lib.Seq.{getD-set-same, getD-set-other}
 use lib.Dec.{leb, ltb, eqb}
 use borrow.Author.Tests.{ltb-true, leb-true, eqb-true, eqb-false}
 use Rattle.layout.specs.Numbers.{u16At, bits64}
-use Rattle.layout.specs.Tree.{Entry, entry}
+use Rattle.layout.specs.Tree.{ActionIndex, Entry, entry}
 use Rattle.layout.specs.Read.{Terms, Place, ahead, got, ifWhole, ifWithin, tested, readU16, readLabel, readEntries}
-use Rattle.layout.specs.Write.{Position, Event, labelAt, branchAt, payloadTooLong, bodyTooLong, later, recordIf, lookup, distanceBits}
+use Rattle.layout.specs.Write.{Position, position, eventIf, labelsAt, Event, labelAt, branchAt, payloadTooLong, bodyTooLong, later, recordIf, lookup, distanceBits}
 use Rattle.layout.specs.Judge.{distance, isNear, farUnless, judged}
 use Rattle.laws.specs.ReadFits.{Good, fine, refused, good-then, good-got}
-use Rattle.labels.specs.Table.{slotOf, recordOf, recordAt, homeOf, homed, recordIn, recordAll, Tables, tables, recorded, Cleared, kept, Keeps, TableHolds, HomesHold, Slots, isFar, entriesAt, Rising, end, next}
+use Rattle.labels.specs.Table.{slotOf, recordOf, recordAt, homeOf, homed, unnumbered, recordIn, recordAll, Tables, tables, recorded, Cleared, kept, Keeps, TableHolds, HomesHold, Slots, isFar, entriesAt, Rising, end, next}
 use Rattle.labels.proofs.Distances.{far-unless-near}
 
 -- ---- the table
@@ -81,7 +81,7 @@ keeps keep es tab new z e = rw e (record { holds = λ l h. held l (rw (← lengt
 pub slots-kept : {terms : Terms} {tab new : List ℕ} → Slots terms tab → length new ≡ length tab → Slots terms new
 slots-kept h e = record { few = h .few; enough = omega (arith, h .enough, e) }
 
--- a slot gives its record back, but for its home
+-- a slot gives its record back, but for its home and its number
 pub record-of-slot : (o : Option Position) → recordOf (kept slotOf o) ≡ homed 0 o
 unfolding recordOf kept homed
 record-of-slot none = refl
@@ -91,23 +91,34 @@ record-of-slot (some s) = rw add-one
 pub table-record : (tab : List ℕ) (es : List Event) → TableHolds tab es → (l : ℕ) → l < length tab → recordAt tab l ≡ homed 0 (lookup l es)
 table-record tab es h l k = ap recordOf (h .holds l k) ∙ record-of-slot (lookup l es)
 
--- with the table of homes it is the events' record
+-- the tables do not keep a record's number
+pub any-number : (es : List Entry) (i : ActionIndex) (at home k : ℕ) (t : Tables) → recorded (labelsAt es i (position at home k)) t ≡ recorded (labelsAt es i (position at home 0)) t
+unfolding labelsAt eventIf recorded recordAll
+any-number [] i at home k t = refl
+any-number (entry l j ∷ es) i at home k t = go (eqb (i .index) (j .index)) (λ t. any-number es i at home k t)
+  where
+    go : (z : Bool) → ((t : Tables) → recorded (labelsAt es i (position at home k)) t ≡ recorded (labelsAt es i (position at home 0)) t)
+        → recorded (eventIf z (labelAt l (position at home k)) ++ labelsAt es i (position at home k)) t ≡ recorded (eventIf z (labelAt l (position at home 0)) ++ labelsAt es i (position at home 0)) t
+    go true h = h (tables (set (t .positions) l (at + 1)) (set (t .homes) l home))
+    go false h = h t
+
+-- with the table of homes it is the events' record, but for its number
 pub both-record : (tab homes : List ℕ) (es : List Event) → TableHolds tab es → HomesHold homes es → (l : ℕ) → l < length tab → l < length homes
-    → recordIn tab homes l ≡ lookup l es
-unfolding homed kept
+    → recordIn tab homes l ≡ unnumbered (lookup l es)
+unfolding homed kept unnumbered
 both-record tab homes es h g l k m = ap (homed (getD homes l 0)) (table-record tab es h l k) ∙ go (lookup l es) refl
   where
-    go : (o : Option Position) → lookup l es ≡ o → homed (getD homes l 0) (homed 0 o) ≡ o
+    go : (o : Option Position) → lookup l es ≡ o → homed (getD homes l 0) (homed 0 o) ≡ unnumbered o
     go none e = refl
     go (some s) e = rw (g .holds l m ∙ ap (kept homeOf) e)
 
 -- ---- what does not ask for a record's home
 
 module _ (home : ℕ) where
-  pub homed-judged : (o : Option Position) (after : ℕ) → judged (homed home o) after ≡ judged o after
+  pub homed-judged : (o : Option Position) (after k : ℕ) → judged (homed home o) after k ≡ judged o after k
   unfolding homed judged distance
-  homed-judged none after = refl
-  homed-judged (some s) after = refl
+  homed-judged none after k = refl
+  homed-judged (some s) after k = refl
 
   pub homed-bits : (o : Option Position) (after : ℕ) → distanceBits (homed home o) after ≡ distanceBits o after
   unfolding homed distanceBits
@@ -115,12 +126,12 @@ module _ (home : ℕ) where
   homed-bits (some s) after = refl
 
 -- a branch is judged by its slot, its distance's bits and what is said of them
-pub judged-by : {bits : ℕ} {far : Bool} (slot after : ℕ) → slot < 9223372036854775808 → after < 9223372036854775808 → far ≡ isFar bits
+pub judged-by : {bits : ℕ} {far : Bool} (slot after n : ℕ) → slot < 9223372036854775808 → after < 9223372036854775808 → far ≡ isFar bits
     → bits ≡ bits64 (distance (recordOf slot) after)
-    → judged (recordOf slot) after ≡ farUnless (not far) (distance (recordOf slot) after)
+    → judged (recordOf slot) after n ≡ farUnless (not far) (distance (recordOf slot) after) n
 unfolding recordOf distance judged farUnless isNear
-judged-by zero after h k f e = rw (f, e, far-unless-near 0 0 (omega arith) (omega arith))
-judged-by (suc n) after h k f e = rw (f, e, far-unless-near n after (omega arith) k, Bool·not-not (isNear n after))
+judged-by zero after n h k f e = rw (f, e, far-unless-near 0 0 (omega arith) (omega arith))
+judged-by (suc m) after n h k f e = rw (f, e, far-unless-near m after (omega arith) k, Bool·not-not (isNear m after))
 
 -- ---- the entries
 

@@ -18,10 +18,10 @@ use Rattle.layout.specs.Write.{Position, position, Event, labelAt, branchAt, pa
 abbrev pub slotOf : Position → ℕ
 slotOf s = s .at + 1
 
--- the record that a slot holds, but for its home, which this table does not keep: 0 stands there
+-- the record that a slot holds, but for its home and its action number, which this table does not keep: 0 stands there
 unfoldable pub recordOf : ℕ → Option Position
 recordOf zero = none
-recordOf (suc n) = some (position n 0)
+recordOf (suc n) = some (position n 0 0)
 
 -- the record that a table holds for a label
 abbrev pub recordAt : List ℕ → ℕ → Option Position
@@ -38,10 +38,15 @@ isRecorded (some s) = true
 abbrev pub homeOf : Position → ℕ
 homeOf s = s .home
 
--- a record with this home
+-- a record with this home; its number is not kept
 unfoldable pub homed : ℕ → Option Position → Option Position
 homed home none = none
-homed home (some s) = some (position (s .at) home)
+homed home (some s) = some (position (s .at) home 0)
+
+-- a record without its number
+unfoldable pub unnumbered : Option Position → Option Position
+unnumbered none = none
+unnumbered (some s) = some (position (s .at) (s .home) 0)
 
 -- the record that both tables hold for a label
 abbrev pub recordIn : List ℕ → List ℕ → ℕ → Option Position
@@ -134,9 +139,9 @@ pub data Rising (bound : ℕ) : ℕ → List Entry → Type 0 where
 abbrev pub indexOf : Rattle.positions.specs.declared.ActionIndex.ActionIndex → ActionIndex
 indexOf i = record { index = i .0 }
 
--- a position, and where the function body that it lies in starts
+-- a position, and where the function body that it lies in starts; of a label, whose number is not kept
 abbrev pub positionOf : Rattle.positions.specs.declared.BytePosition.BytePosition → Rattle.positions.specs.declared.BytePosition.BytePosition → Position
-positionOf p home = position (p .0) (home .0)
+positionOf p home = position (p .0) (home .0) 0
 
 -- ---- the recording of the entries es with index i, at position s
 

@@ -40,19 +40,19 @@ module _ (m : Mode) where
   -- where it bars nothing, the branch is as it asks
   pub unbarred-allowed : (o : Option Position) (s : Position) → barred m o s ≡ none → Allowed m o s
   unfolding barred refusalIf
-  unbarred-allowed none s e = record { is-recorded = λ k. absurd (Option·none-ne-some (NeverRecorded (s .at)) (sym (rw k at e))); is-home = λ k. nowhere }
+  unbarred-allowed none s e = record { is-recorded = λ k. absurd (Option·none-ne-some (NeverRecorded (s .at) (s .number)) (sym (rw k at e))); is-home = λ k. nowhere }
   unbarred-allowed (some r) s e = record { is-recorded = λ k. has-record; is-home = λ k. at-home {r = r} {s = s} (go (eqb (r .home) (s .home)) refl (rw k at e)) }
     where
-      go : (t : Bool) → eqb (r .home) (s .home) ≡ t → refusalIf (not t) (StrayBranch (s .at)) ≡ none → r .home ≡ s .home
+      go : (t : Bool) → eqb (r .home) (s .home) ≡ t → refusalIf (not t) (StrayBranch (s .at) (s .number)) ≡ none → r .home ≡ s .home
       go true i k = eqb-true (r .home) (s .home) i
-      go false i k = absurd (Option·none-ne-some (StrayBranch (s .at)) (sym k))
+      go false i k = absurd (Option·none-ne-some (StrayBranch (s .at) (s .number)) (sym k))
 
   -- and where the branch is so, it bars nothing
   pub allowed-unbarred : (o : Option Position) (s : Position) → Allowed m o s → barred m o s ≡ none
   unfolding barred refusalIf
   allowed-unbarred none s h = go (m .strict) (h .is-recorded)
     where
-      go : (t : Bool) → (t ≡ true → HasRecord none) → refusalIf t (NeverRecorded (s .at)) ≡ none
+      go : (t : Bool) → (t ≡ true → HasRecord none) → refusalIf t (NeverRecorded (s .at) (s .number)) ≡ none
       go true k = elim (k refl) [ ]
       go false k = refl
   allowed-unbarred (some r) s h = go (m .contained) (h .is-home)
@@ -60,7 +60,7 @@ module _ (m : Mode) where
       same : AtHome (some r) s → r .home ≡ s .home
       same (at-home e) = e
 
-      go : (t : Bool) → (t ≡ true → AtHome (some r) s) → refusalIf (t && not (eqb (r .home) (s .home))) (StrayBranch (s .at)) ≡ none
+      go : (t : Bool) → (t ≡ true → AtHome (some r) s) → refusalIf (t && not (eqb (r .home) (s .home))) (StrayBranch (s .at) (s .number)) ≡ none
       go true k = rw (eq-eqb (r .home) (s .home) (same (k refl)))
       go false k = refl
 
@@ -101,17 +101,18 @@ module _ (m : Mode) where
 
 -- ---- what 14 and 15 say
 
--- the branch whose operand stands at p is wrong, and every branch before it is neither barred by the mode nor too far
-pub record FirstWrong (Wrong : Option Position → Position → Type 0) (m : Mode) (t : Actions) (p : ℕ) : Type 0 where
+-- the branch whose operand stands at p, action k, is wrong, and every branch before it is neither barred by the mode nor too far
+pub record FirstWrong (Wrong : Option Position → Position → Type 0) (m : Mode) (t : Actions) (p k : ℕ) : Type 0 where
   pub before : List Event
   pub label : ℕ
   pub operand : Position
   pub later : List Event
   pub is-among : events t ≡ before ++ (branchAt label operand ∷ later)
   pub is-at : operand .at ≡ p
+  pub is-action : operand .number ≡ k
   pub is-wrong : Wrong (lookup label (events t)) operand
   pub are-unbarred : EachBranch (λ l s. barred m (lookup l (events t)) s ≡ none) before
-  pub are-near : EachBranch (λ l s. judged (lookup l (events t)) (s .at + 2) ≡ none) before
+  pub are-near : EachBranch (λ l s. judged (lookup l (events t)) (s .at + 2) (s .number) ≡ none) before
 
 -- no payload or body that is too long, and no branch that goes too far, is refused by a mode's own refusal
 abbrev NotOwn : Option Refusal → Type 0
@@ -126,12 +127,12 @@ long-not (branchAt l s ∷ es) = long-not es
 long-not (payloadTooLong n s ∷ es) = λ h. elim h [ ]
 long-not (bodyTooLong n s ∷ es) = λ h. elim h [ ]
 
-far-not : (o : Option Position) (after : ℕ) → NotOwn (judged o after)
+far-not : (o : Option Position) (after k : ℕ) → NotOwn (judged o after k)
 unfolding judged farUnless
-far-not none after = tt
-far-not (some r) after = go (isNear (r .at) after)
+far-not none after k = tt
+far-not (some r) after k = go (isNear (r .at) after)
   where
-    go : (t : Bool) → NotOwn (farUnless t (distance (some r) after))
+    go : (t : Bool) → NotOwn (farUnless t (distance (some r) after) k)
     go true = tt
     go false = λ h. elim h [ ]
 
@@ -162,13 +163,13 @@ module _ (m : Mode) (x : Refusal) (own : OfMode x) where
           let same : NoRoom (blockSize t) ≡ x = cc in
           elim (subst OfMode (sym same) own) [ ]
 
-  module _ (Wrong : Option Position → Position → Type 0) (p : ℕ)
-      (reading : (o : Option Position) (s : Position) → barred m o s ≡ some x → (asks m own ≡ true) × Wrong o s × (s .at ≡ p)) where
-    first-wrong : (s : List ℕ) (t : Actions) (room : ℕ) → ReadsAs s t → pack m s room ≡ Refused x → (asks m own ≡ true) × FirstWrong Wrong m t p
+  module _ (Wrong : Option Position → Position → Type 0) (p k : ℕ)
+      (reading : (o : Option Position) (s : Position) → barred m o s ≡ some x → (asks m own ≡ true) × Wrong o s × (s .at ≡ p) × (s .number ≡ k)) where
+    first-wrong : (s : List ℕ) (t : Actions) (room : ℕ) → ReadsAs s t → pack m s room ≡ Refused x → (asks m own ≡ true) × FirstWrong Wrong m t p k
     unfolding judgedIn
     first-wrong s t room h e =
         let d : Decided (judgedIn m) final (events t) x = decided (judgedIn m) final (events t) x (tree-own t room (sym (tree-next m s room t h) ∙ e)) in
-        let w = reading (final (d .label)) (d .operand) (own-left _ _ (far-not (final (d .label)) (d .operand .at + 2)) (d .is-refused)) in (
+        let w = reading (final (d .label)) (d .operand) (own-left _ _ (far-not (final (d .label)) (d .operand .at + 2) (d .operand .number)) (d .is-refused)) in (
           w .0,
           record {
             before = d .before;
@@ -177,6 +178,7 @@ module _ (m : Mode) (x : Refusal) (own : OfMode x) where
             later = d .later;
             is-among = d .is-among;
             is-at = w .2;
+            is-action = w .3;
             is-wrong = w .1;
             are-unbarred = each-then _ _ (λ l s k. or-left (barred m (final l) s) _ k) (d .before) (d .are-taken);
             are-near = each-then _ _ (λ l s k. or-right (barred m (final l) s) _ k) (d .before) (d .are-taken);
@@ -191,18 +193,18 @@ unfolding refusalIf
 if-is true e = (refl, cc)
 if-is false {x} e = absurd (Option·none-ne-some x e)
 
-module _ (m : Mode) (p : ℕ) where
-  barred-14 : (o : Option Position) (s : Position) → barred m o s ≡ some (NeverRecorded p) → (m .strict ≡ true) × (o ≡ none) × (s .at ≡ p)
+module _ (m : Mode) (p k : ℕ) where
+  barred-14 : (o : Option Position) (s : Position) → barred m o s ≡ some (NeverRecorded p k) → (m .strict ≡ true) × (o ≡ none) × (s .at ≡ p) × (s .number ≡ k)
   unfolding barred
   barred-14 none s e =
       let i = if-is (m .strict) e in
-      (i .0, refl, cc)
+      (i .0, refl, cc, cc)
   barred-14 (some r) s e =
       let i = if-is (m .contained && not (eqb (r .home) (s .home))) e in
       let z : _≡_ {A = ℕ} 0 1 = cc in
       absurd (omega arith)
 
-  barred-15 : (o : Option Position) (s : Position) → barred m o s ≡ some (StrayBranch p) → (m .contained ≡ true) × Stray o s × (s .at ≡ p)
+  barred-15 : (o : Option Position) (s : Position) → barred m o s ≡ some (StrayBranch p k) → (m .contained ≡ true) × Stray o s × (s .at ≡ p) × (s .number ≡ k)
   unfolding barred
   barred-15 none s e =
       let i = if-is (m .strict) e in
@@ -211,14 +213,14 @@ module _ (m : Mode) (p : ℕ) where
   barred-15 (some r) s e =
       let i = if-is (m .contained && not (eqb (r .home) (s .home))) e in
       let j = and-eq-true-iff (m .contained) (not (eqb (r .home) (s .home))) .0 (i .0) in
-      (j .0, stray (eqb-false (r .home) (s .home) (not-true _ (j .1))), cc)
+      (j .0, stray (eqb-false (r .home) (s .home) (not-true _ (j .1))), cc, cc)
 
   -- 14 is answered in strict mode alone, at "the byte position of the operand": that of the "first branch in writing order" whose
   -- label has no record
-  pub unrecorded-first : (s : List ℕ) (t : Actions) (room : ℕ) → ReadsAs s t → pack m s room ≡ Refused (NeverRecorded p)
-      → (m .strict ≡ true) × FirstWrong (λ o s. o ≡ none) m t p
-  unrecorded-first s t room h e = first-wrong m (NeverRecorded p) never-recorded _ p barred-14 s t room h e
+  pub unrecorded-first : (s : List ℕ) (t : Actions) (room : ℕ) → ReadsAs s t → pack m s room ≡ Refused (NeverRecorded p k)
+      → (m .strict ≡ true) × FirstWrong (λ o s. o ≡ none) m t p k
+  unrecorded-first s t room h e = first-wrong m (NeverRecorded p k) never-recorded _ p k barred-14 s t room h e
 
   -- 15 in a contained mode alone, at "the operand's byte position" of the first branch to "another function body"
-  pub stray-first : (s : List ℕ) (t : Actions) (room : ℕ) → ReadsAs s t → pack m s room ≡ Refused (StrayBranch p) → (m .contained ≡ true) × FirstWrong Stray m t p
-  stray-first s t room h e = first-wrong m (StrayBranch p) stray-branch Stray p barred-15 s t room h e
+  pub stray-first : (s : List ℕ) (t : Actions) (room : ℕ) → ReadsAs s t → pack m s room ≡ Refused (StrayBranch p k) → (m .contained ≡ true) × FirstWrong Stray m t p k
+  stray-first s t room h e = first-wrong m (StrayBranch p k) stray-branch Stray p k barred-15 s t room h e

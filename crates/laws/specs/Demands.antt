@@ -55,10 +55,10 @@ module _ (a b : ℕ) where
           let small : a - b < 32768 = omega (arith, near-both a b n .0) in
           rw (w, lt-ltb (a - b) 32768 small) (sym (sub-up l))
 
-judged-signed : (o : Option Position) (after : ℕ) → judged o after ≡ none → signed16 (distanceBits o after) ≡ distance o after
+judged-signed : (o : Option Position) (after k : ℕ) → judged o after k ≡ none → signed16 (distanceBits o after) ≡ distance o after
 unfolding distanceBits distance
-judged-signed none after e = unfold signed16 pick in refl
-judged-signed (some s) after e = near-signed (s .at) after (near-of s after e)
+judged-signed none after k e = unfold signed16 pick in refl
+judged-signed (some s) after k e = near-signed (s .at) after (near-of s after k e)
 
 -- ---- each branch of a tree given something else
 
@@ -105,7 +105,7 @@ module _ (all : List Event) where
 
     signed : (a : Action) (s : Position) → NoneFar final (trace a s) → mapBranch signed16 (told bitsOf a (s .at)) ≡ told distanceOf a (s .at)
     signed (flat f) s e = refl
-    signed (branch k l) s e = ap (branch k) (judged-signed (lookup l all) (s .at + 5) (branch-near final l s e))
+    signed (branch k l) s e = ap (branch k) (judged-signed (lookup l all) (s .at + 5) (s .number + 0) (branch-near final l s e))
     signed (owner o b) s e =
         let u : Position = toBody o s in
         let y : List Event = traceBody b u in

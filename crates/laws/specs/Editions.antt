@@ -16,12 +16,12 @@ use Rattle.layout.specs.Numbers.{u16At, u32At, le16}
 use Rattle.layout.specs.Answers.{Fault, BadField, Refusal, ReadingFault, Done, Refused}
 use Rattle.layout.specs.OpCode.{OpCode, opcodeOf}
 use Rattle.layout.specs.PushKind.{PushKind, kindOf}
-use Rattle.layout.specs.Tree.{CatchTargetOf, Entry, entry, ActionOf, flat, branch, owner, Try, ActionListOf, empty, more, ActionsOf, Actions, body, CatchOf, noCatch, catch, FinallyOf, noFinally, finally}
-use Rattle.layout.specs.Read.{Text, Terms, edition1, edition2, deepest, Place, placed, Read, got, bad, ahead, Reader, chain, ifWhole, ifWithin, ifNothingLeft, tested, repeat, isShape, hasCatch, hasFinally, hasRegister, readU8, readU16, readCounted, readString, readValueOf, readValueIf, readValue, readParam, readLabel, readEntries, readCatchTarget, readCatch, readFinally, readTry, readFields, readFieldsIf, readAction, readActions, readBodyWith, readBody, readMain}
+use Rattle.layout.specs.Tree.{CatchTargetOf, Entry, entry, ActionOf, flat, branch, owner, Try, ActionListOf, empty, more, ActionsOf, Actions, body, CatchOf, noCatch, catch, FinallyOf, noFinally, finally, count, bodyCount, catchCount}
+use Rattle.layout.specs.Read.{Text, Terms, edition1, edition2, deepest, Place, placed, Stop, Read, got, bad, ahead, Reader, chain, moreBegun, behind, ifWhole, ifWithin, ifNothingLeft, tested, repeat, isShape, hasCatch, hasFinally, hasRegister, readU8, readU16, readCounted, readString, readValueOf, readValueIf, readValue, readParam, readLabel, readEntries, readCatchTarget, readCatch, readFinally, readTry, readFields, readFieldsIf, readAction, readActions, readBodyWith, readBody, readMain}
 use Rattle.layout.specs.Strings.{mapAction, mapActions, mapBody, mapCatch, mapFinally}
 use Rattle.layout.specs.Judge.{Mode}
 use Rattle.layout.specs.Cut.{Edition, First, Second, editionNumber, editions, editionOf, Cut, main, uncut, sheetLimit, trailerDistance, trailerEdition, isMarked, cutIf, cutAt, cutIfTrailer, cutIfShort, cut}
-use Rattle.layout.specs.Pack.{editionTerms, spelling, packCut, pack, ReadsAs}
+use Rattle.layout.specs.Pack.{editionTerms, spelling, faultAction, packCut, pack, ReadsAs}
 use Rattle.layout.specs.Order.{fault-next}
 use Rattle.laws.specs.Packed.{refused-done}
 
@@ -85,13 +85,13 @@ module _ (n : ℕ) where
 -- what a reading gives names a label number that is not under the bound, where it gives anything
 pub data Big {A : Type 0} (under : A → Type 0) : Read A → Type 0 where
   told : {a : A} {q : Place} → (under a → ⊥) → Big under (got a q)
-  faulty : {f : Fault} {q : Place} → Big under (bad f q)
+  faulty : {f : Fault} {q : Stop} → Big under (bad f q)
 
 -- x is a reading of bytes b by fewer label numbers than y: they are the same, or x refuses the label number at a place, which is not
 -- under its bound
 pub data Alike (bound : ℕ) (b : List ℕ) {A : Type 0} (under : A → Type 0) : Read A → Read A → Type 0 where
   same : {x : Read A} → Alike bound b under x x
-  over : {p : Place} {y : Read A} → bound ≤ u16At b (p .at) → Big under y → Alike bound b under (bad BadField p) y
+  over : {p : Stop} {y : Read A} → bound ≤ u16At b (p .at) → Big under y → Alike bound b under (bad BadField p) y
 
 -- a chain of readings gives what its last gives
 comes : {A B : Type 0} (x : Read A) (f : A → Reader B) {c : B} {r : Place} → chain x f ≡ got c r → (a : A) × (q : Place) × (f a q ≡ got c r)
@@ -116,7 +116,16 @@ big-then {under′ = under′} g tells (told {a} {q} n) = go (g a q) refl
     go (bad f r) e = faulty
 big-then g tells faulty = faulty
 
+big-behind : {A : Type 0} {under : A → Type 0} {y : Read A} (n : ℕ) → Big under y → Big under (moreBegun n y)
+big-behind n (told h) = told h
+big-behind n faulty = faulty
+
 module _ {bound : ℕ} {b : List ℕ} where
+  -- behind n actions
+  alike-behind : {A : Type 0} {under : A → Type 0} {x y : Read A} (n : ℕ) → Alike bound b under x y → Alike bound b under (moreBegun n x) (moreBegun n y)
+  alike-behind n same = same
+  alike-behind n (over l h) = over l (big-behind n h)
+
   -- equal readings are
   alike-eq : {A : Type 0} {under : A → Type 0} {x y : Read A} → x ≡ y → Alike bound b under x y
   alike-eq {under = under} {x = x} e = subst (λ y. Alike bound b under x y) e same
@@ -251,10 +260,10 @@ module _ (k k′ : Terms) (wider : k .labelBound ≤ k′ .labelBound) (b : List
     try-alike : (shape : ℕ) (p : Place) → Like (NamesUnder (k .labelBound)) (readTry k b inner shape p) (readTry k′ b inner′ shape p)
     unfolding readTry
     try-alike shape p =
-        after-equal (target-same k k′ b (hasCatch shape) (hasRegister shape) p) (λ target q. alike-then (inner-alike q) (λ t r. alike-then (catch-alike (hasCatch shape) target r)
-        (λ c s. alike-made (λ f. Try t c f) (λ f u. u .2) (finally-alike (hasFinally shape) s))
-        (λ c s x v e u. let z = comes (readFinally k′ b inner′ (hasFinally shape) s) _ e in is t c (z .0) x (got-same (z .2)) u .1))
-        (λ t r x v e u. let y = comes (readCatch k′ b inner′ (hasCatch shape) target r) _ e in let z = comes (readFinally k′ b inner′ (hasFinally shape) (y .1)) _ (y .2) in is t (y .0) (z .0) x (got-same (z .2)) u .0))
+        after-equal (target-same k k′ b (hasCatch shape) (hasRegister shape) p) (λ target q. alike-then (inner-alike q) (λ t r. alike-then (alike-behind (bodyCount t) (catch-alike (hasCatch shape) target r))
+        (λ c s. alike-made (λ f. Try t c f) (λ f u. u .2) (alike-behind (bodyCount t + catchCount c) (finally-alike (hasFinally shape) s)))
+        (λ c s x v e u. let z = comes (moreBegun (bodyCount t + catchCount c) (readFinally k′ b inner′ (hasFinally shape) s)) _ e in is t c (z .0) x (got-same (z .2)) u .1))
+        (λ t r x v e u. let y = comes (moreBegun (bodyCount t) (readCatch k′ b inner′ (hasCatch shape) target r)) _ e in let z = comes (moreBegun (bodyCount t + catchCount (y .0)) (readFinally k′ b inner′ (hasFinally shape) (y .1))) _ (y .2) in is t (y .0) (z .0) x (got-same (z .2)) u .0))
       where
         is : (t : ActionsOf Text ℕ) (c : CatchOf Text ℕ) (f : FinallyOf Text ℕ) (x : ActionOf Text ℕ) → Try t c f ≡ x → NamesUnder (k .labelBound) x → NamesUnder (k .labelBound) (Try t c f)
         is t c f x e u = rw (← e) at u
@@ -295,8 +304,8 @@ module _ (k k′ : Terms) (wider : k .labelBound ≤ k′ .labelBound) (b : List
     unfolding readActions
     actions-alike zero p = same
     actions-alike (suc n) p =
-        alike-then (action-alike p) (λ a q. alike-made (λ xs. more a xs) (λ xs u. u .1) (actions-alike n q))
-        (λ a q c r e u. let y = comes (readActions k′ b inner′ n q) _ e in first a (y .0) c (got-same (y .2)) u)
+        alike-then (action-alike p) (λ a q. alike-made (λ xs. more a xs) (λ xs u. u .1) (alike-behind (count a) (actions-alike n q)))
+        (λ a q c r e u. let y = comes (moreBegun (count a) (readActions k′ b inner′ n q)) _ e in first a (y .0) c (got-same (y .2)) u)
       where
         first : (a : ActionOf Text ℕ) (xs c : ActionListOf Text ℕ) → more a xs ≡ c → ActionsNameUnder (k .labelBound) c → NamesUnder (k .labelBound) a
         first a xs c e u = (rw (← e) at u) .0
@@ -313,14 +322,14 @@ module _ (k k′ : Terms) (wider : k .labelBound ≤ k′ .labelBound) (b : List
   body-alike : (depth : ℕ) (p : Place) → Like (BodyNamesUnder (k .labelBound)) (readBody k b depth p) (readBody k′ b depth p)
   unfolding readBody
   body-alike zero p = same
-  body-alike (suc depth) p = with-alike (readBody k b depth) (readBody k′ b depth) (body-alike depth) p
+  body-alike (suc depth) p = with-alike (behind 1 (readBody k b depth)) (behind 1 (readBody k′ b depth)) (λ q. alike-behind 1 (body-alike depth q)) p
 
   -- so are the two readings of a main body
   pub main-alike : Like (BodyNamesUnder (k .labelBound)) (readMain k b deepest) (readMain k′ b deepest)
   unfolding readMain
   main-alike = alike-then (body-alike deepest (placed 0)) (λ t p. same) (λ t p c r e u. left (eqb (p .at) (length b)) t p c r e u)
     where
-      left : (z : Bool) (t : ActionsOf Text ℕ) (p : Place) (c : ActionsOf Text ℕ) (r : Place) → ifNothingLeft z t p ≡ got c r → BodyNamesUnder (k .labelBound) c → BodyNamesUnder (k .labelBound) t
+      left : (z : Bool) (t : ActionsOf Text ℕ) (p : Place) (c : ActionsOf Text ℕ) (r : Place) → moreBegun (bodyCount t) (ifNothingLeft z t p) ≡ got c r → BodyNamesUnder (k .labelBound) c → BodyNamesUnder (k .labelBound) t
       left true t p c r e u =
           let i : t ≡ c = unfold ifNothingLeft in got-same e in
           rw i u
@@ -419,9 +428,9 @@ module _ (front mark : List ℕ) (two : length mark ≡ 2) where
 pub record LabelRefused (m : Mode) (s s′ : List ℕ) (room : ℕ) : Type 0 where
   pub start : ℕ
   pub bytes : List ℕ
-  pub place : Place
+  pub place : Stop
   pub is-cut : cut s ≡ main First start bytes
-  pub is-refused : pack m s room ≡ Refused (ReadingFault BadField (start + place .at))
+  pub is-refused : pack m s room ≡ Refused (ReadingFault BadField (start + place .at) (place .begun))
   pub is-over : 1024 ≤ u16At bytes (place .at)
   pub is-named : (t : Actions) → ReadsAs s′ t → BodyNamesUnder 1024 t → ⊥
 
@@ -442,7 +451,7 @@ module _ (m : Mode) (s s′ : List ℕ) (room start : ℕ) (b : List ℕ) (c : c
   unfolding pack packCut
   by-reading same e f = inl (rw (c, c′, e, f))
   by-reading (over {p} {y} l n) e f =
-      inr (record { start = start; bytes = b; place = p; is-cut = c; is-refused = unfold pack packCut in fault-next m s room First start b BadField p c e; is-over = l; is-named = none-under n f })
+      inr (record { start = start; bytes = b; place = p; is-cut = c; is-refused = unfold pack packCut faultAction in fault-next m s room First start b BadField p c e; is-over = l; is-named = none-under n f })
 
 module _ (m : Mode) (front mark : List ℕ) (two : length mark ≡ 2) (room : ℕ) where
   abbrev s : List ℕ

@@ -171,7 +171,7 @@ module _ (P : ℕ → Type 0) where
     action-housed (flat f) s h k = payload-housed _ s h
     action-housed (branch j l) s h k = (h, tt)
     action-housed (owner o b) s h k =
-        let inner : P (toBody o s .home) = home-in o (moved (5 + length (ownerFields o)) s) h (all-left P (newHome o (toBody o s .at)) _ k) in
+        let inner : P (toBody o s .home) = home-in o (moved (5 + length (ownerFields o)) 1 s) h (all-left P (newHome o (toBody o s .at)) _ k) in
         join (payloadTest _ s) _ (payload-housed _ s h)
         (join (traceBody b (toBody o s)) _ (body-housed b (toBody o s) inner (all-right P (newHome o (toBody o s .at)) _ k)) (length-housed _ s h))
     action-housed (Try b c f) s h k =

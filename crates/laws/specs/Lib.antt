@@ -5,6 +5,7 @@ pub mod Branches
 pub mod Nears
 pub mod Modes
 pub mod Barred
+pub mod Begun
 pub mod Homes
 pub mod Within
 pub mod RoundTrip

@@ -22,8 +22,8 @@ use Rattle.laws.specs.Branches.{or-left, or-right, EachBranch, each-of, 
 
 -- 14 and 15
 pub data OfMode : Refusal → Type 0 where
-  never-recorded : {p : ℕ} → OfMode (NeverRecorded p)
-  stray-branch : {p : ℕ} → OfMode (StrayBranch p)
+  never-recorded : {p k : ℕ} → OfMode (NeverRecorded p k)
+  stray-branch : {p k : ℕ} → OfMode (StrayBranch p k)
 
 -- whether a mode asks for it
 abbrev pub asks : {r : Refusal} → Mode → OfMode r → Bool
@@ -92,10 +92,10 @@ module _ (m m′ : Mode) where
     barred-beside : (o : Option Position) (s : Position) → Beside m m′ (barred m′ o s) (barred m o s)
     unfolding barred refusalIf
     barred-beside none s =
-        flag-beside (λ t. refusalIf t (NeverRecorded (s .at))) (m .strict) (m′ .strict) (stricter .is-strict)
+        flag-beside (λ t. refusalIf t (NeverRecorded (s .at) (s .number))) (m .strict) (m′ .strict) (stricter .is-strict)
         (λ e f. besides (record { of-mode = never-recorded; is-asked = e; is-unasked = f }))
     barred-beside (some r) s =
-        flag-beside (λ t. refusalIf (t && not (eqb (r .home) (s .home))) (StrayBranch (s .at))) (m .contained) (m′ .contained) (stricter .is-contained)
+        flag-beside (λ t. refusalIf (t && not (eqb (r .home) (s .home))) (StrayBranch (s .at) (s .number))) (m .contained) (m′ .contained) (stricter .is-contained)
         (λ e f. if-beside (not (eqb (r .home) (s .home))) (record { of-mode = stray-branch; is-asked = e; is-unasked = f }))
 
     branch-beside : (o : Option Position) (s : Position) → Beside m m′ (judgedIn m′ o s) (judgedIn m o s)
@@ -146,7 +146,7 @@ abbrev pub Unbarred : Mode → Actions → Type 0
 Unbarred m t = EachBranch (λ l s. barred m (lookup l (events t)) s ≡ none) (events t)
 
 module _ (m : Mode) where
-  unbarred-judged : (o : Option Position) (s : Position) → barred m o s ≡ none → judgedIn m o s ≡ judged o (s .at + 2)
+  unbarred-judged : (o : Option Position) (s : Position) → barred m o s ≡ none → judgedIn m o s ≡ judged o (s .at + 2) (s .number)
   unfolding judgedIn orElse
   unbarred-judged o s e = rw e
 

@@ -24,13 +24,13 @@ near-both to after h = go (leb to (after + 32767)) refl (leb after (to + 32768))
     go true hx false hy k = absurd (false≢true k)
     go false hx y hy k = absurd (false≢true k)
 
-pub near-of : (s : Position) (after : ℕ) → judged (some s) after ≡ none → isNear (s .at) after ≡ true
+pub near-of : (s : Position) (after k : ℕ) → judged (some s) after k ≡ none → isNear (s .at) after ≡ true
 unfolding judged distance
-near-of s after e = go (isNear (s .at) after) e
+near-of s after n e = go (isNear (s .at) after) e
   where
-    go : (t : Bool) → farUnless t (subℕ (s .at) after) ≡ none → t ≡ true
+    go : (t : Bool) → farUnless t (subℕ (s .at) after) n ≡ none → t ≡ true
     go true k = refl
-    go false k = absurd (Option·none-ne-some (JumpOffsetOverflow (subℕ (s .at) after)) (sym (unfold farUnless in k)))
+    go false k = absurd (Option·none-ne-some (JumpOffsetOverflow (subℕ (s .at) after) n) (sym (unfold farUnless in k)))
 
 -- sixteen bits are written for any branch
 pub bits-small : (o : Option Position) (after : ℕ) → distanceBits o after < 65536
@@ -52,8 +52,8 @@ module _ (final : ℕ → Option Position) where
   near-right xs ys e = or-right (farBy final xs) (farBy final ys) (sym (refused-append _ final xs ys) ∙ e)
 
   -- a branch at a position, whose operand ends five bytes after it
-  pub branch-near : (l : ℕ) (s : Position) → NoneFar (branchAt l (toOperand s) ∷ []) → judged (final l) (s .at + 5) ≡ none
+  pub branch-near : (l : ℕ) (s : Position) → NoneFar (branchAt l (toOperand s) ∷ []) → judged (final l) (s .at + 5) (s .number + 0) ≡ none
   unfolding firstRefused moved
   branch-near l s e =
       let same : s .at + 5 ≡ s .at + 3 + 2 = omega arith in
-      rw same (or-left (judged (final l) (s .at + 3 + 2)) none e)
+      rw same (or-left (judged (final l) (s .at + 3 + 2) (s .number + 0)) none e)

@@ -181,7 +181,7 @@ unfolding payloadTest eventIf tooLong
 payload-short n s e = go (ltb 65535 n) refl e
   where
     go : (t : Bool) → ltb 65535 n ≡ t → Short (eventIf t (payloadTooLong n s)) → n < 65536
-    go true h k = absurd (Option·none-ne-some (ActionLenOverflow n) (sym k))
+    go true h k = absurd (Option·none-ne-some (ActionLenOverflow n (s .number)) (sym k))
     go false h k = omega (arith, ltb-false 65535 n h)
 
 body-short : (n : ℕ) (s : Position) → Short (bodyTest n s) → n < 65536
@@ -189,7 +189,7 @@ unfolding bodyTest eventIf tooLong
 body-short n s e = go (ltb 65535 n) refl e
   where
     go : (t : Bool) → ltb 65535 n ≡ t → Short (eventIf t (bodyTooLong n s)) → n < 65536
-    go true h k = absurd (Option·none-ne-some (BlockLenOverflow n) (sym k))
+    go true h k = absurd (Option·none-ne-some (BlockLenOverflow n (s .number)) (sym k))
     go false h k = omega (arith, ltb-false 65535 n h)
 
 -- a tree whose fields fit, and in which nothing is too long, can be written

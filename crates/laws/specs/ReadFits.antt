@@ -14,8 +14,8 @@ use Rattle.layout.specs.Numbers.{le16}
 use Rattle.layout.specs.Answers.{Fault}
 use Rattle.layout.specs.OpCode.{OpCode, byte, opcodes, opcodeOf}
 use Rattle.layout.specs.PushKind.{PushKind, kindOf}
-use Rattle.layout.specs.Tree.{PushValueOf, String, Null, Undefined, Register, Boolean, Float, Integer, Constant, FlatOf, Small, GotoFrame, GetUrl, StoreRegister, ConstantPool, WaitForFrame, SetTarget, GotoLabel, WaitForFrame2, Push, GetUrl2, GotoFrame2, With, DefineFunction, DefineFunction2, Jump, If, CatchTarget, CatchTargetOf, Variable, ActionOf, flat, branch, owner, Try, empty, Actions, ActionsOf, noCatch, catch, noFinally}
-use Rattle.layout.specs.Read.{Text, plain, Terms, Place, ahead, Read, got, bad, Reader, chain, ifWhole, ifWithin, tested, repeat, firstZero, ifNoZero, ifNothingLeft, readU8, readU16, readU32, readU64, readBytes, readFlag, readSpelling, readCounted, isShape, readString, readValueOf, readValueIf, readValue, readParam, readLabel, readEntries, readCatchTarget, readCatch, readFinally, readTry, readFields, readFieldsIf, readAction, readActions, readBodyWith, readBody, readMain}
+use Rattle.layout.specs.Tree.{PushValueOf, String, Null, Undefined, Register, Boolean, Float, Integer, Constant, FlatOf, Small, GotoFrame, GetUrl, StoreRegister, ConstantPool, WaitForFrame, SetTarget, GotoLabel, WaitForFrame2, Push, GetUrl2, GotoFrame2, With, DefineFunction, DefineFunction2, Jump, If, CatchTarget, CatchTargetOf, Variable, ActionOf, flat, branch, owner, Try, empty, Actions, ActionsOf, noCatch, catch, noFinally, count, bodyCount, catchCount}
+use Rattle.layout.specs.Read.{Text, plain, Terms, Place, ahead, Stop, stop, Read, got, bad, Reader, chain, moreBegun, behind, ifWhole, ifWithin, tested, repeat, firstZero, ifNoZero, ifNothingLeft, readU8, readU16, readU32, readU64, readBytes, readFlag, readSpelling, readCounted, isShape, readString, readValueOf, readValueIf, readValue, readParam, readLabel, readEntries, readCatchTarget, readCatch, readFinally, readTry, readFields, readFieldsIf, readAction, readActions, readBodyWith, readBody, readMain}
 use Rattle.layout.specs.Strings.{mapValue, mapParam, mapFlat, mapOwner, mapTarget, mapAction, mapActions, mapBody, mapCatch, mapFinally}
 use Rattle.layout.specs.Payload.{opcode, payload, headed, framed}
 use Rattle.layout.specs.Write.{size, sizes, bodySize, catchSize, finallySize}
@@ -26,7 +26,7 @@ use Rattle.laws.specs.Fits.{Bytes, Clean, ValueFits, ParamFits, Listed, 
 
 pub data Good (n : ℕ) {A : Type 0} (P : A → Place → Type 0) : Read A → Type 0 where
   fine : {a : A} {p : Place} → P a p → p .at ≤ n → Good n P (got a p)
-  refused : {f : Fault} {p : Place} → p .at ≤ n → Good n P (bad f p)
+  refused : {f : Fault} {s : Stop} → s .at ≤ n → Good n P (bad f s)
 
 module _ {n : ℕ} {A : Type 0} {P : A → Place → Type 0} where
   good-whole : (t : Bool) (p : Place) (a : A) (q : Place) → p .at ≤ n → (t ≡ true → P a q × (q .at ≤ n)) → Good n P (ifWhole t p a q)
@@ -44,6 +44,11 @@ module _ {n : ℕ} {A : Type 0} {P : A → Place → Type 0} where
   good-then (fine h l) f = f _ _ h l
   good-then (refused l) f = refused l
 
+  -- the same behind k actions
+  pub good-behind : {m : Read A} (k : ℕ) → Good n P m → Good n P (moreBegun k m)
+  good-behind k (fine h l) = fine h l
+  good-behind k (refused l) = refused l
+
   -- a weaker property
   pub good-as : {Q : A → Place → Type 0} {m : Read A} → Good n Q m → ((a : A) (q : Place) → Q a q → P a q) → Good n P m
   good-as (fine h l) f = fine (f _ _ h) l
@@ -57,7 +62,7 @@ module _ {n : ℕ} {A : Type 0} {P : A → Place → Type 0} where
       go (fine k l) = (k, l)
 
   -- and of one that met a fault
-  pub good-bad : {r : Read A} (f : Fault) (p : Place) → Good n P r → r ≡ bad f p → p .at ≤ n
+  pub good-bad : {r : Read A} (f : Fault) (p : Stop) → Good n P r → r ≡ bad f p → p .at ≤ n
   good-bad {r} f p h e = go (subst (Good n P) e h)
     where
       go : Good n P (bad f p) → p .at ≤ n
@@ -148,7 +153,7 @@ module _ (b : List ℕ) (small : Bytes b) where
       → Good (length b) (λ t q. Clean t × (t ≡ s) × (q ≡ p)) (ifNoZero i s o p)
   unfolding ifNoZero
   noZero-good none i p s h e k l = fine (clean 0 s h e, refl, refl) l
-  noZero-good (some z) i p s h e k l = refused {p = ahead z i} (omega (arith, zero-within 0 s z e))
+  noZero-good (some z) i p s h e k l = refused {s = stop (ahead z i)} (omega (arith, zero-within 0 s z e))
 
   pub spelling-good : (n : ℕ) (p : Place) → p .at ≤ length b → Good (length b) (λ s q. Clean s × (q .at ≡ p .at + length s)) (readSpelling b n p)
   unfolding readSpelling
@@ -296,8 +301,8 @@ module _ (k : Terms) (b : List ℕ) (small : Bytes b) (w : Text → List ℕ) (K
     try-good : (n : ℕ) (p : Place) → p .at ≤ length b → Good (length b) (ActionGood p) (readTry k b inner n p)
     unfolding readTry size mapAction
     try-good n p l =
-        good-then (target-good _ _ p l) (λ t p₁ h₁ l₁. good-then (inner-good p₁ l₁) (λ x p₂ h₂ l₂. good-then (catch-good _ t p₂ l₂ (h₁ .0))
-        (λ c p₃ h₃ l₃. good-then (finally-good _ p₃ l₃) (λ f p₄ h₄ l₄. fine (
+        good-then (target-good _ _ p l) (λ t p₁ h₁ l₁. good-then (inner-good p₁ l₁) (λ x p₂ h₂ l₂. good-then (good-behind (bodyCount x) (catch-good _ t p₂ l₂ (h₁ .0)))
+        (λ c p₃ h₃ l₃. good-then (good-behind (bodyCount x + catchCount c) (finally-good _ p₃ l₃)) (λ f p₄ h₄ l₄. fine (
           (h₃ .0, h₂ .0, h₃ .1, h₄ .0),
           (λ κ. omega (arith, h₁ .1 κ, h₁ .2, h₂ .1 κ, h₃ .2, h₃ .3 κ, h₄ .1 κ, length-catchName (mapCatch w c))),
           omega (arith, h₁ .2, h₂ .2, h₃ .4, h₄ .2),
@@ -402,7 +407,7 @@ module _ (k : Terms) (b : List ℕ) (small : Bytes b) (w : Text → List ℕ) (K
     unfolding readActions sizes mapActions
     actions-good zero p l = fine {a = empty} {p = p} (tt, (λ κ. omega arith), omega arith) l
     actions-good (suc n) p l =
-        good-then (action-good p l) (λ a q h m. good-then (actions-good n q m)
+        good-then (action-good p l) (λ a q h m. good-then (good-behind (count a) (actions-good n q m))
         (λ xs r g j. fine ((h .0, g .0), (λ κ. omega (arith, h .1 κ, g .1 κ)), omega (arith, h .2, g .2)) j))
 
     bodyWith-good : BodyGood (readBodyWith k b inner)
@@ -415,7 +420,7 @@ module _ (k : Terms) (b : List ℕ) (small : Bytes b) (w : Text → List ℕ) (K
   pub body-good : (depth : ℕ) → BodyGood (readBody k b depth)
   unfolding readBody
   body-good zero p l = refused l
-  body-good (suc d) p l = bodyWith-good (readBody k b d) (λ q m. body-good d q m) p l
+  body-good (suc d) p l = bodyWith-good (behind 1 (readBody k b d)) (λ q m. good-behind 1 (body-good d q m)) p l
 
   left-good : (t : Bool) (x : ActionsOf Text ℕ) (p : Place) → p .at ≤ length b → eqb (p .at) (length b) ≡ t → WellBody (mapBody w x)
       → (K → bodySize (mapBody w x) + 12 ≤ 3 * p .at)
@@ -427,4 +432,4 @@ module _ (k : Terms) (b : List ℕ) (small : Bytes b) (w : Text → List ℕ) (K
   -- a main body that was read fits; if K, it is written in at most three bytes for each of its own, less twelve
   pub main-good : (depth : ℕ) → Good (length b) (λ x q. WellBody (mapBody w x) × (K → bodySize (mapBody w x) + 12 ≤ 3 * length b)) (readMain k b depth)
   unfolding readMain
-  main-good d = good-then (body-good d (record { at = 0 }) (omega arith)) (λ x p h l. left-good (eqb (p .at) (length b)) x p l refl (h .0) (λ κ. omega (arith, h .1 κ)))
+  main-good d = good-then (body-good d (record { at = 0 }) (omega arith)) (λ x p h l. good-behind (bodyCount x) (left-good (eqb (p .at) (length b)) x p l refl (h .0) (λ κ. omega (arith, h .1 κ))))

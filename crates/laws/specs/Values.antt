@@ -56,12 +56,12 @@ module _ (end : ℕ) (small : end < 9223372036854775808) where
   long-held (payloadTooLong n s ∷ es) h = zeroUp {n = n} (omega (arith, h .0))
   long-held (bodyTooLong n s ∷ es) h = zeroUp {n = n} (omega (arith, h .0))
 
-  judged-held : (o : Option Position) (after : ℕ) → Recorded end o → after ≤ end → Held (judged o after)
+  judged-held : (o : Option Position) (after k : ℕ) → Recorded end o → after ≤ end → Held (judged o after k)
   unfolding judged
-  judged-held none after h k = tt
-  judged-held (some s) after h k = go (isNear (s .at) after)
+  judged-held none after n h k = tt
+  judged-held (some s) after n h k = go (isNear (s .at) after)
     where
-      go : (t : Bool) → Held (farUnless t (distance (some s) after))
+      go : (t : Bool) → Held (farUnless t (distance (some s) after) n)
       go true = unfold farUnless in tt
       go false = unfold farUnless refusalValue distance in sub-held (s .at) after (omega arith) (omega arith)
 
@@ -69,12 +69,12 @@ module _ (end : ℕ) (small : end < 9223372036854775808) where
   unfolding barred refusalIf refusalValue
   barred-held m none s k = go (m .strict)
     where
-      go : (t : Bool) → Held (refusalIf t (NeverRecorded (s .at)))
+      go : (t : Bool) → Held (refusalIf t (NeverRecorded (s .at) (s .number)))
       go true = zeroUp {n = s .at} (omega arith)
       go false = tt
   barred-held m (some r) s k = go (m .contained && not (eqb (r .home) (s .home)))
     where
-      go : (t : Bool) → Held (refusalIf t (StrayBranch (s .at)))
+      go : (t : Bool) → Held (refusalIf t (StrayBranch (s .at) (s .number)))
       go true = zeroUp {n = s .at} (omega arith)
       go false = tt
 
@@ -84,7 +84,7 @@ module _ (end : ℕ) (small : end < 9223372036854775808) where
   bad-held m final f (labelAt l s ∷ es) h = bad-held m final f es (h .1)
   bad-held m final f (branchAt l s ∷ es) h =
       or-held (judgedIn m (final l) s) (badBy m final es)
-      (or-held (barred m (final l) s) (judged (final l) (s .at + 2)) (barred-held m (final l) s (h .0)) (judged-held (final l) (s .at + 2) (f l) (h .0)))
+      (or-held (barred m (final l) s) (judged (final l) (s .at + 2) (s .number)) (barred-held m (final l) s (h .0)) (judged-held (final l) (s .at + 2) (s .number) (f l) (h .0)))
       (bad-held m final f es (h .1))
   bad-held m final f (payloadTooLong n s ∷ es) h = bad-held m final f es (h .1)
   bad-held m final f (bodyTooLong n s ∷ es) h = bad-held m final f es (h .1)
@@ -136,7 +136,7 @@ read-i64 : (m : Mode) (start n room : ℕ) {r : Read (ActionsOf Text ℕ)} → s
     → Good n (λ x q. WellBody (mapBody spelling x) × (Unit {0} → bodySize (mapBody spelling x) + 12 ≤ 3 * n)) r → IsI64 (value lengthOf (packRead m start r room))
 unfolding packRead value refusalValue
 read-i64 m start n room l (fine {a} {p} h k) = tree-i64 m (mapBody spelling a) room (omega (arith, h .1 tt))
-read-i64 m start n room l (refused {f} {p} k) = zeroUp {n = start + p .at} (omega arith)
+read-i64 m start n room l (refused {f} {s} k) = zeroUp {n = start + s .at} (omega arith)
 
 -- Every lent sheet is so short: a slice in Rust and an object in C have at most 2^63 - 1 bytes. Only answer 1 uses it, whose value is
 -- the sheet's length

@@ -1,7 +1,8 @@
--- Document 01's answer numbers: every answer by its name there, its number and its value. Assumes nothing.
+-- Document 01's answer numbers: every answer by its name there, its number, its value, and the number of the action that it names.
+-- Assumes nothing.
 use mathlib.Core.Path.{_≡_}
 use Prim.Native.Nat.{ℕ}
-use mathlib.Core.List.{List}
+use mathlib.Core.List.{List, _++_}
 use lib.ListN.{length}
 use lib.IntN.{ℤ, pos}
 use Rattle.layout.specs.Numbers.{i64Bytes}
@@ -10,19 +11,20 @@ use Rattle.layout.specs.Numbers.{i64Bytes}
 pub data Fault : Type 0 where
   CutShort UnknownCode BadField TooDeep LeftOver : Fault
 
--- numbers 1 to 15, each with what its value is made of
+-- numbers 1 to 15, each with what its value is made of; and 3 to 10, 14 and 15 with "the number of the action being read or
+-- written, counted from 0 in sheet order through all bodies"
 pub data Refusal : Type 0 where
   SheetTooLong : (sheet-length : ℕ) → Refusal
   BadTrailer : Refusal
-  ReadingFault : (fault : Fault) (place : ℕ) → Refusal
-  ActionLenOverflow : (payload-length : ℕ) → Refusal
-  BlockLenOverflow : (body-length : ℕ) → Refusal
-  JumpOffsetOverflow : (distance : ℤ) → Refusal
+  ReadingFault : (fault : Fault) (place action : ℕ) → Refusal
+  ActionLenOverflow : (payload-length action : ℕ) → Refusal
+  BlockLenOverflow : (body-length action : ℕ) → Refusal
+  JumpOffsetOverflow : (distance : ℤ) (action : ℕ) → Refusal
   NoRoom : (length-needed : ℕ) → Refusal
   InputFull : Refusal
   Unclean : (place : ℕ) → Refusal
-  NeverRecorded : (operand : ℕ) → Refusal
-  StrayBranch : (operand : ℕ) → Refusal
+  NeverRecorded : (operand action : ℕ) → Refusal
+  StrayBranch : (operand action : ℕ) → Refusal
 
 -- number 0 with what was made, or a refusal
 pub data Answer (A : Type 0) : Type 0 where
@@ -40,29 +42,43 @@ faultNumber LeftOver = 7
 unfoldable pub refusalNumber : Refusal → ℕ
 refusalNumber (SheetTooLong n) = 1
 refusalNumber BadTrailer = 2
-refusalNumber (ReadingFault f p) = faultNumber f
-refusalNumber (ActionLenOverflow n) = 8
-refusalNumber (BlockLenOverflow n) = 9
-refusalNumber (JumpOffsetOverflow z) = 10
+refusalNumber (ReadingFault f p k) = faultNumber f
+refusalNumber (ActionLenOverflow n k) = 8
+refusalNumber (BlockLenOverflow n k) = 9
+refusalNumber (JumpOffsetOverflow z k) = 10
 refusalNumber (NoRoom n) = 11
 refusalNumber InputFull = 12
 refusalNumber (Unclean p) = 13
-refusalNumber (NeverRecorded p) = 14
-refusalNumber (StrayBranch p) = 15
+refusalNumber (NeverRecorded p k) = 14
+refusalNumber (StrayBranch p k) = 15
 
 -- the column "Value, and when"; only 10's can be negative
 unfoldable pub refusalValue : Refusal → ℤ
 refusalValue (SheetTooLong n) = pos n
 refusalValue BadTrailer = pos 0
-refusalValue (ReadingFault f p) = pos p
-refusalValue (ActionLenOverflow n) = pos n
-refusalValue (BlockLenOverflow n) = pos n
-refusalValue (JumpOffsetOverflow z) = z
+refusalValue (ReadingFault f p k) = pos p
+refusalValue (ActionLenOverflow n k) = pos n
+refusalValue (BlockLenOverflow n k) = pos n
+refusalValue (JumpOffsetOverflow z k) = z
 refusalValue (NoRoom n) = pos n
 refusalValue InputFull = pos 65536
 refusalValue (Unclean p) = pos p
-refusalValue (NeverRecorded p) = pos p
-refusalValue (StrayBranch p) = pos p
+refusalValue (NeverRecorded p k) = pos p
+refusalValue (StrayBranch p k) = pos p
+
+-- "Other answers give 0"
+unfoldable pub refusalAction : Refusal → ℕ
+refusalAction (SheetTooLong n) = 0
+refusalAction BadTrailer = 0
+refusalAction (ReadingFault f p k) = k
+refusalAction (ActionLenOverflow n k) = k
+refusalAction (BlockLenOverflow n k) = k
+refusalAction (JumpOffsetOverflow z k) = k
+refusalAction (NoRoom n) = 0
+refusalAction InputFull = 0
+refusalAction (Unclean p) = 0
+refusalAction (NeverRecorded p k) = k
+refusalAction (StrayBranch p k) = k
 
 unfoldable pub number : {A : Type 0} → Answer A → ℕ
 number (Done a) = 0
@@ -73,15 +89,20 @@ unfoldable pub value : {A : Type 0} → (A → ℤ) → Answer A → ℤ
 value done (Done a) = done a
 value done (Refused r) = refusalValue r
 
+unfoldable pub action : {A : Type 0} → Answer A → ℕ
+action (Done a) = 0
+action (Refused r) = refusalAction r
+
 -- "length of the block": the value of a Done whose bytes were made
 abbrev pub lengthOf : List ℕ → ℤ
 lengthOf q = pos (length q)
 
--- what a caller is told of an answer: its number n and its value v
-pub record Told {A : Type 0} (done : A → ℤ) (a : Answer A) (n : ℕ) (v : ℤ) : Type 0 where
+-- what a caller is told of an answer: its number n, its value v and its action number k
+pub record Told {A : Type 0} (done : A → ℤ) (a : Answer A) (n : ℕ) (v : ℤ) (k : ℕ) : Type 0 where
   pub is-number : n ≡ number a
   pub is-value : v ≡ value done a
+  pub is-action : k ≡ action a
 
--- "the value fills a lent 8-byte slice as little-endian i64"
+-- "a 16-byte slice in place of 8: value, then action number, both i64"
 unfoldable pub valueBytes : {A : Type 0} → (A → ℤ) → Answer A → List ℕ
-valueBytes done a = i64Bytes (value done a)
+valueBytes done a = i64Bytes (value done a) ++ i64Bytes (pos (action a))

@@ -15,8 +15,8 @@ unfoldable pub tooLong : List Event → Option Refusal
 tooLong [] = none
 tooLong (labelAt l s ∷ es) = tooLong es
 tooLong (branchAt l s ∷ es) = tooLong es
-tooLong (payloadTooLong n s ∷ es) = some (ActionLenOverflow n)
-tooLong (bodyTooLong n s ∷ es) = some (BlockLenOverflow n)
+tooLong (payloadTooLong n s ∷ es) = some (ActionLenOverflow n (s .number))
+tooLong (bodyTooLong n s ∷ es) = some (BlockLenOverflow n (s .number))
 
 -- a branch's distance, signed, from the position after its operand to its label's record; 0 without one
 unfoldable pub distance : Option Position → ℕ → ℤ
@@ -27,14 +27,14 @@ distance (some s) after = subℕ (s .at) after
 unfoldable pub isNear : ℕ → ℕ → Bool
 isNear to after = leb to (after + 32767) && leb after (to + 32768)
 
-unfoldable pub farUnless : Bool → ℤ → Option Refusal
-farUnless true distance = none
-farUnless false distance = some (JumpOffsetOverflow distance)
+unfoldable pub farUnless : Bool → ℤ → ℕ → Option Refusal
+farUnless true distance action = none
+farUnless false distance action = some (JumpOffsetOverflow distance action)
 
--- one branch, by its label's record and the position after its operand
-unfoldable pub judged : Option Position → ℕ → Option Refusal
-judged none after = none
-judged (some s) after = farUnless (isNear (s .at) after) (distance (some s) after)
+-- one branch, by its label's record, the position after its operand, and its own number
+unfoldable pub judged : Option Position → ℕ → ℕ → Option Refusal
+judged none after action = none
+judged (some s) after action = farUnless (isNear (s .at) after) (distance (some s) after) action
 
 -- the first of two
 unfoldable pub orElse : Option Refusal → Option Refusal → Option Refusal
@@ -59,14 +59,15 @@ refusalIf false r = none
 
 -- what the mode alone refuses in one branch, by its label's record and its operand's position: in strict mode "a branch whose
 -- label has no record stops the build", by 14; a contained mode "refuses a branch whose final label record is in another function
--- body", by 15, and "an unrecorded label is left to strict mode". The value of both is "the byte position of the operand"
+-- body", by 15, and "an unrecorded label is left to strict mode". The value of both is "the byte position of the operand", and the
+-- action is the branch
 unfoldable pub barred : Mode → Option Position → Position → Option Refusal
-barred mode none s = refusalIf (mode .strict) (NeverRecorded (s .at))
-barred mode (some r) s = refusalIf (mode .contained && not (eqb (r .home) (s .home))) (StrayBranch (s .at))
+barred mode none s = refusalIf (mode .strict) (NeverRecorded (s .at) (s .number))
+barred mode (some r) s = refusalIf (mode .contained && not (eqb (r .home) (s .home))) (StrayBranch (s .at) (s .number))
 
 -- what is wrong with one branch, by the same: "for one branch 15 before 10"
 unfoldable pub judgedIn : Mode → Option Position → Position → Option Refusal
-judgedIn mode o s = orElse (barred mode o s) (judged o (s .at + 2))
+judgedIn mode o s = orElse (barred mode o s) (judged o (s .at + 2) (s .number))
 
 -- ---- the branches
 
@@ -81,7 +82,7 @@ firstRefused rule final (bodyTooLong n s ∷ es) = firstRefused rule final es
 
 -- by the plain rule: the first that goes too far
 abbrev pub farBy : (ℕ → Option Position) → List Event → Option Refusal
-farBy final es = firstRefused (λ o s. judged o (s .at + 2)) final es
+farBy final es = firstRefused (λ o s. judged o (s .at + 2) (s .number)) final es
 
 -- by a mode's rule
 abbrev pub badBy : Mode → (ℕ → Option Position) → List Event → Option Refusal

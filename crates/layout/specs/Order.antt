@@ -1,22 +1,22 @@
--- The order of the answers, one allowed outcome for each input, and any number that an i64 holds read back from its eight
--- bytes. Assumes nothing.
-use mathlib.Core.Path.{_≡_, sym, ap, _∙_}
+-- The order of the answers, one allowed outcome for each input, and what the lent slice of 16 bytes says read back from it.
+-- Assumes nothing.
+use mathlib.Core.Path.{_≡_, refl, sym, ap, _∙_}
 use Prim.Native.Nat.{ℕ, _+_, _-_, _*_, _/_, _%_, _≤_, _<_}
 use native.Mathlib.Omega.{arith}
 use mathlib.Core.Option.{none, some}
-use mathlib.Core.List.{List}
+use mathlib.Core.List.{List, _++_}
 use lib.IntN.{ℤ, pos, negsuc}
 use lib.Dec.{ltb}
 use borrow.Author.Tests.{le-leb, lt-leb, lt-ltb, le-ltb}
 use Rattle.layout.specs.Lists.{pick}
 use Rattle.layout.specs.Numbers.{le16, le32, le64, bits64, i64Bytes, u64At}
-use Rattle.layout.specs.Answers.{Refusal, ReadingFault, NoRoom, Answer, Done, Refused, Told, Fault}
+use Rattle.layout.specs.Answers.{Fault, Refusal, ReadingFault, NoRoom, Answer, Done, Refused, value, action, Told, valueBytes}
 use Rattle.layout.specs.Tree.{Actions}
-use Rattle.layout.specs.Read.{deepest, Place, bad, readMain}
+use Rattle.layout.specs.Read.{deepest, Stop, bad, readMain}
 use Rattle.layout.specs.Write.{events, blockBytes, blockSize}
 use Rattle.layout.specs.Judge.{tooLong, orElse, Mode, badBranch, judge}
 use Rattle.layout.specs.Cut.{Edition, main, uncut, cut}
-use Rattle.layout.specs.Pack.{unless, ifRoom, blockIn, packTree, editionTerms, packRead, packCut, pack, Outcome, ReadsAs}
+use Rattle.layout.specs.Pack.{unless, ifRoom, blockIn, packTree, editionTerms, faultAction, packRead, packCut, pack, Outcome, ReadsAs}
 
 -- ---- 1, 2; then 3 to 7; then 8 and 9; then 10, 14 and 15; then 11
 
@@ -26,9 +26,9 @@ unfolding pack packCut
 uncut-first m s room r e = ap (λ c. packCut m c room) e
 
 -- then what reading meets, whatever the room
-pub fault-next : (m : Mode) (s : List ℕ) (room : ℕ) (i : Edition) (start : ℕ) (b : List ℕ) (f : Fault) (p : Place) → cut s ≡ main i start b
+pub fault-next : (m : Mode) (s : List ℕ) (room : ℕ) (i : Edition) (start : ℕ) (b : List ℕ) (f : Fault) (p : Stop) → cut s ≡ main i start b
     → readMain (editionTerms i) b deepest ≡ bad f p
-    → pack m s room ≡ Refused (ReadingFault f (start + p .at))
+    → pack m s room ≡ Refused (ReadingFault f (start + p .at) (faultAction f (p .begun)))
 unfolding pack packCut packRead
 fault-next m s room i start b f p c e = ap (λ x. packCut m x room) c ∙ ap (λ x. packRead m start x room) e
 
@@ -65,16 +65,17 @@ module _ (t : Actions) (room : ℕ) where
 
 -- ---- any two outcomes allowed for one input are equal
 
--- of an answer: one number and one value are told of it (laws has a same-told of its own, which is about equal bytes)
-pub same-told : {A : Type 0} {done : A → ℤ} {a : Answer A} {n n′ : ℕ} {v v′ : ℤ} → Told done a n v → Told done a n′ v′ → (n ≡ n′) × (v ≡ v′)
-same-told h h′ = (h .is-number ∙ sym (h′ .is-number), h .is-value ∙ sym (h′ .is-value))
+-- of an answer: one number, one value and one action number are told of it (laws has a same-told of its own, which is about equal
+-- bytes)
+pub same-told : {A : Type 0} {done : A → ℤ} {a : Answer A} {n n′ : ℕ} {v v′ : ℤ} {k k′ : ℕ} → Told done a n v k → Told done a n′ v′ k′ → (n ≡ n′) × (v ≡ v′) × (k ≡ k′)
+same-told h h′ = (h .is-number ∙ sym (h′ .is-number), h .is-value ∙ sym (h′ .is-value), h .is-action ∙ sym (h′ .is-action))
 
--- of a call: number, value and every byte of the output
-pub same-outcome : {m : Mode} {s o : List ℕ} {n n′ : ℕ} {v v′ : ℤ} {after after′ : List ℕ} → Outcome m s o n v after → Outcome m s o n′ v′ after′
-    → (n ≡ n′) × (v ≡ v′) × (after ≡ after′)
+-- of a call: number, value, action number and every byte of the output
+pub same-outcome : {m : Mode} {s o : List ℕ} {n n′ : ℕ} {v v′ : ℤ} {k k′ : ℕ} {after after′ : List ℕ} → Outcome m s o n v k after → Outcome m s o n′ v′ k′ after′
+    → (n ≡ n′) × (v ≡ v′) × (k ≡ k′) × (after ≡ after′)
 same-outcome h h′ =
     let t = same-told (h .told) (h′ .told) in
-    (t .0, t .1, h .holds ∙ sym (h′ .holds))
+    (t .0, t .1, t .2, h .holds ∙ sym (h′ .holds))
 
 -- ---- eight bytes say the value
 
@@ -129,3 +130,22 @@ bits-back (negsuc n) (below h) =
 pub value-back : (z : ℤ) → IsI64 z → signed64 (u64At (i64Bytes z) 0) ≡ z
 unfolding i64Bytes
 value-back z h = ap signed64 (le64-back (bits64 z) (bits-small z)) ∙ bits-back z h
+
+-- ---- sixteen bytes say the value and the action number
+
+first-eight : (m n : ℕ) → u64At (le64 m ++ le64 n) 0 ≡ u64At (le64 m) 0
+unfolding le64 le32 le16
+first-eight m n = refl
+
+last-eight : (m n : ℕ) → u64At (le64 m ++ le64 n) 8 ≡ u64At (le64 n) 0
+unfolding le64 le32 le16
+last-eight m n = refl
+
+-- both are read back from what the slice holds, the value first
+pub told-back : {A : Type 0} (done : A → ℤ) (a : Answer A) → IsI64 (value done a) → IsI64 (pos (action a))
+    → (signed64 (u64At (valueBytes done a) 0) ≡ value done a) × (signed64 (u64At (valueBytes done a) 8) ≡ pos (action a))
+unfolding valueBytes i64Bytes
+told-back done a h k = (
+  ap signed64 (first-eight (bits64 (value done a)) (bits64 (pos (action a)))) ∙ (unfold i64Bytes in value-back (value done a) h),
+  ap signed64 (last-eight (bits64 (value done a)) (bits64 (pos (action a)))) ∙ (unfold i64Bytes in value-back (pos (action a)) k),
+)

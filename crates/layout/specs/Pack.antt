@@ -1,14 +1,14 @@
 -- The packer: from a mode, a sheet and the room in the output to an answer and what the output then holds. "The order is 1, 2;
 -- then 3 to 7 ..; then 8 and 9 ..; then 10 ..; then 11", and 14 and 15 are judged with 10. Assumes nothing.
 use mathlib.Core.Path.{_≡_}
-use Prim.Native.Nat.{ℕ, _+_}
+use Prim.Native.Nat.{ℕ, _+_, _-_}
 use mathlib.Core.Bool.{Bool, true, false}
 use mathlib.Core.Option.{Option, none, some}
 use mathlib.Core.List.{List, _++_}
 use lib.ListN.{length, drop}
 use lib.IntN.{ℤ}
 use lib.Dec.{leb}
-use Rattle.layout.specs.Answers.{Refusal, ReadingFault, NoRoom, Answer, Done, Refused, Told, lengthOf}
+use Rattle.layout.specs.Answers.{Fault, CutShort, UnknownCode, BadField, TooDeep, LeftOver, Refusal, ReadingFault, NoRoom, Answer, Done, Refused, Told, lengthOf}
 use Rattle.layout.specs.Tree.{Actions, ActionsOf}
 use Rattle.layout.specs.Read.{Text, plain, Terms, edition1, edition2, deepest, Place, Read, got, bad, readMain}
 use Rattle.layout.specs.Strings.{mapBody}
@@ -45,10 +45,19 @@ editionTerms Second = edition2
 unfoldable pub spelling : Text → List ℕ
 spelling (plain s) = s
 
+-- the number of the action that a fault names, where so many were begun: the next one's; but "TooDeep .. the action that owns the
+-- body", which is the last begun, since it is met at an owner's first body
+unfoldable pub faultAction : Fault → ℕ → ℕ
+faultAction CutShort begun = begun
+faultAction UnknownCode begun = begun
+faultAction BadField begun = begun
+faultAction TooDeep begun = begun - 1
+faultAction LeftOver begun = begun
+
 -- "A place counts from the input's byte 0": the main body starts at `start`
 unfoldable pub packRead : Mode → ℕ → Read (ActionsOf Text ℕ) → ℕ → Answer (List ℕ)
 packRead mode start (got t p) room = packTree mode (mapBody spelling t) room
-packRead mode start (bad f p) room = Refused (ReadingFault f (start + p .at))
+packRead mode start (bad f s) room = Refused (ReadingFault f (start + s .at) (faultAction f (s .begun)))
 
 unfoldable pub packCut : Mode → Cut → ℕ → Answer (List ℕ)
 packCut mode (main edition start b) room = packRead mode start (readMain (editionTerms edition) b deepest) room
@@ -76,7 +85,8 @@ unfoldable pub output : Answer (List ℕ) → List ℕ → List ℕ
 output (Done q) o = q ++ drop (length q) o
 output (Refused r) o = o
 
--- what a call may leave, given a mode, a sheet s and an output that held o: number, value, and what the output holds afterwards
-pub record Outcome (mode : Mode) (s o : List ℕ) (n : ℕ) (v : ℤ) (after : List ℕ) : Type 0 where
-  pub told : Told lengthOf (pack mode s (length o)) n v
+-- what a call may leave, given a mode, a sheet s and an output that held o: number n, value v, action number k, and what the output
+-- holds afterwards
+pub record Outcome (mode : Mode) (s o : List ℕ) (n : ℕ) (v : ℤ) (k : ℕ) (after : List ℕ) : Type 0 where
+  pub told : Told lengthOf (pack mode s (length o)) n v k
   pub holds : after ≡ output (pack mode s (length o)) o

@@ -10,7 +10,7 @@ use Rattle.layout.specs.Numbers.{u16At, u32At, u64At}
 use Rattle.layout.specs.Answers.{Fault, CutShort, UnknownCode, BadField, TooDeep, LeftOver}
 use Rattle.layout.specs.OpCode.{OpCode, opcodeOf}
 use Rattle.layout.specs.PushKind.{PushKind, kindOf}
-use Rattle.layout.specs.Tree.{PushValueOf, String, Null, Undefined, Register, Boolean, Float, Integer, Constant, FunctionParamOf, functionParam, Small, GotoFrame, GetUrl, StoreRegister, ConstantPool, WaitForFrame, SetTarget, GotoLabel, WaitForFrame2, Push, GetUrl2, GotoFrame2, With, DefineFunction, DefineFunction2, Jump, If, CatchTargetOf, Variable, Entry, entry, ActionOf, flat, branch, owner, Try, ActionListOf, empty, more, ActionsOf, body, CatchOf, noCatch, catch, FinallyOf, noFinally, finally}
+use Rattle.layout.specs.Tree.{PushValueOf, String, Null, Undefined, Register, Boolean, Float, Integer, Constant, FunctionParamOf, functionParam, Small, GotoFrame, GetUrl, StoreRegister, ConstantPool, WaitForFrame, SetTarget, GotoLabel, WaitForFrame2, Push, GetUrl2, GotoFrame2, With, DefineFunction, DefineFunction2, Jump, If, CatchTargetOf, Variable, Entry, entry, ActionOf, flat, branch, owner, Try, ActionListOf, empty, more, ActionsOf, body, CatchOf, noCatch, catch, FinallyOf, noFinally, finally, count, bodyCount, catchCount}
 
 -- ---- readers
 
@@ -46,10 +46,20 @@ placed n = record { at = n }
 abbrev pub ahead : ℕ → Place → Place
 ahead n p = record { at = p .at + n }
 
--- what reading gives: a value and the next place, or a fault and its place
+-- where a reader met a fault: the place, and how many actions it had begun by then. An action is begun when its fields are read,
+-- before its bodies are
+pub record Stop : Type 0 where
+  pub at : ℕ
+  pub begun : ℕ
+
+-- at a place, no action begun
+abbrev pub stop : Place → Stop
+stop p = record { at = p .at; begun = 0 }
+
+-- what reading gives: a value and the next place, or a fault and where it was met
 pub data Read (A : Type 0) : Type 0 where
   got : (a : A) (next : Place) → Read A
-  bad : (fault : Fault) (place : Place) → Read A
+  bad : (fault : Fault) (met : Stop) → Read A
 
 -- a reader starts at a place
 abbrev pub Reader : Type 0 → Type 0
@@ -68,7 +78,16 @@ abbrev pub give : {A : Type 0} → A → Reader A
 give a p = got a p
 
 abbrev pub refuse : {A : Type 0} → Fault → Place → Reader A
-refuse f p = λ q. bad f p
+refuse f p = λ q. bad f (stop p)
+
+-- a fault met with n more actions begun
+abbrev pub moreBegun : {A : Type 0} → ℕ → Read A → Read A
+moreBegun n (got a p) = got a p
+moreBegun n (bad f s) = bad f (record { at = s .at; begun = n + s .begun })
+
+-- reads what stands behind n actions that are begun
+abbrev pub behind : {A : Type 0} → ℕ → Reader A → Reader A
+behind n read p = moreBegun n (read p)
 
 -- the place where the reader stands
 abbrev pub here : Reader Place
@@ -77,7 +96,7 @@ here p = got p p
 -- CutShort: "place of a field that would reach into the trailer", here the end of b. The field at p, if it is whole
 unfoldable pub ifWhole : {A : Type 0} → Bool → Place → A → Place → Read A
 ifWhole true p a next = got a next
-ifWhole false p a next = bad CutShort p
+ifWhole false p a next = bad CutShort (stop p)
 
 -- BadField: "place of a field outside its range or order". The field at p, if it is within
 unfoldable pub ifWithin : {A : Type 0} → Bool → Place → A → Reader A
@@ -113,7 +132,7 @@ ifNoZero p s (some z) = refuse BadField (ahead z p)
 -- LeftOver: "place of the first byte between main body and trailer"
 unfoldable pub ifNothingLeft : {A : Type 0} → Bool → A → Reader A
 ifNothingLeft true a p = got a p
-ifNothingLeft false a p = bad LeftOver p
+ifNothingLeft false a p = bad LeftOver (stop p)
 
 -- ---- fields
 
@@ -259,13 +278,13 @@ module _ (terms : Terms) (b : List ℕ) where
       give (finally f)
     readFinally false = give noFinally
 
-    -- a Try of this shape: "then try, catch and finally bodies"
+    -- a Try of this shape: "then try, catch and finally bodies", each behind those before it
     unfoldable pub readTry : ℕ → Reader (ActionOf Text ℕ)
     readTry shape = do
       target ← readCatchTarget (hasCatch shape) (hasRegister shape)
       t ← readInner
-      c ← readCatch (hasCatch shape) target
-      f ← readFinally (hasFinally shape)
+      c ← behind (bodyCount t) (readCatch (hasCatch shape) target)
+      f ← behind (bodyCount t + catchCount c) (readFinally (hasFinally shape))
       give (Try t c f)
 
     -- "An action is its opcode byte, then": the fields of each opcode, in the order of the bytes
@@ -347,12 +366,12 @@ module _ (terms : Terms) (b : List ℕ) where
       n ← readU8 b
       readFieldsIf (opcodeOf n) p
 
-    -- n actions
+    -- n actions, each behind those before it
     unfoldable pub readActions : ℕ → Reader (ActionListOf Text ℕ)
     readActions zero = give empty
     readActions (suc n) = do
       a ← readAction
-      rest ← readActions n
+      rest ← behind (count a) (readActions n)
       give (more a rest)
 
     -- "A body: u16 label entry count; each entry ..; u16 action count; the actions"
@@ -364,11 +383,12 @@ module _ (terms : Terms) (b : List ℕ) where
       actions ← readActions n
       give (body entries actions)
 
-  -- a body, where as many as `depth` may stand one in another; "TooDeep is met before the body's first field"
+  -- a body, where as many as `depth` may stand one in another; "TooDeep is met before the body's first field". A body in it stands
+  -- behind the action that owns it
   unfoldable pub readBody : ℕ → Reader (ActionsOf Text ℕ)
-  readBody zero p = bad TooDeep p
-  readBody (suc depth) p = readBodyWith (readBody depth) p
+  readBody zero p = bad TooDeep (stop p)
+  readBody (suc depth) p = readBodyWith (behind 1 (readBody depth)) p
 
   -- the main body takes all of b
   unfoldable pub readMain : ℕ → Read (ActionsOf Text ℕ)
-  readMain depth = chain (readBody depth (placed 0)) λ t p. ifNothingLeft (eqb (p .at) (length b)) t p
+  readMain depth = chain (readBody depth (placed 0)) λ t p. moreBegun (bodyCount t) (ifNothingLeft (eqb (p .at) (length b)) t p)

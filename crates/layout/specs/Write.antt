@@ -7,7 +7,7 @@ use lib.ListN.{length}
 use lib.Dec.{ltb, eqb}
 use Rattle.layout.specs.Numbers.{le16}
 use Rattle.layout.specs.OpCode.{OpCode}
-use Rattle.layout.specs.Tree.{ActionIndex, firstAction, nextAction, Entry, entry, Owner, With, DefineFunction, DefineFunction2, Action, flat, branch, owner, Try, ActionList, empty, more, Actions, body, Catch, noCatch, catch, Finally, noFinally, finally}
+use Rattle.layout.specs.Tree.{ActionIndex, firstAction, nextAction, Entry, entry, Owner, With, DefineFunction, DefineFunction2, Action, flat, branch, owner, Try, ActionList, empty, more, Actions, body, Catch, noCatch, catch, Finally, noFinally, finally, count, bodyCount, catchCount}
 use Rattle.layout.specs.Payload.{opcode, payload, ownerOpCode, ownerFields, ownerPayload, branchOpCode, catchShape, finallyShape, catchName, tryPayload, framed}
 
 -- ---- sizes: how many bytes are written. "Payload lengths exclude bodies"; "Bodies follow their payload"
@@ -38,22 +38,24 @@ unfoldable mutual
 -- ---- what happens on the way, in writing order
 
 -- "position in the written block": what the encoder's label_positions holds, and where the writer stands. Its home is the function
--- body it lies in, told by the position of that body's first byte, which no two share (`homes-rise` in laws' Homes)
+-- body it lies in, told by the position of that body's first byte, which no two share (`homes-rise` in laws' Homes). Its number is
+-- that of the action being written, or else of the next: "counted from 0 in sheet order through all bodies"
 pub record Position : Type 0 where
   pub at : ℕ
   pub home : ℕ
+  pub number : ℕ
 
--- the position at a number, in the function body that starts at `home`
-abbrev pub position : ℕ → ℕ → Position
-position n home = record { at = n; home = home }
+-- at byte n, in the function body that starts at `home`, with an action's number
+abbrev pub position : ℕ → ℕ → ℕ → Position
+position n home number = record { at = n; home = home; number = number }
 
 -- where the block starts: "the main block being one" function body
 abbrev pub blockStart : Position
-blockStart = position 0 0
+blockStart = position 0 0 0
 
--- n bytes on
-unfoldable pub moved : ℕ → Position → Position
-moved n s = position (s .at + n) (s .home)
+-- n bytes and k actions on
+unfoldable pub moved : ℕ → ℕ → Position → Position
+moved n k s = position (s .at + n) (s .home) (s .number + k)
 
 -- the home of what stands in an owner's body, which starts at s: "With and Try bodies belong to the function around them"
 unfoldable pub homeIn : Owner → Position → ℕ
@@ -63,28 +65,27 @@ homeIn (DefineFunction2 name params registers flags) s = s .at
 
 -- from where an action starts: to the operand of a branch, to the body of an owner, to the bodies of a Try, and past the action
 abbrev pub toOperand : Position → Position
-toOperand s = moved 3 s
+toOperand s = moved 3 0 s
 
 abbrev pub toBody : Owner → Position → Position
 toBody o s =
-    let t : Position = moved (5 + length (ownerFields o)) s in
-    position (t .at) (homeIn o t)
+    let t : Position = moved (5 + length (ownerFields o)) 1 s in
+    position (t .at) (homeIn o t) (t .number)
 
 abbrev pub toTry : Catch → Position → Position
-toTry c s = moved (10 + length (catchName c)) s
+toTry c s = moved (10 + length (catchName c)) 1 s
 
 abbrev pub toCatch : Actions → Catch → Position → Position
-toCatch b c s = moved (bodySize b) (toTry c s)
+toCatch b c s = moved (bodySize b) (bodyCount b) (toTry c s)
 
 abbrev pub toFinally : Actions → Catch → Position → Position
-toFinally b c s = moved (bodySize b + catchSize c) (toTry c s)
+toFinally b c s = moved (bodySize b + catchSize c) (bodyCount b + catchCount c) (toTry c s)
 
 abbrev pub past : Action → Position → Position
-past a s = moved (size a) s
+past a s = moved (size a) (count a) s
 
 -- A label recorded where the writer stands; a branch, its operand standing there; a payload or a body that is too long. The
--- last two have the position of the action whose payload it is or that owns the body: it says which action is meant, and no
--- answer of the base uses it
+-- last two have the position of the action whose payload it is or that owns the body: it says which action is meant
 pub data Event : Type 0 where
   labelAt : (label : ℕ) (position : Position) → Event
   branchAt : (label : ℕ) (operand : Position) → Event

@@ -10,7 +10,7 @@ use borrow.Author.Tests.{leb-true}
 use mathlib.Core.Bool.{Bool, true, false}
 use Rattle.layout.specs.Numbers.{u16At}
 use Rattle.layout.specs.Answers as answers
-use Rattle.layout.specs.Read.{Terms, Place, placed, ahead, Read, got, bad, Reader, chain, ifWhole, repeat, readU16, readString, readCounted, readValue}
+use Rattle.layout.specs.Read.{Terms, Place, placed, stop, ahead, Read, got, bad, Reader, chain, ifWhole, repeat, readU16, readString, readCounted, readValue}
 use Rattle.layout.specs.Lengths.{total, stringLength}
 use Rattle.layout.specs.Pack.{spelling}
 use Rattle.laws.specs.Fits.{Bytes}
@@ -23,7 +23,7 @@ use Rattle.positions.specs.declared.Scan.the-variants as scan
 use Rattle.positions.specs.Scanned.{faultOf, scanned, Roomy}
 use Rattle.operands.specs.Operands.{stringSize}
 use Rattle.lists.specs.Elements.{readNamed, namedSize, valueSize}
-use Rattle.operands.proofs.Scans.{ends-is, stops-is}
+use Rattle.operands.proofs.Scans.{ends-is, stops-then}
 use Rattle.operands.proofs.Reading as reading
 
 -- what was read lies within b, and is written in at most as many bytes
@@ -62,13 +62,7 @@ module _ {A : Type 0} (read : Reader A) (size : A → ℕ) where
 
     -- an element met a fault
     pub step-stops : (f : Fault) (q : ℕ) → r ≡ scan.Stops f q → scan.Stops f q ≡ scanned (total size) (w .0) (repeat read n (placed p))
-    unfolding scanned
-    step-stops f q g =
-        let k = stops-is size (w .0) (read (placed p)) e g in
-        go (k .0) (k .1) f (k .2)
-      where
-        go : (g : answers.Fault) → read (placed p) ≡ bad g (placed q) → (f : Fault) → f ≡ faultOf g → scan.Stops f q ≡ scanned (total size) (w .0) (repeat read n (placed p))
-        go g l f m = unfold scanned in rw (one-more n p h, l, m)
+    step-stops f q g = rw (one-more n p h) (stops-then (total size) (w .0) size (w .0) (read (placed p)) _ e g)
 
     -- and the next one may be
     pub step-roomy : (b : List ℕ) → Grows b read size → Roomy b p w → (q : ℕ) (x : BytePosition) → r ≡ scan.Ends q x → Roomy b q x

@@ -2,6 +2,7 @@
 use mathlib.Core.Path.{_≡_, refl, sym, ap, ap₂, _∙_}
 use Prim.Native.Nat.{ℕ, _+_, _-_, _≤_, _<_}
 use native.Mathlib.Omega.{arith}
+use native.Mathlib.Nat.{add-zero}
 use mathlib.Core.Bool.{Bool, true, false}
 use mathlib.Core.List.{List, [], _∷_, _++_, append-nil}
 use lib.ListN.{length}
@@ -10,8 +11,8 @@ use borrow.Author.Tests.{ltb-true, ltb-false, ne-eqb}
 use Rattle.layout.specs.Lists.{pick}
 use Rattle.layout.specs.OpCode.{byte}
 use Rattle.layout.specs.Answers as answers
-use Rattle.layout.specs.Tree.{FlatOf, OwnerOf, With, DefineFunction, DefineFunction2, ActionOf, flat, branch, Branch, owner, ActionsOf}
-use Rattle.layout.specs.Read.{Text, Terms, Place, placed, Read, got, bad, Reader, chain, repeat}
+use Rattle.layout.specs.Tree.{FlatOf, OwnerOf, With, DefineFunction, DefineFunction2, ActionOf, flat, branch, Branch, owner, ActionsOf, count, bodyCount}
+use Rattle.layout.specs.Read.{Text, Terms, Place, placed, Stop, stop, Read, got, bad, Reader, chain, moreBegun, behind}
 use Rattle.layout.specs.Strings.{mapFlat, mapOwner, mapAction, mapBody}
 use Rattle.layout.specs.Payload.{opcode, payload, ownerFields}
 use Rattle.layout.specs.Write.{size, bodySize, Position, position, Event, moved, homeIn, toBody, payloadTest, bodyTest, trace, traceBody}
@@ -26,8 +27,9 @@ use Rattle.positions.specs.declared.Scan.the-variants as scan
 use Rattle.measure.specs.declared.Laid.{Laid}
 use Rattle.measure.specs.declared.Laid.the-variants as laid
 use Rattle.action_fields.specs.Fields.{flatSize, ownerSize, readCaught, caughtSize}
+use Rattle.laws.specs.Begun.{Fields}
 use Rattle.laws.specs.Resolved.{actionSize, actionTrace, bodyLength}
-use Rattle.measure.specs.Walk.{State, state, notedIf, run, done, outcome, branches, measure, measured, inBodies, bodyTests, bodiesEvents, Onward, Owning, Laying, laidAs, laidFunction, branchLaid, notedFrom, EndsFrom, Tried}
+use Rattle.measure.specs.Walk.{State, state, notedIf, run, done, fault, outcome, branches, measure, uncounted, measured, inTurn, inBodies, bodyTests, bodiesEvents, Onward, Owning, Laying, laidAs, laidFunction, branchLaid, notedFrom, EndsFrom, Tried}
 use Rattle.action_fields.proofs.Steps.{caught-out}
 use Rattle.measure.proofs.Runs.{run-append, run-payload, run-body, noted-short, outcome-got, branches-append, branches-payload, branches-after, branches-body, measured-got}
 
@@ -37,9 +39,9 @@ flat-size : (f : FlatOf Text) → ltb (byte (opcode (mapFlat spelling f))) 128 �
 unfolding size mapAction flatSize
 flat-size f h = length-framed (opcode (mapFlat spelling f)) (payload (mapFlat spelling f)) h ∙ ap (λ (n : ℕ). 3 + n) (length-payload (mapFlat spelling f))
 
-flat-run : (f : FlatOf Text) (s : Position) (tab : Tables) (over : List ℕ) → run (actionTrace (flat f) s) (state tab over) ≡ state tab (notedIf 8 (flatSize f) over)
+flat-run : (f : FlatOf Text) (s : Position) (tab : Tables) (over : List ℕ) → run (actionTrace (flat f) s) (state tab over) ≡ state tab (notedIf 8 (flatSize f) (s .number) over)
 unfolding trace mapAction flatSize
-flat-run f s tab over = run-payload (length (payload (mapFlat spelling f))) _ tab over ∙ ap (λ (n : ℕ). state tab (notedIf 8 n over)) (length-payload (mapFlat spelling f))
+flat-run f s tab over = run-payload (length (payload (mapFlat spelling f))) _ tab over ∙ ap (λ (n : ℕ). state tab (notedIf 8 n (s .number) over)) (length-payload (mapFlat spelling f))
 
 flat-branches : (f : FlatOf Text) (s : Position) → [] ≡ branches (actionTrace (flat f) s)
 unfolding trace mapAction
@@ -49,111 +51,119 @@ flat-branches f s = sym (branches-payload (length (payload (mapFlat spelling f))
 abbrev pub Long : FlatOf Text → Type 0
 Long f = ltb (byte (opcode (mapFlat spelling f))) 128 ≡ false
 
-module _ {A : Type 0} (read : Reader (ActionsOf Text ℕ) → Read (ActionOf Text ℕ)) (g : A → FlatOf Text) (at end pos : ℕ) (over : List ℕ) (s : A → ℕ) (w : ℕ)
+module _ {A : Type 0} (read : Reader (ActionsOf Text ℕ) → Read (ActionOf Text ℕ)) (g : A → FlatOf Text) (at end pos number : ℕ) (over : List ℕ) (s : A → ℕ) (w : ℕ)
     (is-size : (a : A) → w + s a ≡ pos + 3 + flatSize (g a)) where
   abbrev Reads : Read A → Type 0
   Reads x = (inner : Reader (ActionsOf Text ℕ)) → read inner ≡ chain x (λ a q. got (flat (g a)) q)
 
   module _ {bound : ℕ} where
     long-got : (a : A) (q : Place) → Reads (got a q) → Long (g a)
-        → Laying bound read at end pos over (notedFrom (pos + 3) (scanned s w (got a q)) over) (laidAs 0 (scanned s w (got a q)))
-    unfolding scanned laidAs pick notedFrom
+        → Laying bound read at end pos number over (notedFrom (pos + 3) number (scanned s w (got a q)) over) (laidAs 0 (scanned s w (got a q)))
+    unfolding scanned laidAs pick notedFrom count
     long-got a q h l =
         Laying.flat {q = q .at} {w = record { 0 = w + s a }}
-        (λ inner tab home. outcome-got actionSize actionTrace (position pos home) (state tab over) (h inner) (omega (arith, is-size a, flat-size (g a) l))
-        (ap (λ (n : ℕ). state tab (notedIf 8 n over)) (omega (arith, is-size a)) ∙ sym (flat-run (g a) (position pos home) tab over)))
-        (λ inner home. measured-got actionSize actionTrace (position pos home) (h inner) (omega (arith, is-size a, flat-size (g a) l)) (flat-branches (g a) (position pos home)))
+        (λ inner tab home. outcome-got actionSize count actionTrace (position pos home number) (state tab over) (h inner) (omega (arith, is-size a, flat-size (g a) l)) refl
+        (ap (λ (n : ℕ). state tab (notedIf 8 n number over)) (omega (arith, is-size a)) ∙ sym (flat-run (g a) (position pos home number) tab over)))
+        (λ inner home. measured-got actionSize count actionTrace (position pos home number) (h inner) (omega (arith, is-size a, flat-size (g a) l)) refl (flat-branches (g a) (position pos home number)))
 
-    flat-got : (a : A) (q : Place) → Reads (got a q) → Long (g a) → flatSize (g a) ≤ 65535 → Laying bound read at end pos over over (laidAs 0 (scanned s w (got a q)))
-    unfolding scanned laidAs pick
+    flat-got : (a : A) (q : Place) → Reads (got a q) → Long (g a) → flatSize (g a) ≤ 65535 → Laying bound read at end pos number over over (laidAs 0 (scanned s w (got a q)))
+    unfolding scanned laidAs pick count
     flat-got a q h l short =
         Laying.flat {q = q .at} {w = record { 0 = w + s a }}
-        (λ inner tab home. outcome-got actionSize actionTrace (position pos home) (state tab over) (h inner) (omega (arith, is-size a, flat-size (g a) l))
-        (ap (state tab) (noted-short 8 (flatSize (g a)) over short) ∙ sym (flat-run (g a) (position pos home) tab over)))
-        (λ inner home. measured-got actionSize actionTrace (position pos home) (h inner) (omega (arith, is-size a, flat-size (g a) l)) (flat-branches (g a) (position pos home)))
+        (λ inner tab home. outcome-got actionSize count actionTrace (position pos home number) (state tab over) (h inner) (omega (arith, is-size a, flat-size (g a) l)) refl
+        (ap (state tab) (noted-short 8 (flatSize (g a)) number over short) ∙ sym (flat-run (g a) (position pos home number) tab over)))
+        (λ inner home. measured-got actionSize count actionTrace (position pos home number) (h inner) (omega (arith, is-size a, flat-size (g a) l)) refl (flat-branches (g a) (position pos home number)))
 
-    flat-bad : (f : answers.Fault) (q : Place) (over′ : List ℕ) → Reads (bad f q) → Laying bound read at end pos over over′ (laidAs 0 (scanned s w (bad f q)))
+    flat-bad : (f : answers.Fault) (q : ℕ) (over′ : List ℕ) → Reads (bad f (stop (placed q))) → Laying bound read at end pos number over over′ (laidAs 0 (scanned s w (bad f (stop (placed q)))))
     unfolding scanned laidAs outcome
-    flat-bad f q over′ h = Laying.stops {f = faultOf f} {q = q .at} (λ inner t home. rw (h inner))
+    flat-bad f q over′ h = Laying.stops {f = faultOf f} {q = q} (λ inner t home. rw (h inner, add-zero number))
 
     -- its payload may be too long
-    pub lay-long : (x : Read A) → Reads x → ((a : A) (q : Place) → x ≡ got a q → Long (g a)) → (over′ : List ℕ) (r : Scan) (l : Laid)
-        → r ≡ scanned s w x → l ≡ laidAs 0 r → over′ ≡ notedFrom (pos + 3) r over → Laying bound read at end pos over over′ l
-    lay-long x h k over′ r l e m n = rw (m, n, e) (go x h k)
+    pub lay-long : {p : Place} (x : Read A) → Fields p x → Reads x → ((a : A) (q : Place) → x ≡ got a q → Long (g a)) → (over′ : List ℕ) (r : Scan) (l : Laid)
+        → r ≡ scanned s w x → l ≡ laidAs 0 r → over′ ≡ notedFrom (pos + 3) number r over → Laying bound read at end pos number over over′ l
+    lay-long {p} x i h k over′ r l e m n = rw (m, n, e) (go i h k)
       where
-        go : (x : Read A) → Reads x → ((a : A) (q : Place) → x ≡ got a q → Long (g a)) → Laying bound read at end pos over (notedFrom (pos + 3) (scanned s w x) over) (laidAs 0 (scanned s w x))
-        go (got a q) h k = long-got a q h (k a q refl)
-        go (bad f q) h k = flat-bad f q _ h
+        go : {x : Read A} → Fields p x → Reads x → ((a : A) (q : Place) → x ≡ got a q → Long (g a)) → Laying bound read at end pos number over (notedFrom (pos + 3) number (scanned s w x) over) (laidAs 0 (scanned s w x))
+        go (Fields.read {a = a} {q = q} i) h k = long-got a q h (k a q refl)
+        go (Fields.met {f = f} {n = q} i) h k = flat-bad f q _ h
 
     -- it never is
-    pub lay-flat : (x : Read A) → Reads x → ((a : A) (q : Place) → x ≡ got a q → Long (g a) × (flatSize (g a) ≤ 65535)) → (r : Scan) (l : Laid)
-        → r ≡ scanned s w x → l ≡ laidAs 0 r → Laying bound read at end pos over over l
-    lay-flat x h k r l e m = rw (m, e) (go x h k)
+    pub lay-flat : {p : Place} (x : Read A) → Fields p x → Reads x → ((a : A) (q : Place) → x ≡ got a q → Long (g a) × (flatSize (g a) ≤ 65535)) → (r : Scan) (l : Laid)
+        → r ≡ scanned s w x → l ≡ laidAs 0 r → Laying bound read at end pos number over over l
+    lay-flat {p} x i h k r l e m = rw (m, e) (go i h k)
       where
-        go : (x : Read A) → Reads x → ((a : A) (q : Place) → x ≡ got a q → Long (g a) × (flatSize (g a) ≤ 65535)) → Laying bound read at end pos over over (laidAs 0 (scanned s w x))
-        go (got a q) h k = flat-got a q h (k a q refl .0) (k a q refl .1)
-        go (bad f q) h k = flat-bad f q over h
+        go : {x : Read A} → Fields p x → Reads x → ((a : A) (q : Place) → x ≡ got a q → Long (g a) × (flatSize (g a) ≤ 65535)) → Laying bound read at end pos number over over (laidAs 0 (scanned s w x))
+        go (Fields.read {a = a} {q = q} i) h k = flat-got a q h (k a q refl .0) (k a q refl .1)
+        go (Fields.met {f = f} {n = q} i) h k = flat-bad f q over h
 
 -- ---- a branch
 
 module _ {bound : ℕ} (read : Reader (ActionsOf Text ℕ) → Read (ActionOf Text ℕ)) (k : Branch) (x : Read ℕ) (is-read : (inner : Reader (ActionsOf Text ℕ)) → read inner ≡ chain x (λ l q. got (branch k l) q))
     (under : (l : ℕ) (q : Place) → x ≡ got l q → l < bound) where
-  pub lay-branch : (at end pos w : ℕ) (over : List ℕ) (l : Laid) → w ≡ pos + 3 → l ≡ branchLaid w x → Laying bound read at end pos over over l
-  lay-branch at end pos w over l f m = rw (m, f) (go x is-read under)
+  pub lay-branch : {p : Place} → Fields p x → (at end pos number w : ℕ) (over : List ℕ) (l : Laid) → w ≡ pos + 3 → l ≡ branchLaid w x → Laying bound read at end pos number over over l
+  lay-branch {p} i at end pos number w over l f m = rw (m, f) (go i is-read under)
     where
-      go : (x : Read ℕ) → ((inner : Reader (ActionsOf Text ℕ)) → read inner ≡ chain x (λ l q. got (branch k l) q)) → ((l : ℕ) (q : Place) → x ≡ got l q → l < bound)
-          → Laying bound read at end pos over over (branchLaid (pos + 3) x)
-      go (got n q) h u = unfold branchLaid in Laying.to-label {q = q .at} {label = n} {w = record { 0 = pos + 3 + 2 }} {k = k} (omega arith) (u n q refl) refl h
-      go (bad f q) h u = unfold branchLaid in Laying.stops {f = faultOf f} {q = q .at} (λ inner t home. unfold outcome in rw (h inner))
+      go : {x : Read ℕ} → Fields p x → ((inner : Reader (ActionsOf Text ℕ)) → read inner ≡ chain x (λ l q. got (branch k l) q)) → ((l : ℕ) (q : Place) → x ≡ got l q → l < bound)
+          → Laying bound read at end pos number over over (branchLaid (pos + 3) x)
+      go (Fields.read {a = n} {q = q} i) h u = unfold branchLaid in Laying.to-label {q = q .at} {label = n} {w = record { 0 = pos + 3 + 2 }} {k = k} (omega arith) (u n q refl) refl h
+      go (Fields.met {f = f} {n = q} i) h u = unfold branchLaid in Laying.stops {f = faultOf f} {q = q} (λ inner t home. unfold outcome in rw (h inner, add-zero number))
 
 -- ---- an action that owns a body
 
-module _ (read : Reader (ActionsOf Text ℕ) → Read (ActionOf Text ℕ)) (o : OwnerOf Text) (inner : Reader (ActionsOf Text ℕ)) (pos home w q : ℕ) (is-size : w ≡ pos + 3 + ownerSize o) where
+module _ (read : Reader (ActionsOf Text ℕ) → Read (ActionOf Text ℕ)) (o : OwnerOf Text) (inner : Reader (ActionsOf Text ℕ)) (pos home number w q : ℕ) (is-size : w ≡ pos + 3 + ownerSize o) where
   -- where it stands, and where its body does
   abbrev here : Position
-  here = position pos home
+  here = position pos home number
 
   abbrev pub bodyStart : Position
-  bodyStart = position w (homeIn (mapOwner spelling o) (position w home))
+  bodyStart = position w (homeIn (mapOwner spelling o) (position w home (number + 1))) (number + 1)
 
   body-at : toBody (mapOwner spelling o) here ≡ bodyStart
   unfolding ownerSize moved
   body-at =
       let e : pos + (5 + length (ownerFields (mapOwner spelling o))) ≡ w = omega (arith, is-size, length-ownerFields (mapOwner spelling o)) in
-      ap (λ (v : ℕ). position v (homeIn (mapOwner spelling o) (position v home))) e
+      ap (λ (v : ℕ). position v (homeIn (mapOwner spelling o) (position v home (number + 1))) (number + 1)) e
 
   -- the events of its body and their test, after the test of its payload
   owner-run : (tab : Tables) (over : List ℕ) (y : ActionsOf Text ℕ)
-      → run (actionTrace (owner o y) here) (state tab over) ≡ run (bodiesEvents (y ∷ []) bodyStart) (state tab (notedIf 8 (ownerSize o) over))
+      → run (actionTrace (owner o y) here) (state tab over) ≡ run (bodiesEvents number (y ∷ []) bodyStart) (state tab (notedIf 8 (ownerSize o) number over))
   unfolding trace mapAction bodiesEvents inBodies bodyTests ownerSize
   owner-run tab over y =
       let n : ℕ = length (ownerFields (mapOwner spelling o)) + 2 in
       let u : Position = toBody (mapOwner spelling o) here in
       let b = mapBody spelling y in
       run-append (payloadTest n here) (traceBody b u ++ bodyTest (bodySize b) here) (state tab over)
-      ∙ ap (run (traceBody b u ++ bodyTest (bodySize b) here)) (run-payload n here tab over ∙ ap (λ (m : ℕ). state tab (notedIf 8 m over)) (length-ownerFields (mapOwner spelling o)))
+      ∙ ap (run (traceBody b u ++ bodyTest (bodySize b) here)) (run-payload n here tab over ∙ ap (λ (m : ℕ). state tab (notedIf 8 m number over)) (length-ownerFields (mapOwner spelling o)))
       ∙ run-append (traceBody b u) (bodyTest (bodySize b) here) _
-      ∙ tests (bodySize b) here bodyStart (run (traceBody b u) _)
-      ∙ ap (λ (v : Position). run (bodyTest (bodySize b) bodyStart) (run (traceBody b v) (state tab (notedIf 8 (ownerLength (mapOwner spelling o)) over)))) body-at
-      ∙ sym (run-append (traceBody b bodyStart) (bodyTest (bodySize b) bodyStart) _)
+      ∙ tests (bodySize b) here tested (run (traceBody b u) _) refl
+      ∙ ap (λ (v : Position). run (bodyTest (bodySize b) tested) (run (traceBody b v) (state tab (notedIf 8 (ownerLength (mapOwner spelling o)) number over)))) body-at
+      ∙ sym (run-append (traceBody b bodyStart) (bodyTest (bodySize b) tested) _)
       ∙ sym (simp append-nil)
     where
-      tests : (n : ℕ) (p p′ : Position) (s : State) → run (bodyTest n p) s ≡ run (bodyTest n p′) s
-      tests n p p′ s = run-body n p (s .labels) (s .over) ∙ sym (run-body n p′ (s .labels) (s .over))
+      tested : Position
+      tested = position (bodyStart .at) (bodyStart .home) number
+
+      tests : (n : ℕ) (p p′ : Position) (s : State) → p .number ≡ p′ .number → run (bodyTest n p) s ≡ run (bodyTest n p′) s
+      tests n p p′ s e = run-body n p (s .labels) (s .over) ∙ ap (λ (k : ℕ). state (s .labels) (notedIf 9 n k (s .over))) e ∙ sym (run-body n p′ (s .labels) (s .over))
 
   owner-size : (y : ActionsOf Text ℕ) → pos + actionSize (owner o y) ≡ w + total bodyLength (y ∷ [])
   unfolding size mapAction total ownerSize
   owner-size y = omega (arith, is-size, length-ownerFields (mapOwner spelling o))
 
-  owner-outcome : (tab : Tables) (over : List ℕ) → read inner ≡ chain (inner (placed q)) (λ y r. got (owner o y) r)
-      → outcome actionSize actionTrace here (state tab over) (read inner) ≡ outcome (total bodyLength) bodiesEvents bodyStart (state tab (notedIf 8 (ownerSize o) over)) (repeat inner 1 (placed q))
-  unfolding repeat
+  owner-count : (y : ActionsOf Text ℕ) → number + count (owner o y) ≡ number + 1 + total bodyCount (y ∷ [])
+  unfolding count total
+  owner-count y = omega arith
+
+  owner-outcome : (tab : Tables) (over : List ℕ) → read (behind 1 inner) ≡ chain (moreBegun 1 (inner (placed q))) (λ y r. got (owner o y) r)
+      → outcome actionSize count actionTrace here (state tab over) (read (behind 1 inner))
+      ≡ outcome (total bodyLength) (total bodyCount) (bodiesEvents number) bodyStart (state tab (notedIf 8 (ownerSize o) number over)) (inTurn inner 1 (placed q))
+  unfolding inTurn
   owner-outcome tab over e = rw e (go (inner (placed q)))
     where
-      go : (y : Read (ActionsOf Text ℕ)) → outcome actionSize actionTrace here (state tab over) (chain y (λ y r. got (owner o y) r))
-          ≡ outcome (total bodyLength) bodiesEvents bodyStart (state tab (notedIf 8 (ownerSize o) over)) (chain y (λ a u. chain (got [] u) (λ xs v. got (a ∷ xs) v)))
-      go (got y r) = unfold outcome in ap₂ (λ (n : ℕ) (s : State). done (r .at) n s) (owner-size y) (owner-run tab over y)
-      go (bad f r) = unfold outcome in refl
+      go : (y : Read (ActionsOf Text ℕ)) → outcome actionSize count actionTrace here (state tab over) (chain (moreBegun 1 y) (λ y r. got (owner o y) r))
+          ≡ outcome (total bodyLength) (total bodyCount) (bodiesEvents number) bodyStart (state tab (notedIf 8 (ownerSize o) number over)) (chain y (λ a u. chain (got [] u) (λ xs v. got (a ∷ xs) v)))
+      go (got y r) = unfold outcome in rw (owner-size y, owner-count y, owner-run tab over y)
+      go (bad f r) = unfold outcome in ap (fault (faultOf f) (r .at)) (omega arith)
 
   -- and its branches are those of its body
   owner-branches : (y : ActionsOf Text ℕ) → branches (actionTrace (owner o y) here) ≡ branches (inBodies (y ∷ []) bodyStart)
@@ -168,28 +178,28 @@ module _ (read : Reader (ActionsOf Text ℕ) → Read (ActionOf Text ℕ)) (o : 
       ∙ ap (λ (v : Position). branches (traceBody b v)) body-at
       ∙ ap branches (sym (append-nil (traceBody b bodyStart)))
 
-  owner-measured : read inner ≡ chain (inner (placed q)) (λ y r. got (owner o y) r)
-      → measured actionSize actionTrace here (read inner) ≡ measured (total bodyLength) inBodies bodyStart (repeat inner 1 (placed q))
-  unfolding repeat
+  owner-measured : read (behind 1 inner) ≡ chain (moreBegun 1 (inner (placed q))) (λ y r. got (owner o y) r)
+      → measured actionSize count actionTrace here (read (behind 1 inner)) ≡ measured (total bodyLength) (total bodyCount) inBodies bodyStart (inTurn inner 1 (placed q))
+  unfolding inTurn
   owner-measured e = rw e (go (inner (placed q)))
     where
-      go : (y : Read (ActionsOf Text ℕ)) → measured actionSize actionTrace here (chain y (λ y r. got (owner o y) r))
-          ≡ measured (total bodyLength) inBodies bodyStart (chain y (λ a u. chain (got [] u) (λ xs v. got (a ∷ xs) v)))
-      go (got y r) = unfold measured in ap₂ (λ (n : ℕ) (es : List Event). got (measure n es) r) (owner-size y) (owner-branches y)
-      go (bad f r) = unfold measured in refl
+      go : (y : Read (ActionsOf Text ℕ)) → measured actionSize count actionTrace here (chain (moreBegun 1 y) (λ y r. got (owner o y) r))
+          ≡ measured (total bodyLength) (total bodyCount) inBodies bodyStart (chain y (λ a u. chain (got [] u) (λ xs v. got (a ∷ xs) v)))
+      go (got y r) = unfold measured uncounted in rw (owner-size y, owner-count y, owner-branches y)
+      go (bad f r) = unfold measured uncounted in refl
 
 -- what is told of an owner whose fields were read; `inside` tells its body's home from its own
 module _ (read : Reader (ActionsOf Text ℕ) → Read (ActionOf Text ℕ)) (o : OwnerOf Text) (q : Place) (is-read : (inner : Reader (ActionsOf Text ℕ)) → read inner ≡ chain (inner q) (λ y r. got (owner o y) r))
-    (at end pos : ℕ) (w : BytePosition) (is-size : w .0 ≡ pos + 3 + ownerSize o) (onward : Onward at end pos (q .at) (w .0))
-    (inside : ℕ → ℕ) (is-inside : (home : ℕ) → homeIn (mapOwner spelling o) (position (w .0) home) ≡ inside home) where
-  pub owning : (over over′ : List ℕ) → over′ ≡ notedIf 8 (ownerSize o) over → Owning read at end pos over over′ (q .at) w 1 inside
+    (at end pos number : ℕ) (w : BytePosition) (is-size : w .0 ≡ pos + 3 + ownerSize o) (onward : Onward at end pos (q .at) (w .0))
+    (inside : ℕ → ℕ) (is-inside : (home : ℕ) → homeIn (mapOwner spelling o) (position (w .0) home (number + 1)) ≡ inside home) where
+  pub owning : (over over′ : List ℕ) → over′ ≡ notedIf 8 (ownerSize o) number over → Owning read at end pos number over over′ (q .at) w 1 inside
   owning over over′ e =
       rw e (record {
         onward = onward;
-        runs = λ inner tab home. owner-outcome read o inner pos home (w .0) (q .at) is-size tab over (is-read inner)
-            ∙ ap (λ (h : ℕ). outcome (total bodyLength) bodiesEvents (position (w .0) h) (state tab (notedIf 8 (ownerSize o) over)) (repeat inner 1 q)) (is-inside home);
-        measures = λ inner home. owner-measured read o inner pos home (w .0) (q .at) is-size (is-read inner)
-            ∙ ap (λ (h : ℕ). measured (total bodyLength) inBodies (position (w .0) h) (repeat inner 1 q)) (is-inside home);
+        runs = λ inner tab home. owner-outcome read o inner pos home number (w .0) (q .at) is-size tab over (is-read (behind 1 inner))
+            ∙ ap (λ (h : ℕ). outcome (total bodyLength) (total bodyCount) (bodiesEvents number) (position (w .0) h (number + 1)) (state tab (notedIf 8 (ownerSize o) number over)) (inTurn inner 1 q)) (is-inside home);
+        measures = λ inner home. owner-measured read o inner pos home number (w .0) (q .at) is-size (is-read (behind 1 inner))
+            ∙ ap (λ (h : ℕ). measured (total bodyLength) (total bodyCount) inBodies (position (w .0) h (number + 1)) (inTurn inner 1 q)) (is-inside home);
       })
 
 -- the fields of a function, not of a With
@@ -207,19 +217,19 @@ function-home (DefineFunction2 name ps r f) k s = refl
 
 module _ {bound : ℕ} (read : Reader (ActionsOf Text ℕ) → Read (ActionOf Text ℕ)) (x : Read (OwnerOf Text))
     (is-read : (inner : Reader (ActionsOf Text ℕ)) → read inner ≡ chain x (λ o q. chain (inner q) (λ y r. got (owner o y) r)))
-    (at end pos : ℕ) (onward : (o : OwnerOf Text) (q : Place) → x ≡ got o q → IsFunction o × Onward at end pos (q .at) (pos + 3 + ownerSize o)) where
-  pub lay-function : (over over′ : List ℕ) (r : Scan) (l : Laid) → r ≡ scanned ownerSize (pos + 3) x → l ≡ laidFunction r → over′ ≡ notedFrom (pos + 3) r over → Laying bound read at end pos over over′ l
-  lay-function over over′ r l e m n = rw (m, n, e) (go x is-read onward)
+    (at end pos number : ℕ) (onward : (o : OwnerOf Text) (q : Place) → x ≡ got o q → IsFunction o × Onward at end pos (q .at) (pos + 3 + ownerSize o)) where
+  pub lay-function : {p : Place} → Fields p x → (over over′ : List ℕ) (r : Scan) (l : Laid) → r ≡ scanned ownerSize (pos + 3) x → l ≡ laidFunction r → over′ ≡ notedFrom (pos + 3) number r over → Laying bound read at end pos number over over′ l
+  lay-function {p} j over over′ r l e m n = rw (m, n, e) (go j is-read onward)
     where
-      go : (x : Read (OwnerOf Text)) → ((inner : Reader (ActionsOf Text ℕ)) → read inner ≡ chain x (λ o q. chain (inner q) (λ y r. got (owner o y) r)))
+      go : {x : Read (OwnerOf Text)} → Fields p x → ((inner : Reader (ActionsOf Text ℕ)) → read inner ≡ chain x (λ o q. chain (inner q) (λ y r. got (owner o y) r)))
           → ((o : OwnerOf Text) (q : Place) → x ≡ got o q → IsFunction o × Onward at end pos (q .at) (pos + 3 + ownerSize o))
-          → Laying bound read at end pos over (notedFrom (pos + 3) (scanned ownerSize (pos + 3) x) over) (laidFunction (scanned ownerSize (pos + 3) x))
-      go (got o q) h i =
+          → Laying bound read at end pos number over (notedFrom (pos + 3) number (scanned ownerSize (pos + 3) x) over) (laidFunction (scanned ownerSize (pos + 3) x))
+      go (Fields.read {a = o} {q = q} j) h i =
           unfold scanned laidFunction notedFrom in
           Laying.function {q = q .at} {w = record { 0 = pos + 3 + ownerSize o }}
-          (owning read o q h at end pos (record { 0 = pos + 3 + ownerSize o }) refl (i o q refl .1) (λ home. pos + 3 + ownerSize o)
-          (λ home. function-home o (i o q refl .0) (position (pos + 3 + ownerSize o) home)) over _ (ap (λ (n : ℕ). notedIf 8 n over) (omega arith)))
-      go (bad f q) h i = unfold scanned laidFunction notedFrom in Laying.stops {f = faultOf f} {q = q .at} (λ inner t home. unfold outcome in rw (h inner))
+          (owning read o q h at end pos number (record { 0 = pos + 3 + ownerSize o }) refl (i o q refl .1) (λ home. pos + 3 + ownerSize o)
+          (λ home. function-home o (i o q refl .0) (position (pos + 3 + ownerSize o) home (number + 1))) over _ (ap (λ (n : ℕ). notedIf 8 n number over) (omega arith)))
+      go (Fields.met {f = f} {n = q} j) h i = unfold scanned laidFunction notedFrom in Laying.stops {f = faultOf f} {q = q} (λ inner t home. unfold outcome in rw (h inner, add-zero number))
 
 -- ---- as the code makes them
 
@@ -245,12 +255,12 @@ module _ (r : Scan) where
   unfolding laidFunction
   function-stops f q e = rw e
 
-module _ (from : ℕ) (r : Scan) (over : List ℕ) where
-  pub noted-ends : (q : ℕ) (w : BytePosition) (over′ : List ℕ) → r ≡ scan.Ends q w → over′ ≡ notedIf 8 (w .0 - from) over → over′ ≡ notedFrom from r over
+module _ (from action : ℕ) (r : Scan) (over : List ℕ) where
+  pub noted-ends : (q : ℕ) (w : BytePosition) (over′ : List ℕ) → r ≡ scan.Ends q w → over′ ≡ notedIf 8 (w .0 - from) action over → over′ ≡ notedFrom from action r over
   unfolding notedFrom
   noted-ends q w over′ e f = rw e f
 
-  pub noted-stops : (f : Fault) (q : ℕ) → r ≡ scan.Stops f q → over ≡ notedFrom from r over
+  pub noted-stops : (f : Fault) (q : ℕ) → r ≡ scan.Stops f q → over ≡ notedFrom from action r over
   unfolding notedFrom
   noted-stops f q e = rw e
 
@@ -285,5 +295,5 @@ caught-inside terms b at pos q w r e f = go (ltb at (length b)) refl
 pub scanned-from-is : {A : Type 0} (s : A → ℕ) (pos : ℕ) (x : Read A) (q : ℕ) (w : BytePosition) (r : Scan) → r ≡ scanned s pos x → r ≡ scan.Ends q w → pos ≤ w .0
 scanned-from-is s pos x q w r e f = from-is pos r q w (scanned-from-start s pos pos x r e (omega arith)) f
 
-pub tried : (n from : ℕ) (over over′ : List ℕ) (l : Laid) (r r′ : Scan) → r ≡ r′ → (l ≡ laidAs n r) × (over′ ≡ notedFrom from r over) → Tried r′ n from l over over′
-tried n from over over′ l r r′ e h = record { is-laid = h .0 ∙ ap (laidAs n) e; is-noted = h .1 ∙ ap (λ (x : Scan). notedFrom from x over) e }
+pub tried : (n from action : ℕ) (over over′ : List ℕ) (l : Laid) (r r′ : Scan) → r ≡ r′ → (l ≡ laidAs n r) × (over′ ≡ notedFrom from action r over) → Tried r′ n from action l over over′
+tried n from action over over′ l r r′ e h = record { is-laid = h .0 ∙ ap (laidAs n) e; is-noted = h .1 ∙ ap (λ (x : Scan). notedFrom from action x over) e }

@@ -42,14 +42,14 @@ first-apt kept n (inl e) = ⊎-elim (λ h. inr (rw (← first-now kept n e h) h)
 first-apt kept n (inr h) = inr (rw (← first-had kept n (λ e. omega arith)) h)
 
 -- noting twice is noting the first
-pub noted-twice : (kept n : ℕ) (over : List ℕ) → length over ≡ 2 → Apt kept → notedIf 9 n (notedIf 9 kept over) ≡ notedIf 9 (firstLong kept n) over
+pub noted-twice : (kept n action : ℕ) (over : List ℕ) → length over ≡ 3 → Apt kept → notedIf 9 n action (notedIf 9 kept action over) ≡ notedIf 9 (firstLong kept n) action over
 unfolding Apt
-noted-twice kept n over l (inl e) = rw (← noted-short 9 kept over (omega arith)) (⊎-elim (λ h. rw (← first-now kept n e h)) (λ h. rw (← first-none kept n e h) (sym (noted-short 9 n over h) ∙ noted-short 9 0 over (omega arith))) (over-or-not n))
-noted-twice kept n over l (inr h) = rw (← first-had kept n (λ e. omega arith)) (⊎-elim (λ k. sym (noted-after 9 n (notedIf 9 kept over) k (had (eqb (getD over 0 0) 0) refl))) (λ k. sym (noted-short 9 n (notedIf 9 kept over) k)) (over-or-not n))
+noted-twice kept n action over l (inl e) = rw (← noted-short 9 kept action over (omega arith)) (⊎-elim (λ h. rw (← first-now kept n e h)) (λ h. rw (← first-none kept n e h) (sym (noted-short 9 n action over h) ∙ noted-short 9 0 action over (omega arith))) (over-or-not n))
+noted-twice kept n action over l (inr h) = rw (← first-had kept n (λ e. omega arith)) (⊎-elim (λ k. sym (noted-after 9 n action (notedIf 9 kept action over) k (had (eqb (getD over 0 0) 0) refl))) (λ k. sym (noted-short 9 n action (notedIf 9 kept action over) k)) (over-or-not n))
   where
-    zeroth : getD (set (set over 0 9) 1 kept) 0 0 ≡ 9
-    zeroth = getD-set-other (set over 0 9) 1 0 kept 0 (λ z. omega arith) ∙ getD-set-same over 0 9 0 (omega arith)
+    zeroth : getD (set (set (set over 0 9) 1 kept) 2 action) 0 0 ≡ 9
+    zeroth = getD-set-other (set (set over 0 9) 1 kept) 2 0 action 0 (λ z. omega arith) ∙ getD-set-other (set over 0 9) 1 0 kept 0 (λ z. omega arith) ∙ getD-set-same over 0 9 0 (omega arith)
 
-    had : (v : Bool) → eqb (getD over 0 0) 0 ≡ v → getD (notedIf 9 kept over) 0 0 ≡ 0 → ⊥
-    had true e z = let y : getD (notedIf 9 kept over) 0 0 ≡ 9 = ap (λ o. getD o 0 0) (sym (noted-now 9 kept over h (eqb-true (getD over 0 0) 0 e))) ∙ zeroth in omega arith
-    had false e z = let y : notedIf 9 kept over ≡ over = sym (noted-after 9 kept over h (eqb-false (getD over 0 0) 0 e)) in eqb-false (getD over 0 0) 0 e (ap (λ o. getD o 0 0) (sym y) ∙ z)
+    had : (v : Bool) → eqb (getD over 0 0) 0 ≡ v → getD (notedIf 9 kept action over) 0 0 ≡ 0 → ⊥
+    had true e z = let y : getD (notedIf 9 kept action over) 0 0 ≡ 9 = ap (λ o. getD o 0 0) (sym (noted-now 9 kept action over h (eqb-true (getD over 0 0) 0 e))) ∙ zeroth in omega arith
+    had false e z = let y : notedIf 9 kept action over ≡ over = sym (noted-after 9 kept action over h (eqb-false (getD over 0 0) 0 e)) in eqb-false (getD over 0 0) 0 e (ap (λ o. getD o 0 0) (sym y) ∙ z)

@@ -11,15 +11,15 @@ use Rattle.layout.specs.Read.{placed, Read, got}
 use Rattle.layout.specs.Write.{Position, Event, labelAt, branchAt, payloadTooLong, bodyTooLong, eventIf, payloadTest, bodyTest}
 use Rattle.labels.specs.Table.{Tables, recordAll, recorded}
 use Rattle.labels.proofs.Labels.{recorded-append}
-use Rattle.measure.specs.Walk.{State, state, noted, notedIf, noteAll, run, done, outcome, branches, measure, measured}
+use Rattle.measure.specs.Walk.{State, state, noted, notedIf, noteAll, run, done, outcome, branches, measure, uncounted, measured}
 
 noteAll-append : (xs ys : List Event) (over : List ℕ) → noteAll (xs ++ ys) over ≡ noteAll ys (noteAll xs over)
 unfolding noteAll
 noteAll-append [] ys over = refl
 noteAll-append (labelAt l s ∷ xs) ys over = noteAll-append xs ys over
 noteAll-append (branchAt l s ∷ xs) ys over = noteAll-append xs ys over
-noteAll-append (payloadTooLong n s ∷ xs) ys over = noteAll-append xs ys (noted 8 n over)
-noteAll-append (bodyTooLong n s ∷ xs) ys over = noteAll-append xs ys (noted 9 n over)
+noteAll-append (payloadTooLong n s ∷ xs) ys over = noteAll-append xs ys (noted 8 n (s .number) over)
+noteAll-append (bodyTooLong n s ∷ xs) ys over = noteAll-append xs ys (noted 9 n (s .number) over)
 
 -- one list of events after another
 pub run-append : (xs ys : List Event) (s : State) → run (xs ++ ys) s ≡ run ys (run xs s)
@@ -31,35 +31,35 @@ unfolding run recorded recordAll noteAll
 run-none s = refl
 
 -- the two tests
-pub run-payload : (n : ℕ) (p : Position) (tab : Tables) (over : List ℕ) → run (payloadTest n p) (state tab over) ≡ state tab (notedIf 8 n over)
+pub run-payload : (n : ℕ) (p : Position) (tab : Tables) (over : List ℕ) → run (payloadTest n p) (state tab over) ≡ state tab (notedIf 8 n (p .number) over)
 unfolding payloadTest notedIf
 run-payload n p tab over = go (ltb 65535 n)
   where
-    go : (t : Bool) → run (eventIf t (payloadTooLong n p)) (state tab over) ≡ state tab (pick t (noted 8 n over) over)
+    go : (t : Bool) → run (eventIf t (payloadTooLong n p)) (state tab over) ≡ state tab (pick t (noted 8 n (p .number) over) over)
     go true = unfold run eventIf recorded recordAll noteAll pick in refl
     go false = unfold run eventIf recorded recordAll noteAll pick in refl
 
-pub run-body : (n : ℕ) (p : Position) (tab : Tables) (over : List ℕ) → run (bodyTest n p) (state tab over) ≡ state tab (notedIf 9 n over)
+pub run-body : (n : ℕ) (p : Position) (tab : Tables) (over : List ℕ) → run (bodyTest n p) (state tab over) ≡ state tab (notedIf 9 n (p .number) over)
 unfolding bodyTest notedIf
 run-body n p tab over = go (ltb 65535 n)
   where
-    go : (t : Bool) → run (eventIf t (bodyTooLong n p)) (state tab over) ≡ state tab (pick t (noted 9 n over) over)
+    go : (t : Bool) → run (eventIf t (bodyTooLong n p)) (state tab over) ≡ state tab (pick t (noted 9 n (p .number) over) over)
     go true = unfold run eventIf recorded recordAll noteAll pick in refl
     go false = unfold run eventIf recorded recordAll noteAll pick in refl
 
 -- ---- what `note_long` leaves
 
-pub noted-short : (number n : ℕ) (over : List ℕ) → n ≤ 65535 → over ≡ notedIf number n over
+pub noted-short : (number n action : ℕ) (over : List ℕ) → n ≤ 65535 → over ≡ notedIf number n action over
 unfolding notedIf pick
-noted-short number n over h = rw (le-ltb 65535 n h)
+noted-short number n action over h = rw (le-ltb 65535 n h)
 
-pub noted-after : (number n : ℕ) (over : List ℕ) → 65535 < n → (getD over 0 0 ≡ 0 → ⊥) → over ≡ notedIf number n over
+pub noted-after : (number n action : ℕ) (over : List ℕ) → 65535 < n → (getD over 0 0 ≡ 0 → ⊥) → over ≡ notedIf number n action over
 unfolding notedIf noted pick
-noted-after number n over h k = rw (lt-ltb 65535 n h, ne-eqb (getD over 0 0) 0 k)
+noted-after number n action over h k = rw (lt-ltb 65535 n h, ne-eqb (getD over 0 0) 0 k)
 
-pub noted-now : (number n : ℕ) (over : List ℕ) → 65535 < n → getD over 0 0 ≡ 0 → set (set over 0 number) 1 n ≡ notedIf number n over
+pub noted-now : (number n action : ℕ) (over : List ℕ) → 65535 < n → getD over 0 0 ≡ 0 → set (set (set over 0 number) 1 n) 2 action ≡ notedIf number n action over
 unfolding notedIf noted pick
-noted-now number n over h k = rw (lt-ltb 65535 n h, eq-eqb (getD over 0 0) 0 k)
+noted-now number n action over h k = rw (lt-ltb 65535 n h, eq-eqb (getD over 0 0) 0 k)
 
 -- ---- the branches among events
 
@@ -97,12 +97,14 @@ branches-body n p = go (ltb 65535 n)
 
 -- ---- a measure and an outcome, from the reading
 
-module _ {A : Type 0} (size : A → ℕ) (trace : A → Position → List Event) (from : Position) where
-  pub measured-got : {a : A} {q w : ℕ} {es : List Event} {x : Read A} → x ≡ got a (placed q) → w ≡ from .at + size a → es ≡ branches (trace a from) → measured size trace from x ≡ got (measure w es) (placed q)
-  unfolding measured
-  measured-got e f g = rw (e, f, g)
+module _ {A : Type 0} (size count : A → ℕ) (trace : A → Position → List Event) (from : Position) where
+  pub measured-got : {a : A} {q w k : ℕ} {es : List Event} {x : Read A} → x ≡ got a (placed q) → w ≡ from .at + size a → k ≡ from .number + count a → es ≡ branches (trace a from)
+      → measured size count trace from x ≡ got (measure w k es) (placed q)
+  unfolding measured uncounted
+  measured-got e f i g = rw (e, f, i, g)
 
-module _ {A : Type 0} (size : A → ℕ) (trace : A → Position → List Event) (from : Position) (s : State) where
-  pub outcome-got : {a : A} {q w : ℕ} {u : State} {x : Read A} → x ≡ got a (placed q) → w ≡ from .at + size a → u ≡ run (trace a from) s → outcome size trace from s x ≡ done q w u
+module _ {A : Type 0} (size count : A → ℕ) (trace : A → Position → List Event) (from : Position) (s : State) where
+  pub outcome-got : {a : A} {q w k : ℕ} {u : State} {x : Read A} → x ≡ got a (placed q) → w ≡ from .at + size a → k ≡ from .number + count a → u ≡ run (trace a from) s
+      → outcome size count trace from s x ≡ done q w k u
   unfolding outcome
-  outcome-got e f g = rw (e, f, g)
+  outcome-got e f i g = rw (e, f, i, g)

@@ -3,6 +3,7 @@
 ghost use mathlib.Core.Path.{_≡_};
 ghost use lib.ListN.{length};
 ghost use Rattle.measure.specs.Walk.{notedIf, firstLong, laidAs, laidFunction, notedFrom, EndsFrom};
+use positions::ActionNumber;
 use positions::BytePosition;
 use positions::Fault;
 use positions::Scan;
@@ -17,10 +18,10 @@ pub enum Laid {
     Stops(Fault, usize),
 }
 
-// Notes a length over 65,535 and its answer number, 8 or 9, unless one was noted before.
-pub fn note_long(over: &mut [usize], number: usize, len: usize)
-    requires { ⌜ length (now over) ≡ 2 ⌝ }
-    ensures { λ _. ⌜ now (over .exit) ≡ notedIf number len (now (over .entry)) ⌝ }
+// Notes a length over 65,535, its answer number, 8 or 9, and the action's number, unless one was noted before.
+pub fn note_long(over: &mut [usize], number: usize, len: usize, action: ActionNumber)
+    requires { ⌜ length (now over) ≡ 3 ⌝ }
+    ensures { λ _. ⌜ now (over .exit) ≡ notedIf number len (action .0) (now (over .entry)) ⌝ }
 {
     if len <= 65535 {
         return;
@@ -30,6 +31,7 @@ pub fn note_long(over: &mut [usize], number: usize, len: usize)
     }
     over[0] = number;
     over[1] = len;
+    over[2] = action.0;
 }
 
 // The first of two lengths that is over 65,535, or 0.
@@ -55,15 +57,21 @@ pub fn flat_payload(r: Scan) -> Laid
     }
 }
 
-// A payload from position `from` on, with n bodies after it; 8 is noted where it is too long.
-pub fn long_payload(r: Scan, from: BytePosition, n: usize, over: &mut [usize]) -> Laid
-    requires { ⌜ (length (now over) ≡ 2) × EndsFrom (from .0) r ⌝ }
-    ensures { λ l. ⌜ (l ≡ laidAs n r) × (now (over .exit) ≡ notedFrom (from .0) r (now (over .entry))) ⌝ }
+// The payload of an action from position `from` on, with n bodies after it; 8 is noted where it is too long.
+pub fn long_payload(
+    r: Scan,
+    from: BytePosition,
+    n: usize,
+    action: ActionNumber,
+    over: &mut [usize],
+) -> Laid
+    requires { ⌜ (length (now over) ≡ 3) × EndsFrom (from .0) r ⌝ }
+    ensures { λ l. ⌜ (l ≡ laidAs n r) × (now (over .exit) ≡ notedFrom (from .0) (action .0) r (now (over .entry))) ⌝ }
 {
     match r {
         Scan::Stops(f, p) => Laid::Stops(f, p),
         Scan::Ends(p, w) => {
-            note_long(over, 8, w.0 - from.0);
+            note_long(over, 8, w.0 - from.0, action);
             if n == 0 {
                 return Laid::Flat(p, w);
             }
@@ -73,14 +81,19 @@ pub fn long_payload(r: Scan, from: BytePosition, n: usize, over: &mut [usize]) -
 }
 
 // The payload of a function, from position `from` on; 8 is noted where it is too long.
-pub fn function_payload(r: Scan, from: BytePosition, over: &mut [usize]) -> Laid
-    requires { ⌜ (length (now over) ≡ 2) × EndsFrom (from .0) r ⌝ }
-    ensures { λ l. ⌜ (l ≡ laidFunction r) × (now (over .exit) ≡ notedFrom (from .0) r (now (over .entry))) ⌝ }
+pub fn function_payload(
+    r: Scan,
+    from: BytePosition,
+    action: ActionNumber,
+    over: &mut [usize],
+) -> Laid
+    requires { ⌜ (length (now over) ≡ 3) × EndsFrom (from .0) r ⌝ }
+    ensures { λ l. ⌜ (l ≡ laidFunction r) × (now (over .exit) ≡ notedFrom (from .0) (action .0) r (now (over .entry))) ⌝ }
 {
     match r {
         Scan::Stops(f, p) => Laid::Stops(f, p),
         Scan::Ends(p, w) => {
-            note_long(over, 8, w.0 - from.0);
+            note_long(over, 8, w.0 - from.0, action);
             Laid::Function(p, w)
         }
     }

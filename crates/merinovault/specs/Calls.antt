@@ -13,9 +13,9 @@ use Rattle.layout.specs.Pack.{pack, output}
 use Rattle.layout.specs.Step.{step}
 use Rattle.laws.specs.Fits.{Bytes}
 
--- "any other length of that slice returns 11 with nothing written, tested before everything else": the first if it is 8
-unfoldable pub ifEight : {A : Type 0} → List ℕ → A → A → A
-ifEight value a b = pick (eqb (length value) 8) a b
+-- "any other length of that slice returns 11 with nothing written, tested before everything else": the first if it is 16
+unfoldable pub ifSixteen : {A : Type 0} → List ℕ → A → A → A
+ifSixteen value a b = pick (eqb (length value) 16) a b
 
 -- what every lent slice is: bytes, and under 2 to the 63rd of them, since no object in memory has more
 pub record Lent (s : List ℕ) : Type 0 where
@@ -30,12 +30,12 @@ modeBy strict contained = record { strict = strict; contained = contained }
 -- slice then holds v′ and the output `after`
 pub record PackCalled (mode : Mode) (s o v : List ℕ) (n : ℕ) (v′ after : List ℕ) : Type 0 where
   pub is-lent : Lent s
-  pub is-number : n ≡ ifEight v (number (pack mode s (length o))) 11
-  pub is-value : v′ ≡ ifEight v (valueBytes lengthOf (pack mode s (length o))) v
-  pub is-output : after ≡ ifEight v (output (pack mode s (length o)) o) o
+  pub is-number : n ≡ ifSixteen v (number (pack mode s (length o))) 11
+  pub is-value : v′ ≡ ifSixteen v (valueBytes lengthOf (pack mode s (length o))) v
+  pub is-output : after ≡ ifSixteen v (output (pack mode s (length o)) o) o
 
 -- merinovault_step, on a byte string s, with a value slice that held v: it returns n, and the value slice then holds v′
 pub record StepCalled (s v : List ℕ) (n : ℕ) (v′ : List ℕ) : Type 0 where
   pub is-lent : Lent s
-  pub is-number : n ≡ ifEight v (number (step s)) 11
-  pub is-value : v′ ≡ ifEight v (valueBytes pos (step s)) v
+  pub is-number : n ≡ ifSixteen v (number (step s)) 11
+  pub is-value : v′ ≡ ifSixteen v (valueBytes pos (step s)) v

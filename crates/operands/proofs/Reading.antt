@@ -11,7 +11,7 @@ use lib.Dec.{leb, eqb}
 use borrow.Author.Tests.{le-leb, lt-leb, lt-ltb, le-ltb, leb-true, leb-false}
 use Rattle.layout.specs.Numbers.{u16At}
 use Rattle.layout.specs.Answers.{Fault, CutShort, BadField}
-use Rattle.layout.specs.Read.{Text, plain, Terms, ahead, Place, placed, got, bad, ifWhole, ifWithin, tested, firstZero, ifNoZero, readU8, readU16, readBytes, readFlag, readSpelling, readString, readLabel}
+use Rattle.layout.specs.Read.{Text, plain, Terms, ahead, Place, placed, Stop, stop, got, bad, ifWhole, ifWithin, tested, firstZero, ifNoZero, readU8, readU16, readBytes, readFlag, readSpelling, readString, readLabel}
 use Rattle.layout.specs.Lengths.{stringLength}
 use Rattle.layout.specs.Pack.{spelling}
 use Rattle.fields.specs.Runs.{part, nulOr, firstNul}
@@ -28,7 +28,7 @@ module _ (b : List ℕ) (at : ℕ) where
   unfolding ifWhole
   whole n a h = rw (le-leb (at + n) (length b) h)
 
-  cut : {A : Type 0} (n : ℕ) (a : A) → length b < at + n → ifWhole (leb (at + n) (length b)) (placed at) a (ahead n (placed at)) ≡ bad CutShort (placed at)
+  cut : {A : Type 0} (n : ℕ) (a : A) → length b < at + n → ifWhole (leb (at + n) (length b)) (placed at) a (ahead n (placed at)) ≡ bad CutShort (stop (placed at))
   unfolding ifWhole
   cut n a h = rw (lt-leb (at + n) (length b) h)
 
@@ -36,7 +36,7 @@ module _ (b : List ℕ) (at : ℕ) where
   unfolding readU8
   u8-in h = whole 1 _ h
 
-  pub u8-out : length b < at + 1 → readU8 b (placed at) ≡ bad CutShort (placed at)
+  pub u8-out : length b < at + 1 → readU8 b (placed at) ≡ bad CutShort (stop (placed at))
   unfolding readU8
   u8-out h = cut 1 _ h
 
@@ -44,7 +44,7 @@ module _ (b : List ℕ) (at : ℕ) where
   unfolding readU16
   u16-in h = whole 2 _ h
 
-  pub u16-out : length b < at + 2 → readU16 b (placed at) ≡ bad CutShort (placed at)
+  pub u16-out : length b < at + 2 → readU16 b (placed at) ≡ bad CutShort (stop (placed at))
   unfolding readU16
   u16-out h = cut 2 _ h
 
@@ -52,17 +52,17 @@ module _ (b : List ℕ) (at : ℕ) where
   unfolding readBytes
   bytes-in n h = whole n _ h
 
-  pub bytes-out : (n : ℕ) → length b < at + n → readBytes b n (placed at) ≡ bad CutShort (placed at)
+  pub bytes-out : (n : ℕ) → length b < at + n → readBytes b n (placed at) ≡ bad CutShort (stop (placed at))
   unfolding readBytes
   bytes-out n h = cut n _ h
 
   -- ---- a flag
 
-  pub flag-out : length b < at + 1 → readFlag b (placed at) ≡ bad CutShort (placed at)
+  pub flag-out : length b < at + 1 → readFlag b (placed at) ≡ bad CutShort (stop (placed at))
   unfolding readFlag tested
   flag-out h = rw (u8-out h)
 
-  pub flag-big : at + 1 ≤ length b → 1 < getD b at 0 → readFlag b (placed at) ≡ bad BadField (placed at)
+  pub flag-big : at + 1 ≤ length b → 1 < getD b at 0 → readFlag b (placed at) ≡ bad BadField (stop (placed at))
   unfolding readFlag tested ifWithin
   flag-big h k =
       let l : 2 ≤ getD b at 0 = omega arith in
@@ -77,15 +77,15 @@ module _ (b : List ℕ) (at : ℕ) where
 -- ---- a label number, not under `least`: a branch's, with 0, or an entry's
 
 module _ (k : Terms) (b : List ℕ) (at : ℕ) where
-  pub label-out : (least : ℕ) → length b < at + 2 → readLabel k b least (placed at) ≡ bad CutShort (placed at)
+  pub label-out : (least : ℕ) → length b < at + 2 → readLabel k b least (placed at) ≡ bad CutShort (stop (placed at))
   unfolding readLabel tested
   label-out least h = rw (u16-out b at h)
 
-  pub label-big : (least : ℕ) → at + 2 ≤ length b → k .labelBound ≤ u16At b at → readLabel k b least (placed at) ≡ bad BadField (placed at)
+  pub label-big : (least : ℕ) → at + 2 ≤ length b → k .labelBound ≤ u16At b at → readLabel k b least (placed at) ≡ bad BadField (stop (placed at))
   unfolding readLabel tested ifWithin
   label-big least h m = rw (u16-in b at h, le-ltb (u16At b at) (k .labelBound) m)
 
-  pub label-low : (least : ℕ) → at + 2 ≤ length b → u16At b at < k .labelBound → u16At b at < least → readLabel k b least (placed at) ≡ bad BadField (placed at)
+  pub label-low : (least : ℕ) → at + 2 ≤ length b → u16At b at < k .labelBound → u16At b at < least → readLabel k b least (placed at) ≡ bad BadField (stop (placed at))
   unfolding readLabel tested ifWithin
   label-low least h l m = rw (u16-in b at h, lt-ltb (u16At b at) (k .labelBound) l, lt-leb least (u16At b at) m)
 
@@ -124,25 +124,25 @@ module _ (b : List ℕ) (at : ℕ) (l : at + 2 + u16At b at ≤ length b) where
   within z e = omega (arith, zero-before 0 (part b (at + 2) (u16At b at)) z e, string-length)
 
 module _ (k : Terms) (b : List ℕ) (at : ℕ) where
-  pub string-out : length b < at + 2 → readString k b (placed at) ≡ bad CutShort (placed at)
+  pub string-out : length b < at + 2 → readString k b (placed at) ≡ bad CutShort (stop (placed at))
   unfolding readString
   string-out h = rw (u16-out b at h)
 
   module _ (h : at + 2 ≤ length b) where
-    pub string-short : length b < at + 2 + u16At b at → readString k b (placed at) ≡ bad CutShort (placed (at + 2))
+    pub string-short : length b < at + 2 + u16At b at → readString k b (placed at) ≡ bad CutShort (stop (placed (at + 2)))
     unfolding readString readSpelling
     string-short l = rw (u16-in b at h, bytes-out b (at + 2) (u16At b at) l)
 
     module _ (l : at + 2 + u16At b at ≤ length b) where
       pub string-nul : firstNul b (at + 2) (u16At b at) < at + 2 + u16At b at
-          → readString k b (placed at) ≡ bad BadField (placed (firstNul b (at + 2) (u16At b at)))
+          → readString k b (placed at) ≡ bad BadField (stop (placed (firstNul b (at + 2) (u16At b at))))
       unfolding readString readSpelling ifNoZero firstNul
       string-nul m =
           let n = nul-at (at + 2) (u16At b at) (firstZero 0 (part b (at + 2) (u16At b at))) (within b at l) m in
           go (n .0) (n .1) (n .2)
         where
           go : (z : ℕ) → firstZero 0 (part b (at + 2) (u16At b at)) ≡ some z → nulOr (at + 2) (u16At b at) (firstZero 0 (part b (at + 2) (u16At b at))) ≡ at + 2 + z
-              → readString k b (placed at) ≡ bad BadField (placed (nulOr (at + 2) (u16At b at) (firstZero 0 (part b (at + 2) (u16At b at)))))
+              → readString k b (placed at) ≡ bad BadField (stop (placed (nulOr (at + 2) (u16At b at) (firstZero 0 (part b (at + 2) (u16At b at))))))
           go z x y = rw (y, u16-in b at h, bytes-in b (at + 2) (u16At b at) l, x)
 
       pub string-in : at + 2 + u16At b at ≤ firstNul b (at + 2) (u16At b at)
@@ -155,7 +155,7 @@ module _ (k : Terms) (b : List ℕ) (at : ℕ) {s : Text} {q : Place} (e : readS
   abbrev Told : Type 0
   Told = (at + 2 ≤ length b) × (stringSize s ≡ u16At b at + 1)
 
-  no : {f : Fault} {p : Place} → readString k b (placed at) ≡ bad f p → Told
+  no : {f : Fault} {p : Stop} → readString k b (placed at) ≡ bad f p → Told
   no g =
       let z : _≡_ {A = ℕ} 0 1 = cc in
       absurd (omega arith)
@@ -194,7 +194,7 @@ module _ (k : Terms) (b : List ℕ) (at pos n : ℕ) (h : at + 2 ≤ length b) (
     unfolding faultOf
     scan-nul m =
         let g : z ≡ firstNul b (at + 2) (u16At b at) = rw (← e) f in
-        stops stringSize pos (string-nul k b at h (omega arith) (omega arith) ∙ ap (λ (x : ℕ). bad BadField (placed x)) (sym g))
+        stops stringSize pos (string-nul k b at h (omega arith) (omega arith) ∙ ap (λ (x : ℕ). bad BadField (stop (placed x))) (sym g))
 
     pub scan-text : at + 2 + n ≤ z → scan.Ends (at + 2 + n) (record { 0 = pos + (n + 1) }) ≡ scanned stringSize pos (readString k b (placed at))
     unfolding stringSize stringLength spelling

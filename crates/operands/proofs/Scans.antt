@@ -4,7 +4,8 @@ use Prim.Native.Nat.{ℕ, _+_}
 use native.Mathlib.Omega.{arith}
 use mathlib.Core.Bool.{Bool, true, false}
 use Rattle.layout.specs.Answers as answers
-use Rattle.layout.specs.Read.{Place, placed, Read, got, bad, Reader, chain, ifWhole}
+use Rattle.layout.specs.Read.{Place, placed, stop, Read, got, bad, Reader, chain, ifWhole}
+use Rattle.laws.specs.Begun.{Fields, read, met}
 use Rattle.positions.specs.declared.BytePosition.{BytePosition}
 use Rattle.positions.specs.declared.Fault.{Fault}
 use Rattle.positions.specs.declared.Scan.{Scan}
@@ -24,24 +25,21 @@ module _ {A : Type 0} (size : A → ℕ) (pos : ℕ) where
       let z : _≡_ {A = ℕ} 0 1 = cc in
       absurd (omega arith)
 
-  -- one that stops says which fault was met
-  pub stops-is : {r : Scan} {f : Fault} {q : ℕ} (x : Read A) → r ≡ scanned size pos x → r ≡ scan.Stops f q
-      → (g : answers.Fault) × (x ≡ bad g (placed q)) × (f ≡ faultOf g)
+  -- one that stops in a field says which fault was met
+  pub stops-is : {r : Scan} {f : Fault} {q : ℕ} {p : Place} {x : Read A} → Fields p x → r ≡ scanned size pos x → r ≡ scan.Stops f q
+      → (g : answers.Fault) × (x ≡ bad g (stop (placed q))) × (f ≡ faultOf g)
   unfolding scanned
-  stops-is (got a p) e h =
+  stops-is (read h) e k =
       let z : _≡_ {A = ℕ} 0 1 = cc in
       absurd (omega arith)
-  stops-is (bad g p) e h = (g, ap (bad g) (place p (cc)), cc)
-    where
-      place : {q : ℕ} (p : Place) → p .at ≡ q → p ≡ placed q
-      place p h = ap placed h
+  stops-is (met {f = g} {n = n} h) e k = (g, ap (λ (i : ℕ). bad g (stop (placed i))) (cc), cc)
 
   -- and back
   pub ends : {a : A} {q : ℕ} {w : BytePosition} {x : Read A} → x ≡ got a (placed q) → w .0 ≡ pos + size a → scan.Ends q w ≡ scanned size pos x
   unfolding scanned
   ends {a} {q} {w} e f = rw e (ap (λ (n : ℕ). scan.Ends q (record { 0 = n })) f)
 
-  pub stops : {g : answers.Fault} {q : ℕ} {x : Read A} → x ≡ bad g (placed q) → scan.Stops (faultOf g) q ≡ scanned size pos x
+  pub stops : {g : answers.Fault} {q : ℕ} {x : Read A} → x ≡ bad g (stop (placed q)) → scan.Stops (faultOf g) q ≡ scanned size pos x
   unfolding scanned
   stops e = rw e
 

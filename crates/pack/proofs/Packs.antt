@@ -8,7 +8,7 @@ use mathlib.Core.Option.{Option, none, some}
 use mathlib.Core.List.{List, [], _∷_}
 use lib.IntN.{pos}
 use lib.ListN.{length, getD, take, drop, replicate, length-replicate}
-use Rattle.layout.specs.Answers.{Refusal, SheetTooLong, BadTrailer, ReadingFault, ActionLenOverflow, BlockLenOverflow, Refused, refusalNumber, refusalValue}
+use Rattle.layout.specs.Answers.{Refusal, SheetTooLong, BadTrailer, ReadingFault, ActionLenOverflow, BlockLenOverflow, Refused, refusalNumber, refusalValue, refusalAction}
 use Rattle.layout.specs.Answers as answers
 use Rattle.layout.specs.Tree.{Actions}
 use Rattle.layout.specs.Read.{Terms, deepest, readMain}
@@ -19,6 +19,7 @@ use Rattle.layout.specs.Order.{uncut-first, long-first, branch-next, room-last}
 use Rattle.layout.specs.Cut.{uncut, cut}
 use Rattle.laws.specs.Modes.{none-far}
 use Rattle.laws.specs.Packed.{ReadsMain}
+use Rattle.positions.specs.declared.ActionNumber.{ActionNumber}
 use Rattle.positions.specs.declared.BytePosition.{BytePosition}
 use Rattle.positions.specs.declared.Fault.{Fault}
 use Rattle.positions.specs.Scanned.{meant}
@@ -37,10 +38,10 @@ use Rattle.judge.specs.Judging.{refusalOf, Says, HomesLent, MainJudged}
 use Rattle.judge.specs.declared.BadBranch.{BadBranch}
 use Rattle.judge.specs.declared.Verdict.{Verdict}
 use Rattle.judge.specs.declared.Verdict.the-variants as verdict
-use Rattle.answer.specs.Answered.{number, value, Answered}
+use Rattle.answer.specs.Answered.{number, value, action, Answered}
 use Rattle.if_room.specs.Near.{MainNear, MainAnswered}
 use Rattle.if_room.proofs.Nears.{refused, answered-by}
-use Rattle.pack.specs.Steps.{TellsFault, TellsBranch, MainShort, MainPacked, TablesLent, BodyPacked}
+use Rattle.pack.specs.Steps.{TellsFault, TellsBranch, MainShort, TreePacked, TablesLent, ReadPacked}
 use Rattle.answer.specs.declared.Answer.{Answer}
 use Rattle.answer.specs.declared.Answer.the-variants as answer
 
@@ -58,20 +59,21 @@ read-tree terms mode b t start room r = rw (r .is-read, r .is-tree)
 
 module _ (terms : Terms) (mode : Mode) (b tab homes : List ℕ) (end : BytePosition) (m : MainShort terms b end mode tab homes) (v : Verdict) (j : MainJudged terms mode b v) where
   -- What the verdict refuses is the answer, whatever the room.
-  pub short-bad : (bad : BadBranch) → v ≡ verdict.Refused bad → (r : Answer) → TellsBranch bad r → (o : List ℕ) → MainPacked terms mode b o r o
-  unfolding answers.number answers.value
-  short-bad bad e r h o =
+  pub short-bad : (bad : BadBranch) (k : ActionNumber) → v ≡ verdict.Refused bad k → (r : Answer) → TellsBranch bad k r → (o : List ℕ) → TreePacked terms mode b o r o
+  unfolding answers.number answers.value answers.action
+  short-bad bad n e r h o =
       let t = m .judgeable .measured .tree in
       let f = is-bad (j .says t (m .judgeable .measured .reads)) e in
-      answered-by t (m .judgeable .measured .reads) (refused (refusalOf bad) o r (branch-next mode t (length o) _ (m .is-short) f) (h .is-number) (h .is-value))
+      answered-by t (m .judgeable .measured .reads) (refused (refusalOf bad n) o r (branch-next mode t (length o) _ (m .is-short) f) (h .is-number) (h .is-value) (h .is-action))
     where
-      is-bad : {x : Option Refusal} {v : Verdict} → Says x v → v ≡ verdict.Refused bad → x ≡ some (refusalOf bad)
+      is-bad : {x : Option Refusal} {v : Verdict} → Says x v → v ≡ verdict.Refused bad n → x ≡ some (refusalOf bad n)
       is-bad Says.passed k =
           let z : _≡_ {A = ℕ} 0 1 = cc in
           absurd (omega arith)
-      is-bad (Says.refused {bad = y}) k =
+      is-bad (Says.refused {bad = y} {k = o}) k =
           let i : y ≡ bad = cc in
-          rw i
+          let l : o ≡ n = cc in
+          rw (i, l)
 
   module _ (e : v ≡ verdict.Passed) where
     none-bad : badBranch mode (events (m .judgeable .measured .tree)) (events (m .judgeable .measured .tree)) ≡ none
@@ -88,7 +90,7 @@ module _ (terms : Terms) (mode : Mode) (b tab homes : List ℕ) (end : BytePosit
     short-near = record { measured = m .judgeable .measured; is-near = none-far mode (λ l. lookup l (events (m .judgeable .measured .tree))) (events (m .judgeable .measured .tree)) none-bad }
 
     -- Then the answer is the block's, by the room.
-    pub short-room : (r : Answer) (o after : List ℕ) → MainAnswered terms blockIn b o r after → MainPacked terms mode b o r after
+    pub short-room : (r : Answer) (o after : List ℕ) → MainAnswered terms blockIn b o r after → TreePacked terms mode b o r after
     short-room r o after h =
         let t = m .judgeable .measured .tree in
         answered-by t (m .judgeable .measured .reads) (rw (room-last mode t (length o) (judge-none t (m .is-short) none-bad)) (h .answered t (m .judgeable .measured .reads)))
@@ -107,28 +109,28 @@ long-number [] x e =
 long-number (labelAt l s ∷ es) x e = long-number es x e
 long-number (branchAt l s ∷ es) x e = long-number es x e
 long-number (payloadTooLong n s ∷ es) x e =
-    let i : x ≡ ActionLenOverflow n = cc in
+    let i : x ≡ ActionLenOverflow n (s .number) = cc in
     inl (ap refusalNumber i)
 long-number (bodyTooLong n s ∷ es) x e =
-    let i : x ≡ BlockLenOverflow n = cc in
+    let i : x ≡ BlockLenOverflow n (s .number) = cc in
     inr (ap refusalNumber i)
 
 module _ (terms : Terms) (b tab homes over : List ℕ) (end : BytePosition) (m : MainWhole terms b end tab homes over) where
   -- What is noted is the answer, whatever the room.
-  noted-answered : (mode : Mode) (r : Answer) (o : List ℕ) → (getD over 0 0 ≡ 0 → ⊥) → number r ≡ getD over 0 0 → value r ≡ pos (getD over 1 0) → MainPacked terms mode b o r o
-  noted-answered mode r o z i v = answered-by (m .measured .tree) (m .measured .reads) (go (tooLong (events (m .measured .tree))) refl (m .long))
+  noted-answered : (mode : Mode) (r : Answer) (o : List ℕ) → (getD over 0 0 ≡ 0 → ⊥) → number r ≡ getD over 0 0 → value r ≡ pos (getD over 1 0) → action r ≡ getD over 2 0 → TreePacked terms mode b o r o
+  noted-answered mode r o z i v k = answered-by (m .measured .tree) (m .measured .reads) (go (tooLong (events (m .measured .tree))) refl (m .long))
     where
       go : (x : Option Refusal) → tooLong (events (m .measured .tree)) ≡ x → Holds x over → Answered (packTree mode (m .measured .tree) (length o)) o r o
-      go none l h = absurd (z (h .0))
-      go (some x) l h = refused x o r (long-first mode (m .measured .tree) (length o) x l) (i ∙ h .0) (v ∙ h .1)
+      go none l h = absurd (z h)
+      go (some x) l h = refused x o r (long-first mode (m .measured .tree) (length o) x l) (i ∙ h .0) (v ∙ h .1) (k ∙ h .2)
 
-  pub whole-8 : getD over 0 0 ≡ 8 → (mode : Mode) (o : List ℕ) → MainPacked terms mode b o (answer.ActionLenOverflow (getD over 1 0)) o
-  unfolding number value
-  whole-8 e mode o = noted-answered mode (answer.ActionLenOverflow (getD over 1 0)) o (λ z. omega arith) (sym e) refl
+  pub whole-8 : getD over 0 0 ≡ 8 → (mode : Mode) (o : List ℕ) → TreePacked terms mode b o (answer.ActionLenOverflow (getD over 1 0) (record { 0 = getD over 2 0 })) o
+  unfolding number value action
+  whole-8 e mode o = noted-answered mode (answer.ActionLenOverflow (getD over 1 0) (record { 0 = getD over 2 0 })) o (λ z. omega arith) (sym e) refl refl
 
-  pub whole-9 : getD over 0 0 ≡ 9 → (mode : Mode) (o : List ℕ) → MainPacked terms mode b o (answer.BlockLenOverflow (getD over 1 0)) o
-  unfolding number value
-  whole-9 e mode o = noted-answered mode (answer.BlockLenOverflow (getD over 1 0)) o (λ z. omega arith) (sym e) refl
+  pub whole-9 : getD over 0 0 ≡ 9 → (mode : Mode) (o : List ℕ) → TreePacked terms mode b o (answer.BlockLenOverflow (getD over 1 0) (record { 0 = getD over 2 0 })) o
+  unfolding number value action
+  whole-9 e mode o = noted-answered mode (answer.BlockLenOverflow (getD over 1 0) (record { 0 = getD over 2 0 })) o (λ z. omega arith) (sym e) refl refl
 
   -- Where neither is noted, nothing is too long.
   pub whole-short : (mode : Mode) → HomesLent terms mode homes → (getD over 0 0 ≡ 8 → ⊥) → (getD over 0 0 ≡ 9 → ⊥) → MainShort terms b end mode tab homes
@@ -142,17 +144,17 @@ module _ (terms : Terms) (b tab homes over : List ℕ) (end : BytePosition) (m :
 
 module _ (terms : Terms) (b : List ℕ) (start : ℕ) (tab homes over : List ℕ) (x : Reading) (h : MainRead terms b start tab homes over x) where
   -- What reading refuses is the answer, whatever the room: 3 to 7.
-  pub read-stops : (mode : Mode) (o : List ℕ) (f : Fault) (p : ℕ) → x ≡ reading.Stops f p → (r : Answer) → TellsFault f p r → BodyPacked terms mode start b o r o
-  unfolding said answers.number answers.value
-  read-stops mode o f p e r t = go h e
+  pub read-stops : (mode : Mode) (o : List ℕ) (f : Fault) (p : ℕ) (k : ActionNumber) → x ≡ reading.Stops f p k → (r : Answer) → TellsFault f p k r → ReadPacked terms mode start b o r o
+  unfolding said answers.number answers.value answers.action
+  read-stops mode o f p n e r t = go h e
     where
-      go : {x : Reading} → MainRead terms b start tab homes over x → x ≡ reading.Stops f p → BodyPacked terms mode start b o r o
+      go : {x : Reading} → MainRead terms b start tab homes over x → x ≡ reading.Stops f p n → ReadPacked terms mode start b o r o
       go (MainRead.whole m) k =
           let z : _≡_ {A = ℕ} 0 1 = cc in
           absurd (omega arith)
       go (MainRead.refused {r = y} {x = z} i j) k =
-          let same : z ≡ ReadingFault (meant f) p = some-same (sym i ∙ ap said k) in
-          refused (ReadingFault (meant f) p) o r (read-refused mode start (readMain terms b deepest) z (length o) j ∙ ap Refused same) (t .is-number) (t .is-value)
+          let same : z ≡ ReadingFault (meant f) p (n .0) = some-same (sym i ∙ ap said k) in
+          refused (ReadingFault (meant f) p (n .0)) o r (read-refused mode start (readMain terms b deepest) z (length o) j ∙ ap Refused same) (t .is-number) (t .is-value) (t .is-action)
 
   -- Where it reads whole, it is packed by what was left.
   module _ (w : BytePosition) (e : x ≡ reading.Whole w) where
@@ -170,7 +172,7 @@ module _ (terms : Terms) (b : List ℕ) (start : ℕ) (tab homes over : List ℕ
             absurd (omega arith)
 
     -- The answer to its tree is the answer to what was read.
-    pub whole-packed : (mode : Mode) (o : List ℕ) (r : Answer) (after : List ℕ) → MainPacked terms mode b o r after → BodyPacked terms mode start b o r after
+    pub whole-packed : (mode : Mode) (o : List ℕ) (r : Answer) (after : List ℕ) → TreePacked terms mode b o r after → ReadPacked terms mode start b o r after
     whole-packed mode o r after p =
         let m = read-whole .measured in
         rw (read-tree terms mode b (m .tree) start (length o) (m .reads)) (p .answered (m .tree) (m .reads))
@@ -191,22 +193,22 @@ zeros-lent terms mode n m few h k = record {
 
 module _ (s : List ℕ) (c : CutMain) (e : cuts.said s c ≡ cut s) (mode : Mode) (o : List ℕ) where
   -- What the cut refuses is the answer: 1 and 2.
-  cut-refused : (y : Refusal) (r : Answer) → cuts.said s c ≡ uncut y → number r ≡ refusalNumber y → value r ≡ refusalValue y → Outcome mode s o (number r) (value r) o
-  cut-refused y r k n v =
-      let a = refused y o r (uncut-first mode s (length o) y (sym e ∙ k)) n v in
+  cut-refused : (y : Refusal) (r : Answer) → cuts.said s c ≡ uncut y → number r ≡ refusalNumber y → value r ≡ refusalValue y → action r ≡ refusalAction y → Outcome mode s o (number r) (value r) (action r) o
+  cut-refused y r k n v i =
+      let a = refused y o r (uncut-first mode s (length o) y (sym e ∙ k)) n v i in
       record { told = a .told; holds = a .holds }
 
-  pub cut-long : (n : ℕ) → c ≡ cutMain.SheetTooLong n → Outcome mode s o (number (answer.SheetTooLong n)) (value (answer.SheetTooLong n)) o
-  unfolding cuts.said number value refusalNumber refusalValue
-  cut-long n k = cut-refused (SheetTooLong n) (answer.SheetTooLong n) (rw k) refl refl
+  pub cut-long : (n : ℕ) → c ≡ cutMain.SheetTooLong n → Outcome mode s o (number (answer.SheetTooLong n)) (value (answer.SheetTooLong n)) (action (answer.SheetTooLong n)) o
+  unfolding cuts.said number value action refusalNumber refusalValue refusalAction
+  cut-long n k = cut-refused (SheetTooLong n) (answer.SheetTooLong n) (rw k) refl refl refl
 
-  pub cut-bad : c ≡ cutMain.BadTrailer → Outcome mode s o (number answer.BadTrailer) (value answer.BadTrailer) o
-  unfolding cuts.said number value refusalNumber refusalValue
-  cut-bad k = cut-refused BadTrailer answer.BadTrailer (rw k) refl refl
+  pub cut-bad : c ≡ cutMain.BadTrailer → Outcome mode s o (number answer.BadTrailer) (value answer.BadTrailer) (action answer.BadTrailer) o
+  unfolding cuts.said number value action refusalNumber refusalValue refusalAction
+  cut-bad k = cut-refused BadTrailer answer.BadTrailer (rw k) refl refl refl
 
   -- The answer to its main body is the answer to the sheet.
   pub cut-packed : (edition : Edition) (start end : ℕ) → c ≡ cutMain.Main edition start end → (r : Answer) (after : List ℕ)
-      → BodyPacked (editionTerms (meant-edition edition)) mode start (take (end - start) (drop start s)) o r after → Outcome mode s o (number r) (value r) after
+      → ReadPacked (editionTerms (meant-edition edition)) mode start (take (end - start) (drop start s)) o r after → Outcome mode s o (number r) (value r) (action r) after
   unfolding pack packCut
   cut-packed edition start end k r after p =
       let i = is-cut s c e edition start end k in

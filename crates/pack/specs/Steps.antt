@@ -9,6 +9,7 @@ use Rattle.layout.specs.Read.{Terms, deepest, readMain}
 use Rattle.layout.specs.Write.{events}
 use Rattle.layout.specs.Judge.{tooLong, Mode}
 use Rattle.layout.specs.Pack.{packTree, packRead}
+use Rattle.positions.specs.declared.ActionNumber.{ActionNumber}
 use Rattle.positions.specs.declared.BytePosition.{BytePosition}
 use Rattle.positions.specs.declared.Fault.{Fault}
 use Rattle.positions.specs.Scanned.{meant}
@@ -17,15 +18,15 @@ use Rattle.judge.specs.declared.BadBranch.{BadBranch}
 use Rattle.judge.specs.Judging.{refusalOf, HomesLent, MainJudgeable}
 use Rattle.if_room.specs.Near.{MainAnswered}
 use Rattle.answer.specs.declared.Answer.{Answer}
-use Rattle.answer.specs.Answered.{number, value, Answered}
+use Rattle.answer.specs.Answered.{number, value, action, Answered}
 
--- r tells a fault and its place in the sheet
-abbrev pub TellsFault : Fault → ℕ → Answer → Type 0
-TellsFault f place r = Told {A = List ℕ} lengthOf (Refused (ReadingFault (meant f) place)) (number r) (value r)
+-- r tells a fault, its place in the sheet and the action that it names
+abbrev pub TellsFault : Fault → ℕ → ActionNumber → Answer → Type 0
+TellsFault f place k r = Told {A = List ℕ} lengthOf (Refused (ReadingFault (meant f) place (k .0))) (number r) (value r) (action r)
 
--- r tells what is wrong with a branch
-abbrev pub TellsBranch : BadBranch → Answer → Type 0
-TellsBranch bad r = Told {A = List ℕ} lengthOf (Refused (refusalOf bad)) (number r) (value r)
+-- r tells what is wrong with a branch, and its number
+abbrev pub TellsBranch : BadBranch → ActionNumber → Answer → Type 0
+TellsBranch bad k r = Told {A = List ℕ} lengthOf (Refused (refusalOf bad k)) (number r) (value r) (action r)
 
 -- a main body that reads whole as far as position `end`, with its label tables, and in which nothing is too long
 pub record MainShort (terms : Terms) (b : List ℕ) (end : BytePosition) (mode : Mode) (tab homes : List ℕ) : Type 0 where
@@ -33,8 +34,8 @@ pub record MainShort (terms : Terms) (b : List ℕ) (end : BytePosition) (mode :
   pub is-short : tooLong (events (judgeable .measured .tree)) ≡ none
 
 -- what is left of a main body that reads whole: the packer's answer
-abbrev pub MainPacked : Terms → Mode → List ℕ → List ℕ → Answer → List ℕ → Type 0
-MainPacked terms mode = MainAnswered terms (packTree mode)
+abbrev pub TreePacked : Terms → Mode → List ℕ → List ℕ → Answer → List ℕ → Type 0
+TreePacked terms mode = MainAnswered terms (packTree mode)
 
 -- a main body and its start are within the limit of a sheet
 abbrev pub Limited : List ℕ → ℕ → Type 0
@@ -48,5 +49,5 @@ pub record TablesLent (terms : Terms) (mode : Mode) (tab homes : List ℕ) : Typ
   pub lent : HomesLent terms mode homes
 
 -- what is left of a main body that starts at `start` in its sheet: the packer's answer to what is read of it
-abbrev pub BodyPacked : Terms → Mode → ℕ → List ℕ → List ℕ → Answer → List ℕ → Type 0
-BodyPacked terms mode start b old r new = Answered (packRead mode start (readMain terms b deepest) (length old)) old r new
+abbrev pub ReadPacked : Terms → Mode → ℕ → List ℕ → List ℕ → Answer → List ℕ → Type 0
+ReadPacked terms mode start b old r new = Answered (packRead mode start (readMain terms b deepest) (length old)) old r new

@@ -1,11 +1,11 @@
 // The packer: a sheet's block in the lent output, or one of 1 to 11 and, by the mode, 14 and 15.
 ghost use Rattle.layout.specs.Read.{edition1, edition2};
 ghost use Rattle.layout.specs.Pack.{editionTerms, Outcome};
-ghost use Rattle.answer.specs.Answered.{number, value};
+ghost use Rattle.answer.specs.Answered.{number, value, action};
 ghost use Rattle.scan.specs.Mains.{MainWhole};
 ghost use Rattle.judge.specs.Judging.{modeOf, HomesLent};
 ghost use Rattle.editions.specs.Allowed.{meant, termsOf};
-ghost use Rattle.pack.specs.Steps.{TellsFault, TellsBranch, MainShort, MainPacked, Limited, TablesLent, BodyPacked};
+ghost use Rattle.pack.specs.Steps.{TellsFault, TellsBranch, MainShort, TreePacked, Limited, TablesLent, ReadPacked};
 use answer::Answer;
 use cut::CutMain;
 use cut::cut_main;
@@ -17,32 +17,33 @@ use judge::BadBranch;
 use judge::Mode;
 use judge::Verdict;
 use judge::judge_main;
+use positions::ActionNumber;
 use positions::BytePosition;
 use positions::Fault;
 use reading::Reading;
 use reading::read_main;
 
-// 3 to 7, at a place of the sheet.
-fn fault_answer(f: Fault, place: usize) -> Answer
-    ensures { λ r. ⌜ TellsFault f place r ⌝ }
+// 3 to 7, at a place of the sheet, with the action that the fault names.
+fn fault_answer(f: Fault, place: usize, action: ActionNumber) -> Answer
+    ensures { λ r. ⌜ TellsFault f place action r ⌝ }
 {
     match f {
-        Fault::CutShort => Answer::CutShort(place),
-        Fault::UnknownCode => Answer::UnknownCode(place),
-        Fault::BadField => Answer::BadField(place),
-        Fault::TooDeep => Answer::TooDeep(place),
-        Fault::LeftOver => Answer::LeftOver(place),
+        Fault::CutShort => Answer::CutShort(place, action),
+        Fault::UnknownCode => Answer::UnknownCode(place, action),
+        Fault::BadField => Answer::BadField(place, action),
+        Fault::TooDeep => Answer::TooDeep(place, action),
+        Fault::LeftOver => Answer::LeftOver(place, action),
     }
 }
 
-// 10, 14 or 15.
-fn branch_answer(bad: BadBranch) -> Answer
-    ensures { λ r. ⌜ TellsBranch bad r ⌝ }
+// 10, 14 or 15, with the branch's number.
+fn branch_answer(bad: BadBranch, action: ActionNumber) -> Answer
+    ensures { λ r. ⌜ TellsBranch bad action r ⌝ }
 {
     match bad {
-        BadBranch::Far(bits) => Answer::JumpOffsetOverflow(bits),
-        BadBranch::NeverRecorded(operand) => Answer::NeverRecorded(operand),
-        BadBranch::StrayBranch(operand) => Answer::StrayBranch(operand),
+        BadBranch::Far(bits) => Answer::JumpOffsetOverflow(bits, action),
+        BadBranch::NeverRecorded(operand) => Answer::NeverRecorded(operand, action),
+        BadBranch::StrayBranch(operand) => Answer::StrayBranch(operand, action),
     }
 }
 
@@ -57,10 +58,10 @@ fn pack_short(
     out: &mut [u8],
 ) -> Answer
     requires { ⌜ MainShort (termsOf terms) (now b) end (modeOf mode) (now tab) (now homes) ⌝ }
-    ensures { λ r. ⌜ MainPacked (termsOf terms) (modeOf mode) (now (b .entry)) (now (out .entry)) r (now (out .exit)) ⌝ }
+    ensures { λ r. ⌜ TreePacked (termsOf terms) (modeOf mode) (now (b .entry)) (now (out .entry)) r (now (out .exit)) ⌝ }
 {
     match judge_main(b, terms, end, mode, tab, homes) {
-        Verdict::Refused(bad) => branch_answer(bad),
+        Verdict::Refused(bad, action) => branch_answer(bad, action),
         Verdict::Passed => pack_near(b, terms, end, tab, out),
     }
 }
@@ -77,15 +78,16 @@ fn pack_whole(
     out: &mut [u8],
 ) -> Answer
     requires { ⌜ MainWhole (termsOf terms) (now b) end (now tab) (now homes) (now over) × HomesLent (termsOf terms) (modeOf mode) (now homes) ⌝ }
-    ensures { λ r. ⌜ MainPacked (termsOf terms) (modeOf mode) (now (b .entry)) (now (out .entry)) r (now (out .exit)) ⌝ }
+    ensures { λ r. ⌜ TreePacked (termsOf terms) (modeOf mode) (now (b .entry)) (now (out .entry)) r (now (out .exit)) ⌝ }
 {
     let noted = over[0];
     let n = over[1];
+    let k = over[2];
     if noted == 8 {
-        return Answer::ActionLenOverflow(n);
+        return Answer::ActionLenOverflow(n, ActionNumber(k));
     }
     if noted == 9 {
-        return Answer::BlockLenOverflow(n);
+        return Answer::BlockLenOverflow(n, ActionNumber(k));
     }
     pack_short(b, terms, end, mode, tab, homes, out)
 }
@@ -102,11 +104,11 @@ fn pack_main(
     out: &mut [u8],
 ) -> Answer
     requires { ⌜ Limited (now b) start × TablesLent (termsOf terms) (modeOf mode) (now tab) (now homes) ⌝ }
-    ensures { λ r. ⌜ BodyPacked (termsOf terms) (modeOf mode) start (now (b .entry)) (now (out .entry)) r (now (out .exit)) ⌝ }
+    ensures { λ r. ⌜ ReadPacked (termsOf terms) (modeOf mode) start (now (b .entry)) (now (out .entry)) r (now (out .exit)) ⌝ }
 {
-    let mut over = [0; 2];
+    let mut over = [0; 3];
     match read_main(b, terms, start, tab, homes, &mut over) {
-        Reading::Stops(f, place) => fault_answer(f, place),
+        Reading::Stops(f, place, action) => fault_answer(f, place, action),
         Reading::Whole(pos) => pack_whole(b, terms, pos, mode, tab, homes, &over, out),
     }
 }
@@ -114,7 +116,7 @@ fn pack_main(
 // A main body of edition 1. Only in a contained mode has the table of homes any slot, and takes time to clear; here and below.
 fn pack_first(b: &[u8], start: usize, mode: Mode, out: &mut [u8]) -> Answer
     requires { ⌜ Limited (now b) start ⌝ }
-    ensures { λ r. ⌜ BodyPacked edition1 (modeOf mode) start (now (b .entry)) (now (out .entry)) r (now (out .exit)) ⌝ }
+    ensures { λ r. ⌜ ReadPacked edition1 (modeOf mode) start (now (b .entry)) (now (out .entry)) r (now (out .exit)) ⌝ }
 {
     let terms = terms_of(Edition::First);
     let mut tab = [0; Terms::FIRST_LABELS];
@@ -129,7 +131,7 @@ fn pack_first(b: &[u8], start: usize, mode: Mode, out: &mut [u8]) -> Answer
 // A main body of edition 2.
 fn pack_second(b: &[u8], start: usize, mode: Mode, out: &mut [u8]) -> Answer
     requires { ⌜ Limited (now b) start ⌝ }
-    ensures { λ r. ⌜ BodyPacked edition2 (modeOf mode) start (now (b .entry)) (now (out .entry)) r (now (out .exit)) ⌝ }
+    ensures { λ r. ⌜ ReadPacked edition2 (modeOf mode) start (now (b .entry)) (now (out .entry)) r (now (out .exit)) ⌝ }
 {
     let terms = terms_of(Edition::Second);
     let mut tab = [0; Terms::SECOND_LABELS];
@@ -144,7 +146,7 @@ fn pack_second(b: &[u8], start: usize, mode: Mode, out: &mut [u8]) -> Answer
 // A main body of any edition: the tables that are lent are as long as its bound, so that no sheet clears more slots than it can name.
 fn pack_edition(b: &[u8], edition: Edition, start: usize, mode: Mode, out: &mut [u8]) -> Answer
     requires { ⌜ Limited (now b) start ⌝ }
-    ensures { λ r. ⌜ BodyPacked (editionTerms (meant edition)) (modeOf mode) start (now (b .entry)) (now (out .entry)) r (now (out .exit)) ⌝ }
+    ensures { λ r. ⌜ ReadPacked (editionTerms (meant edition)) (modeOf mode) start (now (b .entry)) (now (out .entry)) r (now (out .exit)) ⌝ }
 {
     match edition {
         Edition::First => pack_first(b, start, mode, out),
@@ -154,7 +156,7 @@ fn pack_edition(b: &[u8], edition: Edition, start: usize, mode: Mode, out: &mut 
 
 // Packs a sheet into the lent output, whose bytes past a Done length keep their values.
 pub fn pack(sheet: &[u8], mode: Mode, out: &mut [u8]) -> Answer
-    ensures { λ r. ⌜ Outcome (modeOf mode) (now (sheet .entry)) (now (out .entry)) (number r) (value r) (now (out .exit)) ⌝ }
+    ensures { λ r. ⌜ Outcome (modeOf mode) (now (sheet .entry)) (now (out .entry)) (number r) (value r) (action r) (now (out .exit)) ⌝ }
 {
     match cut_main(sheet) {
         CutMain::SheetTooLong(n) => Answer::SheetTooLong(n),

@@ -11,7 +11,7 @@ use lib.Dec.{ltb, eqb}
 use borrow.Author.Tests.{eqb-true, eqb-false, ne-eqb, le-ltb}
 use Rattle.layout.specs.Lists.{each, pick, firstWith}
 use Rattle.layout.specs.OpCode.{OpCode, SmallOpCode, smallByte, byte, smallOpCodes, opcodes, opcodeOf}
-use Rattle.layout.specs.Tree.{FlatOf, Small, GotoFrame, GetUrl, StoreRegister, ConstantPool, WaitForFrame, SetTarget, GotoLabel, WaitForFrame2, Push, GetUrl2, GotoFrame2, OwnerOf, With, DefineFunction, DefineFunction2, Jump, If, PushValueOf, FunctionParamOf, ActionOf, flat, owner, ActionsOf}
+use Rattle.layout.specs.Tree.{FlatOf, Small, GotoFrame, GetUrl, StoreRegister, ConstantPool, WaitForFrame, SetTarget, GotoLabel, WaitForFrame2, Push, GetUrl2, GotoFrame2, OwnerOf, With, DefineFunction, DefineFunction2, Jump, If, PushValueOf, FunctionParamOf, ActionOf, flat, owner, ActionsOf, count}
 use Rattle.layout.specs.Read.{Text, Terms, Place, placed, Read, got, bad, Reader, chain, tested, readU8, readU16, readBytes, readFlag, readString, readCounted, readValue, readParam, readLabel, readFields, readFieldsIf}
 use Rattle.layout.specs.Strings.{mapFlat, mapValue, mapParam, mapOwner, mapAction}
 use Rattle.layout.specs.Payload.{opcode, payload, headed, framed}
@@ -22,6 +22,7 @@ use Rattle.layout.specs.Pack.{spelling}
 use Rattle.laws.specs.Fits.{Bytes, Clean, ParamFits}
 use Rattle.laws.specs.ReadFits.{Good, fine, good-then, good-got, u8-good, u16-good, tested-good, text-good, param-good, counted-good}
 use Rattle.laws.specs.Packed.{spells}
+use Rattle.laws.specs.Begun.{Fields, OfFields, fields-next, tested-fields, u8-fields, u16-fields, flag-fields, counted-fields, string-fields, value-fields, param-fields, label-fields}
 use Rattle.positions.specs.Scanned.{faultOf, scanned}
 use Rattle.operands.specs.Operands.{stringSize}
 use Rattle.lists.specs.Elements.{readNamed, namedSize, valueSize}
@@ -65,6 +66,35 @@ abbrev Fixed : FlatOf Text → Type 0
 Fixed f = Long f × (flatSize f ≤ 65535)
 
 -- ---- the payloads of more than one field
+
+-- they are fields: no action is begun in them
+module _ (b : List ℕ) where
+  wait-own : OfFields (readWaitForFrame b)
+  unfolding readWaitForFrame
+  wait-own p = fields-next (u16-fields b p) (λ n q. fields-next (u8-fields b q) (λ k r. Fields.read {q = r} (omega arith)))
+
+  goto-own : OfFields (readGotoFrame2 b)
+  unfolding readGotoFrame2
+  goto-own p = fields-next (u16-fields b p) (λ n q. fields-next (flag-fields b q) (λ k r. Fields.read {q = r} (omega arith)))
+
+  url2-own : OfFields (readGetUrl2 b)
+  unfolding readGetUrl2
+  url2-own p = fields-next (flag-fields b p) (λ v q. fields-next (flag-fields b q) (λ t r. fields-next (u8-fields b r) (λ m z. Fields.read {q = z} (omega arith))))
+
+module _ (terms : Terms) (b : List ℕ) where
+  url-own : OfFields (readGetUrl terms b)
+  unfolding readGetUrl
+  url-own p = fields-next (string-fields terms b p) (λ u q. fields-next (string-fields terms b q) (λ t r. Fields.read {q = r} (omega arith)))
+
+  function-own : OfFields (readFunction terms b)
+  unfolding readFunction
+  function-own p = fields-next (string-fields terms b p) (λ s q. fields-next (counted-fields b (readString terms b) (string-fields terms b) q) (λ ps r. Fields.read {q = r} (omega arith)))
+
+  function2-own : OfFields (readFunction2 terms b)
+  unfolding readFunction2
+  function2-own p =
+      fields-next (string-fields terms b p) (λ s q. fields-next (counted-fields b (readParam terms b) (param-fields terms b) q) (λ ps r. fields-next (u8-fields b r)
+      (λ k u. fields-next (tested-fields _ (readU16 b) (u16-fields b) u) (λ f v. Fields.read {q = v} (omega arith)))))
 
 module _ (terms : Terms) (b : List ℕ) (p : Place) where
   url-fields : (inner : Reader (ActionsOf Text ℕ)) → readFields terms b inner OpCode.GetUrl p ≡ chain (readGetUrl terms b p) (λ f q. got (flat f) q)
@@ -220,17 +250,17 @@ codes = (refl, refl, refl, refl, refl, refl, refl, refl, refl, refl, refl, refl,
 
 -- ---- the arms
 
-module _ (terms : Terms) (b : List ℕ) (op at pos : ℕ) (over : List ℕ) (r : Scan) (l : Laid) where
+module _ (terms : Terms) (b : List ℕ) (op at pos number : ℕ) (over : List ℕ) (r : Scan) (l : Laid) where
   -- the fields of the opcode at a place
   abbrev Here : List ℕ → Type 0
-  Here o = Laying (terms .labelBound) (λ inner. readFieldsIf terms b inner (opcodeOf op) (placed at) (placed (at + 1))) at (length b) pos over o l
+  Here o = Laying (terms .labelBound) (λ inner. readFieldsIf terms b inner (opcodeOf op) (placed at) (placed (at + 1))) at (length b) pos number over o l
 
   abbrev fieldsOf : OpCode → Reader (ActionsOf Text ℕ) → Read (ActionOf Text ℕ)
   fieldsOf o inner = readFields terms b inner o (placed (at + 1))
 
   -- with the opcode's name
   abbrev Of : OpCode → List ℕ → Type 0
-  Of o v = Laying (terms .labelBound) (λ inner. readFields terms b inner o (placed (at + 1))) at (length b) pos over v l
+  Of o v = Laying (terms .labelBound) (λ inner. readFields terms b inner o (placed (at + 1))) at (length b) pos number over v l
 
   named : (n : ℕ) (o : OpCode) (v : List ℕ) → opcodeOf n ≡ some o → op ≡ n → Of o v → Here v
   unfolding readFieldsIf
@@ -239,50 +269,50 @@ module _ (terms : Terms) (b : List ℕ) (op at pos : ℕ) (over : List ℕ) (r :
   pub arm-goto-frame : op ≡ 0x81 → r ≡ scanned (λ _. 0) (pos + 3 + 2) (readBytes b 2 (placed (at + 1))) → l ≡ laidAs 0 r → Here over
   unfolding readFields readBytes readU16 flatSize mapFlat payloadLength opcode byte
   arm-goto-frame o e m =
-      named 0x81 OpCode.GotoFrame over (codes .0) o (lay-flat _ GotoFrame at (length b) pos over (λ _. 0) (pos + 3 + 2) (λ a. omega arith) (readU16 b (placed (at + 1))) (λ inner. refl) (λ a q g. (refl, omega arith)) r l (e ∙ number-as _ _ _ _ _ _) m)
+      named 0x81 OpCode.GotoFrame over (codes .0) o (lay-flat _ GotoFrame at (length b) pos number over (λ _. 0) (pos + 3 + 2) (λ a. omega arith) (readU16 b (placed (at + 1))) (u16-fields b (placed (at + 1))) (λ inner. refl) (λ a q g. (refl, omega arith)) r l (e ∙ number-as _ _ _ _ _ _) m)
 
-  pub arm-get-url : (over′ : List ℕ) → op ≡ 0x83 → r ≡ scanned flatSize (pos + 3) (readGetUrl terms b (placed (at + 1))) → l ≡ laidAs 0 r → over′ ≡ notedFrom (pos + 3) r over → Here over′
+  pub arm-get-url : (over′ : List ℕ) → op ≡ 0x83 → r ≡ scanned flatSize (pos + 3) (readGetUrl terms b (placed (at + 1))) → l ≡ laidAs 0 r → over′ ≡ notedFrom (pos + 3) number r over → Here over′
   arm-get-url over′ o e m n =
-      named 0x83 OpCode.GetUrl over′ (codes .1) o (lay-long (fieldsOf OpCode.GetUrl) (λ f. f) at (length b) pos over flatSize (pos + 3) (λ a. refl) (readGetUrl terms b (placed (at + 1))) (url-fields terms b (placed (at + 1))) (url-long terms b (placed (at + 1))) over′ r l e m n)
+      named 0x83 OpCode.GetUrl over′ (codes .1) o (lay-long (fieldsOf OpCode.GetUrl) (λ f. f) at (length b) pos number over flatSize (pos + 3) (λ a. refl) (readGetUrl terms b (placed (at + 1))) (url-own terms b (placed (at + 1))) (url-fields terms b (placed (at + 1))) (url-long terms b (placed (at + 1))) over′ r l e m n)
 
   pub arm-store-register : op ≡ 0x87 → r ≡ scanned (λ _. 0) (pos + 3 + 1) (readBytes b 1 (placed (at + 1))) → l ≡ laidAs 0 r → Here over
   unfolding readFields readBytes readU8 flatSize mapFlat payloadLength opcode byte
   arm-store-register o e m =
-      named 0x87 OpCode.StoreRegister over (codes .2) o (lay-flat _ StoreRegister at (length b) pos over (λ _. 0) (pos + 3 + 1) (λ a. omega arith) (readU8 b (placed (at + 1))) (λ inner. refl) (λ a q g. (refl, omega arith)) r l (e ∙ number-as _ _ _ _ _ _) m)
+      named 0x87 OpCode.StoreRegister over (codes .2) o (lay-flat _ StoreRegister at (length b) pos number over (λ _. 0) (pos + 3 + 1) (λ a. omega arith) (readU8 b (placed (at + 1))) (u8-fields b (placed (at + 1))) (λ inner. refl) (λ a q g. (refl, omega arith)) r l (e ∙ number-as _ _ _ _ _ _) m)
 
   pub arm-wait-for-frame-2 : op ≡ 0x8D → r ≡ scanned (λ _. 0) (pos + 3 + 1) (readBytes b 1 (placed (at + 1))) → l ≡ laidAs 0 r → Here over
   unfolding readFields readBytes readU8 flatSize mapFlat payloadLength opcode byte
   arm-wait-for-frame-2 o e m =
-      named 0x8D OpCode.WaitForFrame2 over (codes .7) o (lay-flat _ WaitForFrame2 at (length b) pos over (λ _. 0) (pos + 3 + 1) (λ a. omega arith) (readU8 b (placed (at + 1))) (λ inner. refl) (λ a q g. (refl, omega arith)) r l (e ∙ number-as _ _ _ _ _ _) m)
+      named 0x8D OpCode.WaitForFrame2 over (codes .7) o (lay-flat _ WaitForFrame2 at (length b) pos number over (λ _. 0) (pos + 3 + 1) (λ a. omega arith) (readU8 b (placed (at + 1))) (u8-fields b (placed (at + 1))) (λ inner. refl) (λ a q g. (refl, omega arith)) r l (e ∙ number-as _ _ _ _ _ _) m)
 
   pub arm-wait-for-frame : op ≡ 0x8A → r ≡ scanned flatSize (pos + 3) (readWaitForFrame b (placed (at + 1))) → l ≡ laidAs 0 r → Here over
   arm-wait-for-frame o e m =
-      named 0x8A OpCode.WaitForFrame over (codes .4) o (lay-flat (fieldsOf OpCode.WaitForFrame) (λ f. f) at (length b) pos over flatSize (pos + 3) (λ a. refl) (readWaitForFrame b (placed (at + 1))) (wait-fields terms b (placed (at + 1))) (wait-fixed terms b (placed (at + 1))) r l e m)
+      named 0x8A OpCode.WaitForFrame over (codes .4) o (lay-flat (fieldsOf OpCode.WaitForFrame) (λ f. f) at (length b) pos number over flatSize (pos + 3) (λ a. refl) (readWaitForFrame b (placed (at + 1))) (wait-own b (placed (at + 1))) (wait-fields terms b (placed (at + 1))) (wait-fixed terms b (placed (at + 1))) r l e m)
 
   pub arm-goto-frame-2 : op ≡ 0x9F → r ≡ scanned flatSize (pos + 3) (readGotoFrame2 b (placed (at + 1))) → l ≡ laidAs 0 r → Here over
   arm-goto-frame-2 o e m =
-      named 0x9F OpCode.GotoFrame2 over (codes .17) o (lay-flat (fieldsOf OpCode.GotoFrame2) (λ f. f) at (length b) pos over flatSize (pos + 3) (λ a. refl) (readGotoFrame2 b (placed (at + 1))) (goto-fields terms b (placed (at + 1))) (goto-fixed terms b (placed (at + 1))) r l e m)
+      named 0x9F OpCode.GotoFrame2 over (codes .17) o (lay-flat (fieldsOf OpCode.GotoFrame2) (λ f. f) at (length b) pos number over flatSize (pos + 3) (λ a. refl) (readGotoFrame2 b (placed (at + 1))) (goto-own b (placed (at + 1))) (goto-fields terms b (placed (at + 1))) (goto-fixed terms b (placed (at + 1))) r l e m)
 
   pub arm-get-url-2 : op ≡ 0x9A → r ≡ scanned flatSize (pos + 3) (readGetUrl2 b (placed (at + 1))) → l ≡ laidAs 0 r → Here over
   arm-get-url-2 o e m =
-      named 0x9A OpCode.GetUrl2 over (codes .13) o (lay-flat (fieldsOf OpCode.GetUrl2) (λ f. f) at (length b) pos over flatSize (pos + 3) (λ a. refl) (readGetUrl2 b (placed (at + 1))) (url2-fields terms b (placed (at + 1))) (url2-fixed terms b (placed (at + 1))) r l e m)
+      named 0x9A OpCode.GetUrl2 over (codes .13) o (lay-flat (fieldsOf OpCode.GetUrl2) (λ f. f) at (length b) pos number over flatSize (pos + 3) (λ a. refl) (readGetUrl2 b (placed (at + 1))) (url2-own b (placed (at + 1))) (url2-fields terms b (placed (at + 1))) (url2-fixed terms b (placed (at + 1))) r l e m)
 
-  pub arm-set-target : (over′ : List ℕ) → op ≡ 0x8B → r ≡ scanned stringSize (pos + 3) (readString terms b (placed (at + 1))) → l ≡ laidAs 0 r → over′ ≡ notedFrom (pos + 3) r over → Here over′
+  pub arm-set-target : (over′ : List ℕ) → op ≡ 0x8B → r ≡ scanned stringSize (pos + 3) (readString terms b (placed (at + 1))) → l ≡ laidAs 0 r → over′ ≡ notedFrom (pos + 3) number r over → Here over′
   unfolding readFields flatSize mapFlat payloadLength opcode byte stringSize stringLength
   arm-set-target over′ o e m n =
-      named 0x8B OpCode.SetTarget over′ (codes .5) o (lay-long (fieldsOf OpCode.SetTarget) SetTarget at (length b) pos over stringSize (pos + 3) (λ a. omega arith) (readString terms b (placed (at + 1))) (λ inner. refl) (λ a q g. refl) over′ r l e m n)
+      named 0x8B OpCode.SetTarget over′ (codes .5) o (lay-long (fieldsOf OpCode.SetTarget) SetTarget at (length b) pos number over stringSize (pos + 3) (λ a. omega arith) (readString terms b (placed (at + 1))) (string-fields terms b (placed (at + 1))) (λ inner. refl) (λ a q g. refl) over′ r l e m n)
 
-  pub arm-goto-label : (over′ : List ℕ) → op ≡ 0x8C → r ≡ scanned stringSize (pos + 3) (readString terms b (placed (at + 1))) → l ≡ laidAs 0 r → over′ ≡ notedFrom (pos + 3) r over → Here over′
+  pub arm-goto-label : (over′ : List ℕ) → op ≡ 0x8C → r ≡ scanned stringSize (pos + 3) (readString terms b (placed (at + 1))) → l ≡ laidAs 0 r → over′ ≡ notedFrom (pos + 3) number r over → Here over′
   unfolding readFields flatSize mapFlat payloadLength opcode byte stringSize stringLength
   arm-goto-label over′ o e m n =
-      named 0x8C OpCode.GotoLabel over′ (codes .6) o (lay-long (fieldsOf OpCode.GotoLabel) GotoLabel at (length b) pos over stringSize (pos + 3) (λ a. omega arith) (readString terms b (placed (at + 1))) (λ inner. refl) (λ a q g. refl) over′ r l e m n)
+      named 0x8C OpCode.GotoLabel over′ (codes .6) o (lay-long (fieldsOf OpCode.GotoLabel) GotoLabel at (length b) pos number over stringSize (pos + 3) (λ a. omega arith) (readString terms b (placed (at + 1))) (string-fields terms b (placed (at + 1))) (λ inner. refl) (λ a q g. refl) over′ r l e m n)
 
   -- a list is measured from a position w on: that of an action whose list is empty
-  pub arm-constant-pool : (over′ : List ℕ) (w : ℕ) → op ≡ 0x88 → w ≡ pos + 3 + 2 → r ≡ scanned (total (namedSize 0)) w (readCounted b (readNamed terms b 0) (placed (at + 1))) → l ≡ laidAs 0 r → over′ ≡ notedFrom (pos + 3) r over
+  pub arm-constant-pool : (over′ : List ℕ) (w : ℕ) → op ≡ 0x88 → w ≡ pos + 3 + 2 → r ≡ scanned (total (namedSize 0)) w (readCounted b (readNamed terms b 0) (placed (at + 1))) → l ≡ laidAs 0 r → over′ ≡ notedFrom (pos + 3) number r over
       → Here over′
   unfolding readFields flatSize mapFlat payloadLength opcode byte
   arm-constant-pool over′ w o h e m n =
-      named 0x88 OpCode.ConstantPool over′ (codes .3) o (lay-long (fieldsOf OpCode.ConstantPool) ConstantPool at (length b) pos over (total (λ s. namedSize 0 s)) w (λ ss. omega (arith, h, strings-total ss)) (readCounted b (readString terms b) (placed (at + 1))) (λ inner. refl) (λ a q g. refl) over′ r l
+      named 0x88 OpCode.ConstantPool over′ (codes .3) o (lay-long (fieldsOf OpCode.ConstantPool) ConstantPool at (length b) pos number over (total (λ s. namedSize 0 s)) w (λ ss. omega (arith, h, strings-total ss)) (readCounted b (readString terms b) (placed (at + 1))) (counted-fields b (readString terms b) (string-fields terms b) (placed (at + 1))) (λ inner. refl) (λ a q g. refl) over′ r l
       (e ∙ scanned-list (λ s. s) (readString terms b) (readNamed terms b 0) (named-plain terms b) b (namedSize 0) w (placed (at + 1))) m n)
 
   values-total : (vs : List (PushValueOf Text)) → total valueSize vs ≡ total pushLength (each (mapValue spelling) vs)
@@ -290,69 +320,69 @@ module _ (terms : Terms) (b : List ℕ) (op at pos : ℕ) (over : List ℕ) (r :
   values-total [] = refl
   values-total (v ∷ vs) = omega (arith, values-total vs)
 
-  pub arm-push : (over′ : List ℕ) (w : ℕ) → op ≡ 0x96 → w ≡ pos + 3 + 0 → r ≡ scanned (total valueSize) w (readCounted b (readValue terms b) (placed (at + 1))) → l ≡ laidAs 0 r → over′ ≡ notedFrom (pos + 3) r over → Here over′
+  pub arm-push : (over′ : List ℕ) (w : ℕ) → op ≡ 0x96 → w ≡ pos + 3 + 0 → r ≡ scanned (total valueSize) w (readCounted b (readValue terms b) (placed (at + 1))) → l ≡ laidAs 0 r → over′ ≡ notedFrom (pos + 3) number r over → Here over′
   unfolding readFields flatSize mapFlat payloadLength opcode byte
   arm-push over′ w o h e m n =
-      named 0x96 OpCode.Push over′ (codes .11) o (lay-long (fieldsOf OpCode.Push) Push at (length b) pos over (total valueSize) w (λ vs. omega (arith, h, values-total vs)) (readCounted b (readValue terms b) (placed (at + 1))) (λ inner. refl) (λ a q g. refl) over′ r l e m n)
+      named 0x96 OpCode.Push over′ (codes .11) o (lay-long (fieldsOf OpCode.Push) Push at (length b) pos number over (total valueSize) w (λ vs. omega (arith, h, values-total vs)) (readCounted b (readValue terms b) (placed (at + 1))) (counted-fields b (readValue terms b) (value-fields terms b) (placed (at + 1))) (λ inner. refl) (λ a q g. refl) over′ r l e m n)
 
   module _ (small : Bytes b) (inside : at + 1 ≤ length b) where
-    pub arm-define-function : (over′ : List ℕ) → op ≡ 0x9B → r ≡ scanned ownerSize (pos + 3) (readFunction terms b (placed (at + 1))) → l ≡ laidFunction r → over′ ≡ notedFrom (pos + 3) r over → Here over′
+    pub arm-define-function : (over′ : List ℕ) → op ≡ 0x9B → r ≡ scanned ownerSize (pos + 3) (readFunction terms b (placed (at + 1))) → l ≡ laidFunction r → over′ ≡ notedFrom (pos + 3) number r over → Here over′
     arm-define-function over′ o e m n =
-        named 0x9B OpCode.DefineFunction over′ (codes .14) o (lay-function (fieldsOf OpCode.DefineFunction) (readFunction terms b (placed (at + 1))) (function-fields terms b (placed (at + 1))) at (length b) pos (λ x q g. (function-is terms b (placed (at + 1)) x q g, owner-onward terms b (placed (at + 1)) at x q (good-got x q (function-good terms b (placed (at + 1)) small inside) g) refl pos)) over over′ r l e m n)
+        named 0x9B OpCode.DefineFunction over′ (codes .14) o (lay-function (fieldsOf OpCode.DefineFunction) (readFunction terms b (placed (at + 1))) (function-fields terms b (placed (at + 1))) at (length b) pos number (λ x q g. (function-is terms b (placed (at + 1)) x q g, owner-onward terms b (placed (at + 1)) at x q (good-got x q (function-good terms b (placed (at + 1)) small inside) g) refl pos)) (function-own terms b (placed (at + 1))) over over′ r l e m n)
 
-    pub arm-define-function-2 : (over′ : List ℕ) → op ≡ 0x8E → r ≡ scanned ownerSize (pos + 3) (readFunction2 terms b (placed (at + 1))) → l ≡ laidFunction r → over′ ≡ notedFrom (pos + 3) r over → Here over′
+    pub arm-define-function-2 : (over′ : List ℕ) → op ≡ 0x8E → r ≡ scanned ownerSize (pos + 3) (readFunction2 terms b (placed (at + 1))) → l ≡ laidFunction r → over′ ≡ notedFrom (pos + 3) number r over → Here over′
     arm-define-function-2 over′ o e m n =
-        named 0x8E OpCode.DefineFunction2 over′ (codes .8) o (lay-function (fieldsOf OpCode.DefineFunction2) (readFunction2 terms b (placed (at + 1))) (function2-fields terms b (placed (at + 1))) at (length b) pos (λ x q g. (function2-is terms b (placed (at + 1)) x q g, owner-onward terms b (placed (at + 1)) at x q (good-got x q (function2-good terms b (placed (at + 1)) small inside) g) refl pos)) over over′ r l e m n)
+        named 0x8E OpCode.DefineFunction2 over′ (codes .8) o (lay-function (fieldsOf OpCode.DefineFunction2) (readFunction2 terms b (placed (at + 1))) (function2-fields terms b (placed (at + 1))) at (length b) pos number (λ x q g. (function2-is terms b (placed (at + 1)) x q g, owner-onward terms b (placed (at + 1)) at x q (good-got x q (function2-good terms b (placed (at + 1)) small inside) g) refl pos)) (function2-own terms b (placed (at + 1))) over over′ r l e m n)
 
 -- ---- branches
 
-module _ (terms : Terms) (b : List ℕ) (op at pos : ℕ) (over : List ℕ) (l : Laid) (inside : at + 1 ≤ length b) where
+module _ (terms : Terms) (b : List ℕ) (op at pos number : ℕ) (over : List ℕ) (l : Laid) (inside : at + 1 ≤ length b) where
   abbrev Led : Type 0
-  Led = Laying (terms .labelBound) (λ inner. readFieldsIf terms b inner (opcodeOf op) (placed at) (placed (at + 1))) at (length b) pos over over l
+  Led = Laying (terms .labelBound) (λ inner. readFieldsIf terms b inner (opcodeOf op) (placed at) (placed (at + 1))) at (length b) pos number over over l
 
   pub arm-jump : op ≡ 0x99 → l ≡ branchLaid (pos + 3) (readLabel terms b 0 (placed (at + 1))) → Led
   unfolding readFieldsIf readFields
   arm-jump o m =
-      rw (o, codes .12) (lay-branch (λ inner. readFields terms b inner OpCode.Jump (placed (at + 1))) Jump (readLabel terms b 0 (placed (at + 1))) (λ inner. refl) (λ n q e. label-here terms b (at + 1) inside n q e .1) at (length b) pos (pos + 3) over l refl m)
+      rw (o, codes .12) (lay-branch (λ inner. readFields terms b inner OpCode.Jump (placed (at + 1))) Jump (readLabel terms b 0 (placed (at + 1))) (λ inner. refl) (λ n q e. label-here terms b (at + 1) inside n q e .1) (label-fields terms b 0 (placed (at + 1))) at (length b) pos number (pos + 3) over l refl m)
 
   pub arm-if : op ≡ 0x9D → l ≡ branchLaid (pos + 3) (readLabel terms b 0 (placed (at + 1))) → Led
   unfolding readFieldsIf readFields
   arm-if o m =
-      rw (o, codes .15) (lay-branch (λ inner. readFields terms b inner OpCode.If (placed (at + 1))) If (readLabel terms b 0 (placed (at + 1))) (λ inner. refl) (λ n q e. label-here terms b (at + 1) inside n q e .1) at (length b) pos (pos + 3) over l refl m)
+      rw (o, codes .15) (lay-branch (λ inner. readFields terms b inner OpCode.If (placed (at + 1))) If (readLabel terms b 0 (placed (at + 1))) (λ inner. refl) (λ n q e. label-here terms b (at + 1) inside n q e .1) (label-fields terms b 0 (placed (at + 1))) at (length b) pos number (pos + 3) over l refl m)
 
 -- ---- opcodes whose bodies follow at once, or that have no field
 
-module _ (terms : Terms) (b : List ℕ) (op at pos : ℕ) (over : List ℕ) where
+module _ (terms : Terms) (b : List ℕ) (op at pos number : ℕ) (over : List ℕ) where
   pub arm-try : Bytes b → at + 1 ≤ length b → (l : Laid) (over′ : List ℕ) → op ≡ 0x8F
-      → Tried (scanned caughtSize (pos + 3) (readCaught terms b (placed (at + 1)))) (bodiesAfter (getD b (at + 1) 0)) (pos + 3) l over over′
-      → Laying (terms .labelBound) (λ inner. readFieldsIf terms b inner (opcodeOf op) (placed at) (placed (at + 1))) at (length b) pos over over′ l
+      → Tried (scanned caughtSize (pos + 3) (readCaught terms b (placed (at + 1)))) (bodiesAfter (getD b (at + 1) 0)) (pos + 3) number l over over′
+      → Laying (terms .labelBound) (λ inner. readFieldsIf terms b inner (opcodeOf op) (placed at) (placed (at + 1))) at (length b) pos number over over′ l
   unfolding readFieldsIf
-  arm-try small inside l over′ o h = rw (o, codes .9) (lay-try terms b small at (at + 1) pos refl inside over over′ l h)
+  arm-try small inside l over′ o h = rw (o, codes .9) (lay-try terms b small at (at + 1) pos number refl inside over over′ l h)
 
   pub arm-with : op ≡ 0x94 → at + 1 ≤ length b
-      → Laying (terms .labelBound) (λ inner. readFieldsIf terms b inner (opcodeOf op) (placed at) (placed (at + 1))) at (length b) pos over over (laid.Bodies (at + 1) (record { 0 = pos + 3 + 2 }) 1)
+      → Laying (terms .labelBound) (λ inner. readFieldsIf terms b inner (opcodeOf op) (placed at) (placed (at + 1))) at (length b) pos number over over (laid.Bodies (at + 1) (record { 0 = pos + 3 + 2 }) 1)
   unfolding readFieldsIf
   arm-with o h =
       rw (o, codes .10) (Laying.bodies {q = at + 1} {n = 1} {w = record { 0 = pos + 3 + 2 }} (omega arith)
-      (owning (λ inner. readFields terms b inner OpCode.With (placed (at + 1))) With (placed (at + 1)) (λ inner. unfold readFields in refl) at (length b) pos (record { 0 = pos + 3 + 2 }) (ap (λ (n : ℕ). pos + 3 + n) (sym with-size))
+      (owning (λ inner. readFields terms b inner OpCode.With (placed (at + 1))) With (placed (at + 1)) (λ inner. unfold readFields in refl) at (length b) pos number (record { 0 = pos + 3 + 2 }) (ap (λ (n : ℕ). pos + 3 + n) (sym with-size))
       (record { beyond = omega arith; within = h; written = omega arith }) (λ home. home) (λ home. unfold homeIn mapOwner in refl) over over
-      (noted-short 8 2 over (omega arith) ∙ ap (λ (n : ℕ). notedIf 8 n over) (sym with-size))))
+      (noted-short 8 2 number over (omega arith) ∙ ap (λ (n : ℕ). notedIf 8 n number over) (sym with-size))))
     where
       with-size : ownerSize With ≡ 2
       with-size = unfold ownerSize mapOwner ownerLength in refl
 
   pub arm-call : op ≡ 0x9E
-      → Laying (terms .labelBound) (λ inner. readFieldsIf terms b inner (opcodeOf op) (placed at) (placed (at + 1))) at (length b) pos over over (laid.Flat (at + 1) (record { 0 = pos + 3 + 0 }))
+      → Laying (terms .labelBound) (λ inner. readFieldsIf terms b inner (opcodeOf op) (placed at) (placed (at + 1))) at (length b) pos number over over (laid.Flat (at + 1) (record { 0 = pos + 3 + 0 }))
   unfolding readFieldsIf readFields
   arm-call o =
-      rw (add-zero, o, codes .16) (Laying.flat {q = at + 1} {w = record { 0 = pos + 3 }} (λ inner tab home. outcome-got actionSize actionTrace (position pos home) (state tab over) refl
-      (unfold size mapAction mapFlat opcode payload framed headed byte smallByte le16 in refl) (unfold trace mapAction mapFlat payload payloadTest eventIf run recorded recordAll noteAll in refl))
-      (λ inner home. measured-got actionSize actionTrace (position pos home) refl (unfold size mapAction mapFlat opcode payload framed headed byte smallByte le16 in refl) (unfold trace mapAction mapFlat payload payloadTest eventIf branches in refl)))
+      rw (add-zero, o, codes .16) (Laying.flat {q = at + 1} {w = record { 0 = pos + 3 }} (λ inner tab home. outcome-got actionSize count actionTrace (position pos home number) (state tab over) refl
+      (unfold size mapAction mapFlat opcode payload framed headed byte smallByte le16 in refl) (unfold count in refl) (unfold trace mapAction mapFlat payload payloadTest eventIf run recorded recordAll noteAll in refl))
+      (λ inner home. measured-got actionSize count actionTrace (position pos home number) refl (unfold size mapAction mapFlat opcode payload framed headed byte smallByte le16 in refl) (unfold count in refl) (unfold trace mapAction mapFlat payload payloadTest eventIf branches in refl)))
 
   pub arm-unknown : opcodeOf op ≡ none
-      → Laying (terms .labelBound) (λ inner. readFieldsIf terms b inner (opcodeOf op) (placed at) (placed (at + 1))) at (length b) pos over over (laid.Stops fault.UnknownCode at)
+      → Laying (terms .labelBound) (λ inner. readFieldsIf terms b inner (opcodeOf op) (placed at) (placed (at + 1))) at (length b) pos number over over (laid.Stops fault.UnknownCode at)
   unfolding readFieldsIf outcome faultOf
-  arm-unknown o = rw o (Laying.stops {f = fault.UnknownCode} {q = at} (λ inner t home. refl))
+  arm-unknown o = rw o (Laying.stops {f = fault.UnknownCode} {q = at} (λ inner t home. rw (add-zero number)))
 
 -- ---- which opcodes from 80 on are listed
 

@@ -28,6 +28,7 @@ use opcode::OpCode;
 use operands::scan_bytes;
 use operands::scan_label;
 use operands::scan_string;
+use positions::ActionNumber;
 use positions::BytePosition;
 use positions::Fault;
 use positions::Scan;
@@ -44,31 +45,45 @@ fn scan_branch(b: &[u8], terms: Terms, at: usize, pos: BytePosition) -> Laid
 }
 
 // Try: one to three bodies follow, by its shape.
-fn scan_try(b: &[u8], terms: Terms, at: usize, pos: BytePosition, over: &mut [usize]) -> Laid
-    requires { ⌜ (length (now over) ≡ 2) × Roomy (now b) at pos ⌝ }
-    ensures { λ l. ⌜ Tried (scanned caughtSize (pos .0) (readCaught (termsOf terms) (now (b .entry)) (placed at))) (bodiesAfter (getD (now (b .entry)) at 0)) (pos .0) l (now (over .entry)) (now (over .exit)) ⌝ }
+fn scan_try(
+    b: &[u8],
+    terms: Terms,
+    at: usize,
+    pos: BytePosition,
+    action: ActionNumber,
+    over: &mut [usize],
+) -> Laid
+    requires { ⌜ (length (now over) ≡ 3) × Roomy (now b) at pos ⌝ }
+    ensures { λ l. ⌜ Tried (scanned caughtSize (pos .0) (readCaught (termsOf terms) (now (b .entry)) (placed at))) (bodiesAfter (getD (now (b .entry)) at 0)) (pos .0) (action .0) l (now (over .entry)) (now (over .exit)) ⌝ }
 {
     match scan_catch(b, terms, at, pos) {
         Scan::Stops(f, p) => Laid::Stops(f, p),
         Scan::Ends(p, w) => {
             let shape = b[at] as usize;
-            long_payload(Scan::Ends(p, w), pos, 1 + shape % 2 + shape / 2 % 2, over)
+            long_payload(
+                Scan::Ends(p, w),
+                pos,
+                1 + shape % 2 + shape / 2 % 2,
+                action,
+                over,
+            )
         }
     }
 }
 
-// The payload of an opcode from 80 on, which stands at a place; `pos` is the action's position. A payload of a byte ends at `byte`,
-// one of a u16 at `word`; a list is measured from the end of a payload whose list is empty.
+// The payload of an opcode from 80 on, which stands at a place; `pos` is the action's position and `action` its number. A payload of
+// a byte ends at `byte`, one of a u16 at `word`; a list is measured from the end of a payload whose list is empty.
 pub fn scan_payload(
     b: &[u8],
     terms: Terms,
     op: u8,
     at: usize,
     pos: BytePosition,
+    action: ActionNumber,
     over: &mut [usize],
 ) -> Laid
-    requires { ⌜ (128 ≤ op) × (at < length (now b)) × (length (now over) ≡ 2) × Roomy (now b) at pos ⌝ }
-    ensures { λ l. ⌜ Laying (termsOf terms .labelBound) (λ inner. readFieldsIf (termsOf terms) (now (b .entry)) inner (opcodeOf op) (placed at) (placed (at + 1))) at (length (now (b .entry))) (pos .0) (now (over .entry)) (now (over .exit)) l ⌝ }
+    requires { ⌜ (128 ≤ op) × (at < length (now b)) × (length (now over) ≡ 3) × Roomy (now b) at pos ⌝ }
+    ensures { λ l. ⌜ Laying (termsOf terms .labelBound) (λ inner. readFieldsIf (termsOf terms) (now (b .entry)) inner (opcodeOf op) (placed at) (placed (at + 1))) at (length (now (b .entry))) (pos .0) (action .0) (now (over .entry)) (now (over .exit)) l ⌝ }
 {
     let p = at + 1;
     let w = BytePosition(pos.0 + OpCode::HEADER_LEN);
@@ -76,7 +91,7 @@ pub fn scan_payload(
     let word = BytePosition(w.0 + OpCode::U16_LEN);
     match op {
         OpCode::GOTO_FRAME => flat_payload(scan_bytes(b, p, 2, word)),
-        OpCode::GET_URL => long_payload(scan_get_url(b, terms, p, w), w, 0, over),
+        OpCode::GET_URL => long_payload(scan_get_url(b, terms, p, w), w, 0, action, over),
         OpCode::STORE_REGISTER => flat_payload(scan_bytes(b, p, 1, byte)),
         OpCode::CONSTANT_POOL => long_payload(
             scan_strings(
@@ -88,28 +103,36 @@ pub fn scan_payload(
             ),
             w,
             0,
+            action,
             over,
         ),
         OpCode::WAIT_FOR_FRAME => flat_payload(scan_wait_for_frame(b, p, w)),
-        OpCode::SET_TARGET => long_payload(scan_string(b, terms, p, w), w, 0, over),
-        OpCode::GOTO_LABEL => long_payload(scan_string(b, terms, p, w), w, 0, over),
+        OpCode::SET_TARGET => long_payload(scan_string(b, terms, p, w), w, 0, action, over),
+        OpCode::GOTO_LABEL => long_payload(scan_string(b, terms, p, w), w, 0, action, over),
         OpCode::WAIT_FOR_FRAME2 => flat_payload(scan_bytes(b, p, 1, byte)),
         OpCode::DEFINE_FUNCTION2 => function_payload(
             scan_define_function_2(b, terms, p, w),
             w,
+            action,
             over,
         ),
-        OpCode::TRY => scan_try(b, terms, p, w, over),
+        OpCode::TRY => scan_try(b, terms, p, w, action, over),
         OpCode::WITH => Laid::Bodies(p, word, 1),
         OpCode::PUSH => long_payload(
             scan_push(b, terms, p, BytePosition(w.0 + OpCode::push_len(0))),
             w,
             0,
+            action,
             over,
         ),
         OpCode::JUMP => scan_branch(b, terms, p, w),
         OpCode::GET_URL2 => flat_payload(scan_get_url_2(b, p, w)),
-        OpCode::DEFINE_FUNCTION => function_payload(scan_define_function(b, terms, p, w), w, over),
+        OpCode::DEFINE_FUNCTION => function_payload(
+            scan_define_function(b, terms, p, w),
+            w,
+            action,
+            over,
+        ),
         OpCode::IF => scan_branch(b, terms, p, w),
         OpCode::CALL => Laid::Flat(p, BytePosition(w.0 + OpCode::CALL_LEN)),
         OpCode::GOTO_FRAME2 => flat_payload(scan_goto_frame_2(b, p, w)),

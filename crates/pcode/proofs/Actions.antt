@@ -11,13 +11,13 @@ use borrow.Author.Tests.{ltb-true}
 use Rattle.layout.specs.Lists.{firstWith, first-with, pick, each}
 use Rattle.layout.specs.Numbers.{u16At}
 use Rattle.layout.specs.OpCode.{OpCode, SmallOpCode, smallByte, byte, smallOpCodes, opcodes, opcodeOf}
-use Rattle.layout.specs.Tree.{ActionOf, ActionsOf}
+use Rattle.layout.specs.Tree.{ActionOf, ActionsOf, bodyCount, catchCount}
 use Rattle.layout.specs.Read.{Text, Terms, Place, placed, Reader, isShape, hasCatch, hasRegister, hasFinally, readU8, readU16, readString, readParam, readValue, readLabel, readCatchTarget, readCatch, readFinally, readTry, readFields, readFieldsIf, readAction}
 use Rattle.pcode.specs.declared.Action.{Action}
 use Rattle.pcode.specs.declared.Action.the-variants as code
 use Rattle.pcode.specs.Shown.{spanAt, after, functionAt, catchAt, afterCatch, afterTry, tryAt, actionAt, isText, ShownTarget, nothing, variable, register, Shown, small, gotoFrame, getUrl, storeRegister, constantPool, waitForFrame, setTarget, gotoLabel, waitForFrame2, defineFunction2, try, with, push, jump, getUrl2, defineFunction, if, gotoFrame2, ActionReads, ShowsAction}
 use Rattle.pcode.proofs.Arms.{Found, found, found-once, NoneOf, isOne, barred}
-use Rattle.pcode.proofs.Readings.{Gives, gives, refuses, Exactly, given, next, then, itself, anyway, weaker, first, u8, u16, passed, flag, counted, string}
+use Rattle.pcode.proofs.Readings.{Gives, gives, refuses, Exactly, given, next, then, itself, anyway, weaker, first, u8, u16, passed, flag, counted, string, also-behind}
 
 -- places, one after the other
 two : (p : ℕ) → p + 1 + 1 ≡ p + 2
@@ -80,8 +80,8 @@ module _ (terms : Terms) (b : List ℕ) (inner : Reader (ActionsOf Text ℕ)) (p
   unfolding readTry
   try-shown shape s m e =
       then (target-shown terms b (p + 1) m shape (hasCatch shape) (hasRegister shape) refl refl)
-      (λ t q h. then (itself (inner q)) (λ a r i. then (itself (readCatch terms b inner (hasCatch shape) t r))
-      (λ c o j. then (itself (readFinally terms b inner (hasFinally shape) o))
+      (λ t q h. then (itself (inner q)) (λ a r i. then (also-behind (bodyCount a) (itself (readCatch terms b inner (hasCatch shape) t r)))
+      (λ c o j. then (also-behind (bodyCount a + catchCount c) (itself (readFinally terms b inner (hasFinally shape) o)))
       (λ f u k. gives (rw s (try e (h .0) (ap inner (sym (h .1)) ∙ i) j k, h .2))))))
 
   -- what the code takes for an opcode shows the action that the definitions read

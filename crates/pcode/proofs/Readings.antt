@@ -10,14 +10,14 @@ use lib.Dec.{leb, ltb, eqb}
 use borrow.Author.Tests.{leb-true, ltb-true}
 use Rattle.layout.specs.Numbers.{u16At, u32At, u64At}
 use Rattle.layout.specs.Answers.{Fault}
-use Rattle.layout.specs.Read.{plain, Terms, Place, placed, Read, got, bad, Reader, chain, ifWhole, ifWithin, tested, repeat, firstZero, ifNoZero, readU8, readU16, readU32, readU64, readBytes, readFlag, readSpelling, readCounted, readString}
+use Rattle.layout.specs.Read.{plain, Terms, Place, placed, Stop, Read, got, bad, Reader, chain, moreBegun, ifWhole, ifWithin, tested, repeat, firstZero, ifNoZero, readU8, readU16, readU32, readU64, readBytes, readFlag, readSpelling, readCounted, readString}
 use Rattle.fields.specs.Runs.{part}
 use Rattle.pcode.specs.Shown.{spanAt, after}
 
 -- a reading refuses, or what it gives has the property
 pub data Gives {A : Type 0} (P : A → Place → Type 0) : Read A → Type 0 where
   gives : {a : A} {q : Place} → P a q → Gives P (got a q)
-  refuses : {f : Fault} {q : Place} → Gives P (bad f q)
+  refuses : {f : Fault} {s : Stop} → Gives P (bad f s)
 
 -- the property of being the value x with the next place q, while X holds
 pub data Exactly (X : Type 0) {A : Type 0} (x : A) (q : Place) : A → Place → Type 0 where
@@ -30,6 +30,11 @@ module _ {A : Type 0} {P : A → Place → Type 0} where
     where
       go : Gives P (got a q) → P a q
       go (gives k) = k
+
+  -- behind n actions the same is given
+  pub also-behind : {m : Read A} (n : ℕ) → Gives P m → Gives P (moreBegun n m)
+  also-behind n (gives k) = gives k
+  also-behind n refuses = refuses
 
   -- a reading that gives just this, and then another
   pub next : {B X : Type 0} {x : B} {q : Place} {m : Read B} (k : B → Reader A) → Gives (Exactly X x q) m → (X → Gives P (k x q)) → Gives P (chain m k)
@@ -126,3 +131,7 @@ module _ (terms : Terms) (b : List ℕ) (p : ℕ) where
   pub string : Gives (Exactly (after (spanAt b p) ≤ length b) (plain (part b (p + 2) (u16At b p))) (placed (after (spanAt b p)))) (readString terms b (placed p))
   unfolding readString
   string = next _ (u16 b p) (λ l. next _ (spelling b (p + 2) (u16At b p)) (λ m. gives (exactly m)))
+
+-- what is given behind n actions is given
+pub got-behind : {A : Type 0} {m : Read A} {a : A} {q : Place} (n : ℕ) → moreBegun n m ≡ got a q → m ≡ got a q
+got-behind {m = m} n e = given (also-behind n (itself m)) e

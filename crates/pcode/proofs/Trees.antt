@@ -1,6 +1,6 @@
 -- The labels of a tree that was read are under the bound. Assumes nothing.
 use mathlib.Core.Path.{_≡_, refl}
-use Prim.Native.Nat.{ℕ, zero, suc, _<_}
+use Prim.Native.Nat.{ℕ, zero, suc, _+_, _<_}
 use mathlib.Core.Bool.{Bool, true, false, _&&_}
 use mathlib.Core.Option.{Option, none, some}
 use mathlib.Core.List.{List}
@@ -8,11 +8,11 @@ use lib.ListN.{length}
 use lib.Dec.{ltb, leb, eqb}
 use borrow.Author.Tests.{ltb-true}
 use Rattle.layout.specs.OpCode.{OpCode, opcodeOf}
-use Rattle.layout.specs.Tree.{Action, ActionOf, flat, branch, owner, Try, ActionList, empty, more, Actions, ActionsOf, body, Catch, CatchTargetOf, noCatch, catch, Finally, noFinally, finally}
-use Rattle.layout.specs.Read.{Text, Terms, deepest, Place, placed, Read, got, Reader, ifNothingLeft, isShape, hasCatch, hasFinally, hasRegister, tested, readU8, readU16, readFlag, readCounted, readString, readValue, readParam, readLabel, readEntries, readCatchTarget, readCatch, readFinally, readTry, readFields, readFieldsIf, readAction, readActions, readBodyWith, readBody, readMain}
+use Rattle.layout.specs.Tree.{Action, ActionOf, flat, branch, owner, Try, ActionList, empty, more, Actions, ActionsOf, body, Catch, CatchTargetOf, noCatch, catch, Finally, noFinally, finally, count, bodyCount, catchCount}
+use Rattle.layout.specs.Read.{Text, Terms, deepest, Place, placed, Read, got, Reader, behind, ifNothingLeft, isShape, hasCatch, hasFinally, hasRegister, tested, readU8, readU16, readFlag, readCounted, readString, readValue, readParam, readLabel, readEntries, readCatchTarget, readCatch, readFinally, readTry, readFields, readFieldsIf, readAction, readActions, readBodyWith, readBody, readMain}
 use Rattle.layout.specs.Strings.{mapAction, mapActions, mapBody, mapCatch, mapFinally}
 use Rattle.layout.specs.Pack.{spelling}
-use Rattle.pcode.proofs.Readings.{Gives, gives, refuses, given, Exactly, exactly, then, itself, u16, passed}
+use Rattle.pcode.proofs.Readings.{Gives, gives, refuses, given, Exactly, exactly, also-behind, then, itself, u16, passed}
 
 -- ---- labels under a bound
 
@@ -85,8 +85,8 @@ module _ (terms : Terms) (b : List ℕ) where
     try-under : (shape : ℕ) (p : Place) → Gives ActionUnder (readTry terms b inner shape p)
     unfolding readTry mapAction
     try-under shape p =
-        then (itself (readCatchTarget terms b (hasCatch shape) (hasRegister shape) p)) (λ t r e. then (inner-under r) (λ x s h. then (catch-under (hasCatch shape) t s)
-        (λ c u i. then (finally-under (hasFinally shape) u) (λ f v j. gives (h, i, j)))))
+        then (itself (readCatchTarget terms b (hasCatch shape) (hasRegister shape) p)) (λ t r e. then (inner-under r) (λ x s h. then (also-behind (bodyCount x) (catch-under (hasCatch shape) t s))
+        (λ c u i. then (also-behind (bodyCount x + catchCount c) (finally-under (hasFinally shape) u)) (λ f v j. gives (h, i, j)))))
 
     -- Those of any opcode's action.
     fields-under : (op : OpCode) (p : Place) → Gives ActionUnder (readFields terms b inner op p)
@@ -128,7 +128,7 @@ module _ (terms : Terms) (b : List ℕ) where
     actions-under : (n : ℕ) (p : Place) → Gives (λ xs q. UnderActions (terms .labelBound) (mapActions spelling xs)) (readActions terms b inner n p)
     unfolding readActions mapActions
     actions-under zero p = gives tt
-    actions-under (suc n) p = then (action-under p) (λ a q h. then (actions-under n q) (λ xs r i. gives (h, i)))
+    actions-under (suc n) p = then (action-under p) (λ a q h. then (also-behind (count a) (actions-under n q)) (λ xs r i. gives (h, i)))
 
     -- Those of a body whose inner bodies are read so.
     with-under : BodyUnder (readBodyWith terms b inner)
@@ -140,14 +140,14 @@ module _ (terms : Terms) (b : List ℕ) where
   pub body-under : (depth : ℕ) → BodyUnder (readBody terms b depth)
   unfolding readBody
   body-under zero p = refuses
-  body-under (suc d) p = with-under (readBody terms b d) (λ q. body-under d q) p
+  body-under (suc d) p = with-under (behind 1 (readBody terms b d)) (λ q. also-behind 1 (body-under d q)) p
 
 -- ---- the main body
 
 -- A main body that reads whole is read as a body, with nothing left.
 pub main-body : (terms : Terms) (b : List ℕ) (x : ActionsOf Text ℕ) (q : Place) → readMain terms b deepest ≡ got x q → readBody terms b deepest (placed 0) ≡ got x q
 unfolding readMain
-main-body terms b x q e = given {P = λ y r. readBody terms b deepest (placed 0) ≡ got y r} (then (itself (readBody terms b deepest (placed 0))) (λ y r f. left (eqb (r .at) (length b)) y r f)) e
+main-body terms b x q e = given {P = λ y r. readBody terms b deepest (placed 0) ≡ got y r} (then (itself (readBody terms b deepest (placed 0))) (λ y r f. also-behind (bodyCount y) (left (eqb (r .at) (length b)) y r f))) e
   where
     left : (t : Bool) (y : ActionsOf Text ℕ) (r : Place) → readBody terms b deepest (placed 0) ≡ got y r → Gives (λ z s. readBody terms b deepest (placed 0) ≡ got z s) (ifNothingLeft t y r)
     left true y r f = unfold ifNothingLeft in gives f

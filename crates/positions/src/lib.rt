@@ -15,10 +15,20 @@ pub enum Fault {
     LeftOver,
 }
 
-// Of a part that is read: the place where reading ended and the position that writing would have reached, or a fault and its place.
+// Of a field or a list that is read: the place where reading ended and the position that writing would have reached, or a fault and its place.
 pub enum Scan {
     Ends(usize, BytePosition),
     Stops(Fault, usize),
+}
+
+// The number of an action, counted from 0 in sheet order through all bodies.
+pub struct ActionNumber(pub usize);
+
+// Of a part that holds actions: the place where reading ended, the position that writing would have reached, and the number of the
+// next action; or a fault, its place, and the number of the action being read, or else of the next.
+pub enum Walked {
+    Ends(usize, BytePosition, ActionNumber),
+    Stops(Fault, usize, ActionNumber),
 }
 
 // Of a part that is written: the place in the main body where reading goes on, and the position in the block where writing does.

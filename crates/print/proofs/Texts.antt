@@ -49,19 +49,19 @@ refused-number : (r : Refusal) → refusalNumber r ≡ 0 → ⊥
 unfolding refusalNumber faultNumber
 refused-number (SheetTooLong n) e = omega (arith, e)
 refused-number BadTrailer e = omega (arith, e)
-refused-number (ReadingFault CutShort p) e = omega (arith, e)
-refused-number (ReadingFault UnknownCode p) e = omega (arith, e)
-refused-number (ReadingFault BadField p) e = omega (arith, e)
-refused-number (ReadingFault TooDeep p) e = omega (arith, e)
-refused-number (ReadingFault LeftOver p) e = omega (arith, e)
-refused-number (ActionLenOverflow n) e = omega (arith, e)
-refused-number (BlockLenOverflow n) e = omega (arith, e)
-refused-number (JumpOffsetOverflow z) e = omega (arith, e)
+refused-number (ReadingFault CutShort p k) e = omega (arith, e)
+refused-number (ReadingFault UnknownCode p k) e = omega (arith, e)
+refused-number (ReadingFault BadField p k) e = omega (arith, e)
+refused-number (ReadingFault TooDeep p k) e = omega (arith, e)
+refused-number (ReadingFault LeftOver p k) e = omega (arith, e)
+refused-number (ActionLenOverflow n k) e = omega (arith, e)
+refused-number (BlockLenOverflow n k) e = omega (arith, e)
+refused-number (JumpOffsetOverflow z k) e = omega (arith, e)
 refused-number (NoRoom n) e = omega (arith, e)
 refused-number InputFull e = omega (arith, e)
 refused-number (Unclean p) e = omega (arith, e)
-refused-number (NeverRecorded p) e = omega (arith, e)
-refused-number (StrayBranch p) e = omega (arith, e)
+refused-number (NeverRecorded p k) e = omega (arith, e)
+refused-number (StrayBranch p k) e = omega (arith, e)
 
 -- an input that fills, and one that does not
 answered-full : (input : List ℕ) → length input ≡ 65536 → Refused InputFull ≡ answered input
@@ -86,13 +86,13 @@ unfolding output
 full-output input out e = rw (sym (answered-full input e)) refl
 
 -- the line of a refusal is its whole text
-pub refused-text : {n at r : ℕ} {v : ℤ} {old new : List ℕ} (a : Answer (List ℕ)) → Told lengthOf a n v → (n ≡ 0 → ⊥) → Put (line n v) at old new r → Put (printed a) at old new r
+pub refused-text : {n at r i : ℕ} {v : ℤ} {old new : List ℕ} (a : Answer (List ℕ)) → Told lengthOf a n v i → (n ≡ 0 → ⊥) → Put (line n v) at old new r → Put (printed a) at old new r
 unfolding printed blockOf number
 refused-text (Done q) t h k = absurd (h (t .is-number))
 refused-text (Refused r) t h k = put-as (ap₂ line (t .is-number) (t .is-value) ∙ sym (append-nil _)) k
 
 -- that of a Done is followed by its block
-pub done-text : {n at p r : ℕ} {v : ℤ} {old mid new : List ℕ} (a : Answer (List ℕ)) (q : List ℕ) → Told lengthOf a n v → a ≡ Done q → Put (line n v) at old mid p → Put (hexLines q) p mid new r
+pub done-text : {n at p r i : ℕ} {v : ℤ} {old mid new : List ℕ} (a : Answer (List ℕ)) (q : List ℕ) → Told lengthOf a n v i → a ≡ Done q → Put (line n v) at old mid p → Put (hexLines q) p mid new r
     → Put (printed a) at old new r
 unfolding printed blockOf
 done-text a q t e h k =
@@ -105,11 +105,11 @@ pub record Filled (s o : List ℕ) (k : ℕ) (after : List ℕ) : Type 0 where
   pub is-small : k ≤ 65536
   pub is-block : pack plainMode s (length o) ≡ Done (take k after)
 
-pub filled : (s o after : List ℕ) {n k : ℕ} {v : ℤ} → Outcome plainMode s o n v after → n ≡ 0 → k ≡ bits64 v → length after ≡ length o → length o ≡ 65536 → Filled s o k after
+pub filled : (s o after : List ℕ) {n k : ℕ} {v : ℤ} {i : ℕ} → Outcome plainMode s o n v i after → n ≡ 0 → k ≡ bits64 v → length after ≡ length o → length o ≡ 65536 → Filled s o k after
 unfolding output value number
-filled s o after {n} {k} {v} h z b e l = go (pack plainMode s (length o)) refl (h .told) (h .holds)
+filled s o after {n} {k} {v} {i} h z b e l = go (pack plainMode s (length o)) refl (h .told) (h .holds)
   where
-    go : (a : Answer (List ℕ)) → pack plainMode s (length o) ≡ a → Told lengthOf a n v → after ≡ output a o → Filled s o k after
+    go : (a : Answer (List ℕ)) → pack plainMode s (length o) ≡ a → Told lengthOf a n v i → after ≡ output a o → Filled s o k after
     go (Done q) p t f =
         let g : length after ≡ length q + length (drop (length q) o) = ap length f ∙ length-append q (drop (length q) o) in
         let j : length q ≤ length after = omega (arith, g) in
@@ -151,12 +151,12 @@ module _ (input out : List ℕ) (room : length out ≡ 65536) (short : length in
   text-is = ap printed packs
 
   -- and what the output holds
-  pub packed-output : {n : ℕ} {v : ℤ} {after : List ℕ} → Outcome plainMode input out n v after → after ≡ output (answered input) out
+  pub packed-output : {n i : ℕ} {v : ℤ} {after : List ℕ} → Outcome plainMode input out n v i after → after ≡ output (answered input) out
   packed-output h = h .holds ∙ ap (λ (a : Answer (List ℕ)). output a out) packs
 
-  pub text-refused : {n r : ℕ} {v : ℤ} {old new after : List ℕ} → Outcome plainMode input out n v after → (n ≡ 0 → ⊥) → Put (line n v) 0 old new r → Put (blockText input) 0 old new r
+  pub text-refused : {n r i : ℕ} {v : ℤ} {old new after : List ℕ} → Outcome plainMode input out n v i after → (n ≡ 0 → ⊥) → Put (line n v) 0 old new r → Put (blockText input) 0 old new r
   text-refused h z k = put-as text-is (refused-text _ (h .told) z k)
 
-  pub text-done : {n k p r : ℕ} {v : ℤ} {old mid new after : List ℕ} → Outcome plainMode input out n v after → Filled input out k after
+  pub text-done : {n k p r i : ℕ} {v : ℤ} {old mid new after : List ℕ} → Outcome plainMode input out n v i after → Filled input out k after
       → Put (line n v) 0 old mid p → Put (hexLines (take k after)) p mid new r → Put (blockText input) 0 old new r
   text-done {k = k} {after = after} h f i j = put-as text-is (done-text _ (take k after) (h .told) (f .is-block) i j)

@@ -1,6 +1,6 @@
--- What a call of the packer promises, over `Outcome m s o n v after`: a mode m, a sheet s, an output that held o, the number n, the
--- value v, and what the output holds afterwards. That any two calls on one m, s and o tell and leave the same is `same-outcome`, in
--- layout's Order. Assumes nothing.
+-- What a call of the packer promises, over `Outcome m s o n v i after`: a mode m, a sheet s, an output that held o, the number n,
+-- the value v, the action number i, and what the output holds afterwards. That any two calls on one m, s and o tell and leave the
+-- same is `same-outcome`, in layout's Order. Assumes nothing.
 use mathlib.Core.Path.{_≡_, refl, sym, ap, _∙_, subst}
 use mathlib.Core.Bool.{true, false}
 use mathlib.Core.Option.{none}
@@ -11,8 +11,8 @@ use mathlib.Core.List.{List, _++_}
 use lib.ListN.{length, take, drop, length-append, length-drop, take-append-drop}
 use lib.Seq.{take-at, drop-at}
 use lib.IntN.{ℤ, pos}
-use Rattle.layout.specs.Answers.{Fault, CutShort, UnknownCode, BadField, TooDeep, LeftOver, Refusal, SheetTooLong, BadTrailer, ReadingFault, ActionLenOverflow, BlockLenOverflow, JumpOffsetOverflow, NoRoom, InputFull, Unclean, NeverRecorded, StrayBranch, Answer, Done, Refused, faultNumber, refusalNumber, refusalValue, number, value, lengthOf, Told}
-use Rattle.layout.specs.Tree.{Actions}
+use Rattle.layout.specs.Answers.{Fault, CutShort, UnknownCode, BadField, TooDeep, LeftOver, Refusal, SheetTooLong, BadTrailer, ReadingFault, ActionLenOverflow, BlockLenOverflow, JumpOffsetOverflow, NoRoom, InputFull, Unclean, NeverRecorded, StrayBranch, Answer, Done, Refused, faultNumber, refusalNumber, refusalValue, refusalAction, number, value, action, lengthOf, Told}
+use Rattle.layout.specs.Tree.{Actions, bodyCount}
 use Rattle.layout.specs.Judge.{Mode, plainMode}
 use Rattle.layout.specs.Cut.{First, Second}
 use Rattle.layout.specs.Pack.{pack, output, Outcome, ReadsAs}
@@ -21,16 +21,18 @@ use Rattle.layout.specs.Lengths.{length-block}
 use Rattle.laws.specs.Meaning.{meaning}
 use Rattle.laws.specs.Fits.{Bytes}
 use Rattle.laws.specs.Modes.{OfMode, never-recorded, stray-branch, asks, Stricter, than-plain, AsWeaker, same, besides, as-weaker, done-plain}
-use Rattle.laws.specs.Barred.{Stray, TreeRecorded, TreeContained, recorded-plain, done-recorded, done-contained, FirstWrong, unrecorded-first, stray-first}
+use Rattle.laws.specs.Barred.{Stray, TreeRecorded, TreeContained, recorded-plain, done-recorded, done-contained}
 use Rattle.laws.specs.Packed.{Written, refused-done, Packed, is-packed, sheetDistance}
 use Rattle.laws.specs.Demands.{same-meaning, length-done, noteLength, same-note, same-note-output}
 use Rattle.laws.specs.Editions.{sheetIn, LabelRefused, other-edition}
+use Rattle.action_numbers.specs.Numbered.{payloadSize, OwnsBody, bodyInOrder, Names}
+use Rattle.action_numbers.specs.Refusals.{Far, WrongBranch, Says, a-long-payload, a-long-body, a-far-branch, an-unrecorded-branch, a-stray-branch, says-under, whole-says, Meets, fault-meets, fault-within}
 use Rattle.agreement.specs.Source.{ActionEncoder, Result, ok, err, encode}
-use Rattle.agreement.specs.SourceAgrees.{Agrees, in-room, no-room, overflowed, same-as-source, agrees-once}
+use Rattle.agreement.specs.SourceAgrees.{Agrees, in-room, no-room, overflowed, same-as-source, Alike, agrees-once}
 use Rattle.agreement.specs.Published.{Block, asWritten, asPublished, BodyUndisputed}
 use Rattle.agreement.specs.PublishedFollows.{follows-published, no-other-difference}
 
--- ---- 0 is Done's number alone, and 14 and 15 are those that a mode adds
+-- ---- 0 is Done's number alone
 
 -- "3 to 7"
 fault-number : (f : Fault) → (3 ≤ faultNumber f) × (faultNumber f ≤ 7)
@@ -45,31 +47,17 @@ refusal-over : (r : Refusal) → 0 < refusalNumber r
 unfolding refusalNumber
 refusal-over (SheetTooLong n) = omega arith
 refusal-over BadTrailer = omega arith
-refusal-over (ReadingFault f p) = omega (arith, fault-number f .0)
-refusal-over (ActionLenOverflow n) = omega arith
-refusal-over (BlockLenOverflow n) = omega arith
-refusal-over (JumpOffsetOverflow z) = omega arith
+refusal-over (ReadingFault f p k) = omega (arith, fault-number f .0)
+refusal-over (ActionLenOverflow n k) = omega arith
+refusal-over (BlockLenOverflow n k) = omega arith
+refusal-over (JumpOffsetOverflow z k) = omega arith
 refusal-over (NoRoom n) = omega arith
 refusal-over InputFull = omega arith
 refusal-over (Unclean p) = omega arith
-refusal-over (NeverRecorded p) = omega arith
-refusal-over (StrayBranch p) = omega arith
+refusal-over (NeverRecorded p k) = omega arith
+refusal-over (StrayBranch p k) = omega arith
 
-refusal-own : (r : Refusal) → 14 ≤ refusalNumber r → OfMode r
-unfolding refusalNumber
-refusal-own (NeverRecorded p) h = never-recorded
-refusal-own (StrayBranch p) h = stray-branch
-refusal-own (SheetTooLong n) h = absurd (omega (arith, h))
-refusal-own BadTrailer h = absurd (omega (arith, h))
-refusal-own (ReadingFault f p) h = absurd (omega (arith, h, fault-number f .1))
-refusal-own (ActionLenOverflow n) h = absurd (omega (arith, h))
-refusal-own (BlockLenOverflow n) h = absurd (omega (arith, h))
-refusal-own (JumpOffsetOverflow z) h = absurd (omega (arith, h))
-refusal-own (NoRoom n) h = absurd (omega (arith, h))
-refusal-own InputFull h = absurd (omega (arith, h))
-refusal-own (Unclean p) h = absurd (omega (arith, h))
-
--- ---- a call that answers 0 with value k, which is `Outcome m s o 0 (pos k) after`
+-- ---- a call that answers 0 with value k, which is `Outcome m s o 0 (pos k) i after`
 
 -- the first k bytes of its output are the block that `pack` makes, and the others are as they were
 pub record Filled (m : Mode) (s o : List ℕ) (k : ℕ) (after : List ℕ) : Type 0 where
@@ -94,7 +82,7 @@ filled-by m s o k after q e l h =
       is-rest = d ∙ ap (λ (i : ℕ). drop i o) l;
     }
 
-pub filled : (m : Mode) (s o : List ℕ) (k : ℕ) (after : List ℕ) → Outcome m s o 0 (pos k) after → Filled m s o k after
+pub filled : (m : Mode) (s o : List ℕ) (k : ℕ) {i : ℕ} (after : List ℕ) → Outcome m s o 0 (pos k) i after → Filled m s o k after
 unfolding number value output
 filled m s o k after h = go (pack m s (length o)) refl (h .told .is-number) (h .told .is-value) (h .holds)
   where
@@ -105,7 +93,7 @@ filled m s o k after h = go (pack m s (length o)) refl (h .told .is-number) (h .
     go (Refused r) e en ev eo = absurd (omega (arith, refusal-over r, en))
 
 -- its sheet reads whole, nothing in it is too long or too far, and the first k bytes of the output are its tree's block
-pub done-packed : (m : Mode) (s o : List ℕ) (k : ℕ) (after : List ℕ) → Outcome m s o 0 (pos k) after → Packed s (length o) (take k after)
+pub done-packed : (m : Mode) (s o : List ℕ) (k : ℕ) {i : ℕ} (after : List ℕ) → Outcome m s o 0 (pos k) i after → Packed s (length o) (take k after)
 done-packed m s o k after h = is-packed m s (length o) (take k after) (filled m s o k after h .packed)
 
 -- ---- the value
@@ -117,7 +105,7 @@ pub record DoneValue (s : List ℕ) (v : ℤ) : Type 0 where
   pub is-bounded : k + 11 ≤ 3 * sheetDistance s
 
 -- a call that answers 0 has a length for its value, within the bound
-pub done-value : (m : Mode) (s o : List ℕ) (n : ℕ) (v : ℤ) (after : List ℕ) → Bytes s → Outcome m s o n v after → n ≡ 0 → DoneValue s v
+pub done-value : (m : Mode) (s o : List ℕ) (n : ℕ) (v : ℤ) {i : ℕ} (after : List ℕ) → Bytes s → Outcome m s o n v i after → n ≡ 0 → DoneValue s v
 unfolding number value
 done-value m s o n v after small h z = go (pack m s (length o)) refl (h .told .is-number) (h .told .is-value)
   where
@@ -127,37 +115,53 @@ done-value m s o n v after small h z = go (pack m s (length o)) refl (h .told .i
 
 -- ---- the note
 
--- two calls on sheets of equal length that agree from the main body on, with equal outputs: number, value and output are equal
+-- two calls on sheets of equal length that agree from the main body on, with equal outputs: number, value, action number and output
+-- are equal
 pub same-but-note : (m : Mode) (s s′ : List ℕ) → length s ≡ length s′ → drop (noteLength s) s ≡ drop (noteLength s) s′
-    → (o : List ℕ) (n n′ : ℕ) (v v′ : ℤ) (after after′ : List ℕ) → Outcome m s o n v after → Outcome m s′ o n′ v′ after′
-    → (n ≡ n′) × (v ≡ v′) × (after ≡ after′)
-same-but-note m s s′ l r o n n′ v v′ after after′ h h′ =
+    → (o : List ℕ) (n n′ : ℕ) (v v′ : ℤ) {i i′ : ℕ} (after after′ : List ℕ) → Outcome m s o n v i after → Outcome m s′ o n′ v′ i′ after′
+    → (n ≡ n′) × (v ≡ v′) × (i ≡ i′) × (after ≡ after′)
+same-but-note m s s′ l r o n n′ v v′ {i} {i′} after after′ h h′ =
     same-outcome h (record {
-      told = subst (λ (a : Answer (List ℕ)). Told lengthOf a n′ v′) (sym (same-note s s′ l r m (length o))) (h′ .told);
+      told = subst (λ (a : Answer (List ℕ)). Told lengthOf a n′ v′ i′) (sym (same-note s s′ l r m (length o))) (h′ .told);
       holds = h′ .holds ∙ sym (same-note-output s s′ l r m o);
     })
 
 -- ---- the edition
 
--- two calls on sheets that differ only in the edition, with equal outputs: number, value and output are equal; or the call on edition 1
--- answers 5, for a label number from 1,024 on, and leaves the output as it was
-pub same-but-edition : (m : Mode) (front mark : List ℕ) → length mark ≡ 2 → (o : List ℕ) (n n′ : ℕ) (v v′ : ℤ) (after after′ : List ℕ)
-    → Outcome m (sheetIn First front mark) o n v after → Outcome m (sheetIn Second front mark) o n′ v′ after′ → ((n ≡ n′) × (v ≡ v′) × (after ≡ after′)) ⊎ ((n ≡ 5) × (after ≡ o) × LabelRefused m (sheetIn First front mark) (sheetIn Second front mark) (length o))
-unfolding number refusalNumber faultNumber output
-same-but-edition m front mark two o n n′ v v′ after after′ h h′ = ⊎-elim (λ e. inl (equal e)) (λ r. inr (refused (r .is-refused) .0, refused (r .is-refused) .1, r)) (other-edition m front mark two (length o))
+-- a call that answers 5, for a label number from 1,024 on in a sheet of edition 1, at the label's place and for the action there
+pub record RefusesLabel (m : Mode) (front mark : List ℕ) (o : List ℕ) (n : ℕ) (v : ℤ) (i : ℕ) (after : List ℕ) : Type 0 where
+  pub label : LabelRefused m (sheetIn First front mark) (sheetIn Second front mark) (length o)
+  pub is-number : n ≡ 5
+  pub is-value : v ≡ pos (label .start + label .place .at)
+  pub is-action : i ≡ label .place .begun
+  pub is-left : after ≡ o
+
+-- two calls on sheets that differ only in the edition, with equal outputs: number, value, action number and output are equal; or
+-- the call on edition 1 answers 5, for a label number from 1,024 on, and leaves the output as it was
+pub same-but-edition : (m : Mode) (front mark : List ℕ) → length mark ≡ 2 → (o : List ℕ) (n n′ : ℕ) (v v′ : ℤ) {i i′ : ℕ} (after after′ : List ℕ)
+    → Outcome m (sheetIn First front mark) o n v i after → Outcome m (sheetIn Second front mark) o n′ v′ i′ after′
+    → ((n ≡ n′) × (v ≡ v′) × (i ≡ i′) × (after ≡ after′)) ⊎ RefusesLabel m front mark o n v i after
+unfolding number value action refusalNumber refusalValue refusalAction faultNumber output
+same-but-edition m front mark two o n n′ v v′ {i} {i′} after after′ h h′ = ⊎-elim (λ e. inl (equal e)) (λ r. inr (refused r)) (other-edition m front mark two (length o))
   where
-    equal : pack m (sheetIn First front mark) (length o) ≡ pack m (sheetIn Second front mark) (length o) → (n ≡ n′) × (v ≡ v′) × (after ≡ after′)
+    equal : pack m (sheetIn First front mark) (length o) ≡ pack m (sheetIn Second front mark) (length o) → (n ≡ n′) × (v ≡ v′) × (i ≡ i′) × (after ≡ after′)
     equal e = same-outcome h (record { told = rw e (h′ .told); holds = rw e (h′ .holds) })
 
-    refused : {p : ℕ} → pack m (sheetIn First front mark) (length o) ≡ Refused (ReadingFault BadField p) → (n ≡ 5) × (after ≡ o)
-    refused e = (h .told .is-number ∙ ap number e, h .holds ∙ ap (λ (a : Answer (List ℕ)). output a o) e)
+    refused : LabelRefused m (sheetIn First front mark) (sheetIn Second front mark) (length o) → RefusesLabel m front mark o n v i after
+    refused r = record {
+      label = r;
+      is-number = h .told .is-number ∙ ap number (r .is-refused);
+      is-value = h .told .is-value ∙ ap (value lengthOf) (r .is-refused);
+      is-action = h .told .is-action ∙ ap action (r .is-refused);
+      is-left = h .holds ∙ ap (λ (a : Answer (List ℕ)). output a o) (r .is-refused);
+    }
 
 -- ---- demand 3
 
 -- two calls that answer 0 and leave equal blocks were given equal meanings, whatever their modes and editions were, their outputs held
 -- and their rooms were
-pub same-block-meaning : (m m′ : Mode) (s s′ o o′ : List ℕ) (k k′ : ℕ) (after after′ : List ℕ) (t t′ : Actions) → Bytes s → Bytes s′ → ReadsAs s t → ReadsAs s′ t′
-    → Outcome m s o 0 (pos k) after → Outcome m′ s′ o′ 0 (pos k′) after′ → take k after ≡ take k′ after′ → meaning t ≡ meaning t′
+pub same-block-meaning : (m m′ : Mode) (s s′ o o′ : List ℕ) (k k′ : ℕ) {i i′ : ℕ} (after after′ : List ℕ) (t t′ : Actions) → Bytes s → Bytes s′ → ReadsAs s t → ReadsAs s′ t′
+    → Outcome m s o 0 (pos k) i after → Outcome m′ s′ o′ 0 (pos k′) i′ after′ → take k after ≡ take k′ after′ → meaning t ≡ meaning t′
 same-block-meaning m m′ s s′ o o′ k k′ after after′ t t′ small small′ r r′ h h′ e =
     same-meaning m m′ s s′ (length o) (length o′) (take k after) t t′ small small′ r r′ (filled m s o k after h .packed)
     (filled m′ s′ o′ k′ after′ h′ .packed ∙ ap Done (sym e))
@@ -170,96 +174,213 @@ pub data AddedNumber (m m′ : Mode) : ℕ → Type 0 where
   is-15 : m .contained ≡ true → m′ .contained ≡ false → AddedNumber m m′ 15
 
 -- a call in a mode answers such a number, or tells and leaves what a call in a weaker mode does on the same sheet and output
-pub as-in-weaker : (m m′ : Mode) → Stricter m m′ → (s o : List ℕ) (n n′ : ℕ) (v v′ : ℤ) (after after′ : List ℕ) → Outcome m s o n v after → Outcome m′ s o n′ v′ after′
-    → AddedNumber m m′ n ⊎ ((n ≡ n′) × (v ≡ v′) × (after ≡ after′))
+pub as-in-weaker : (m m′ : Mode) → Stricter m m′ → (s o : List ℕ) (n n′ : ℕ) (v v′ : ℤ) {i i′ : ℕ} (after after′ : List ℕ) → Outcome m s o n v i after → Outcome m′ s o n′ v′ i′ after′
+    → AddedNumber m m′ n ⊎ ((n ≡ n′) × (v ≡ v′) × (i ≡ i′) × (after ≡ after′))
 unfolding number refusalNumber
-as-in-weaker m m′ w s o n n′ v v′ after after′ h h′ = go (as-weaker m m′ w s (length o)) (h .told) (h .holds)
+as-in-weaker m m′ w s o n n′ v v′ {i} {i′} after after′ h h′ = go (as-weaker m m′ w s (length o)) (h .told) (h .holds)
   where
     number-of : {r : Refusal} (k : OfMode r) → asks m k ≡ true → asks m′ k ≡ false → n ≡ refusalNumber r → AddedNumber m m′ n
-    number-of never-recorded e f i = rw i (is-14 e f)
-    number-of stray-branch e f i = rw i (is-15 e f)
+    number-of never-recorded e f j = rw j (is-14 e f)
+    number-of stray-branch e f j = rw j (is-15 e f)
 
-    go : {a : Answer (List ℕ)} → AsWeaker m m′ (pack m′ s (length o)) a → Told lengthOf a n v → after ≡ output a o → AddedNumber m m′ n ⊎ ((n ≡ n′) × (v ≡ v′) × (after ≡ after′))
+    go : {a : Answer (List ℕ)} → AsWeaker m m′ (pack m′ s (length o)) a → Told lengthOf a n v i → after ≡ output a o → AddedNumber m m′ n ⊎ ((n ≡ n′) × (v ≡ v′) × (i ≡ i′) × (after ≡ after′))
     go same t e = inr (same-outcome (record { told = t; holds = e }) h′)
     go (besides a) t e = inl (number-of (a .of-mode) (a .is-asked) (a .is-unasked) (t .is-number))
 
 -- "All else is as in plain mode, a Done's bytes too"
-pub as-in-plain : (m : Mode) (s o : List ℕ) (n n′ : ℕ) (v v′ : ℤ) (after after′ : List ℕ) → Outcome m s o n v after → Outcome plainMode s o n′ v′ after′
-    → AddedNumber m plainMode n ⊎ ((n ≡ n′) × (v ≡ v′) × (after ≡ after′))
+pub as-in-plain : (m : Mode) (s o : List ℕ) (n n′ : ℕ) (v v′ : ℤ) {i i′ : ℕ} (after after′ : List ℕ) → Outcome m s o n v i after → Outcome plainMode s o n′ v′ i′ after′
+    → AddedNumber m plainMode n ⊎ ((n ≡ n′) × (v ≡ v′) × (i ≡ i′) × (after ≡ after′))
 as-in-plain m s o n n′ v v′ after after′ h h′ = as-in-weaker m plainMode (than-plain m) s o n n′ v v′ after after′ h h′
 
 -- a call that answers 0 tells and leaves what a call in a weaker mode does: the same length and the same bytes
-pub done-in-weaker : (m m′ : Mode) → Stricter m m′ → (s o : List ℕ) (n′ : ℕ) (v v′ : ℤ) (after after′ : List ℕ) → Outcome m s o 0 v after → Outcome m′ s o n′ v′ after′
-    → (0 ≡ n′) × (v ≡ v′) × (after ≡ after′)
-done-in-weaker m m′ w s o n′ v v′ after after′ h h′ = go (as-in-weaker m m′ w s o 0 n′ v v′ after after′ h h′)
+pub done-in-weaker : (m m′ : Mode) → Stricter m m′ → (s o : List ℕ) (n′ : ℕ) (v v′ : ℤ) {i i′ : ℕ} (after after′ : List ℕ) → Outcome m s o 0 v i after → Outcome m′ s o n′ v′ i′ after′
+    → (0 ≡ n′) × (v ≡ v′) × (i ≡ i′) × (after ≡ after′)
+done-in-weaker m m′ w s o n′ v v′ {i} {i′} after after′ h h′ = go (as-in-weaker m m′ w s o 0 n′ v v′ after after′ h h′)
   where
     not-0 : {n : ℕ} → AddedNumber m m′ n → n ≡ 0 → ⊥
     not-0 (is-14 a b) e = omega (arith, e)
     not-0 (is-15 a b) e = omega (arith, e)
 
-    go : AddedNumber m m′ 0 ⊎ ((0 ≡ n′) × (v ≡ v′) × (after ≡ after′)) → (0 ≡ n′) × (v ≡ v′) × (after ≡ after′)
+    go : AddedNumber m m′ 0 ⊎ ((0 ≡ n′) × (v ≡ v′) × (i ≡ i′) × (after ≡ after′)) → (0 ≡ n′) × (v ≡ v′) × (i ≡ i′) × (after ≡ after′)
     go (inl a) = absurd (not-0 a refl)
     go (inr e) = e
 
 -- where the label of every branch is recorded, and in the branch's own function body, every mode tells and leaves what plain mode does
-pub as-if-recorded : (m : Mode) (s o : List ℕ) (t : Actions) (n n′ : ℕ) (v v′ : ℤ) (after after′ : List ℕ) → ReadsAs s t → TreeRecorded t → TreeContained t
-    → Outcome m s o n v after → Outcome plainMode s o n′ v′ after′ → (n ≡ n′) × (v ≡ v′) × (after ≡ after′)
-as-if-recorded m s o t n n′ v v′ after after′ r e c h h′ =
+pub as-if-recorded : (m : Mode) (s o : List ℕ) (t : Actions) (n n′ : ℕ) (v v′ : ℤ) {i i′ : ℕ} (after after′ : List ℕ) → ReadsAs s t → TreeRecorded t → TreeContained t
+    → Outcome m s o n v i after → Outcome plainMode s o n′ v′ i′ after′ → (n ≡ n′) × (v ≡ v′) × (i ≡ i′) × (after ≡ after′)
+as-if-recorded m s o t n n′ v v′ {i} {i′} after after′ r e c h h′ =
     let p = recorded-plain m s t (length o) r e c in
-    same-outcome (record { told = subst (λ (a : Answer (List ℕ)). Told lengthOf a n v) p (h .told); holds = h .holds ∙ ap (λ (a : Answer (List ℕ)). output a o) p }) h′
+    same-outcome (record { told = subst (λ (a : Answer (List ℕ)). Told lengthOf a n v i) p (h .told); holds = h .holds ∙ ap (λ (a : Answer (List ℕ)). output a o) p }) h′
 
 -- a call in strict mode that answers 0 was given no branch to a label without a record
-pub done-is-recorded : (m : Mode) → m .strict ≡ true → (s o : List ℕ) (t : Actions) (k : ℕ) (after : List ℕ) → ReadsAs s t → Outcome m s o 0 (pos k) after → TreeRecorded t
+pub done-is-recorded : (m : Mode) → m .strict ≡ true → (s o : List ℕ) (t : Actions) (k : ℕ) {i : ℕ} (after : List ℕ) → ReadsAs s t → Outcome m s o 0 (pos k) i after → TreeRecorded t
 done-is-recorded m strict s o t k after r h = done-recorded m strict s t (length o) (take k after) r (filled m s o k after h .packed)
 
 -- a call in a contained mode that answers 0 was given no branch to a label whose record is in another function body
-pub done-is-contained : (m : Mode) → m .contained ≡ true → (s o : List ℕ) (t : Actions) (k : ℕ) (after : List ℕ) → ReadsAs s t → Outcome m s o 0 (pos k) after → TreeContained t
+pub done-is-contained : (m : Mode) → m .contained ≡ true → (s o : List ℕ) (t : Actions) (k : ℕ) {i : ℕ} (after : List ℕ) → ReadsAs s t → Outcome m s o 0 (pos k) i after → TreeContained t
 done-is-contained m contained s o t k after r h = done-contained m contained s t (length o) (take k after) r (filled m s o k after h .packed)
 
--- a call that answers a number from 14 on refuses by what the mode adds, with its value
-own-answer : (m : Mode) (s o : List ℕ) (n : ℕ) (v : ℤ) (after : List ℕ) → 14 ≤ n → Outcome m s o n v after
-    → (x : Refusal) × OfMode x × (pack m s (length o) ≡ Refused x) × (n ≡ refusalNumber x) × (v ≡ refusalValue x)
-unfolding number value
-own-answer m s o n v after l h = go (pack m s (length o)) refl (h .told .is-number) (h .told .is-value)
-  where
-    go : (a : Answer (List ℕ)) → pack m s (length o) ≡ a → n ≡ number a → v ≡ value lengthOf a
-        → (x : Refusal) × OfMode x × (pack m s (length o) ≡ Refused x) × (n ≡ refusalNumber x) × (v ≡ refusalValue x)
-    go (Done q) e i j = absurd (omega (arith, i))
-    go (Refused x) e i j = (x, refusal-own x (omega (arith, i)), e, i, j)
+-- ---- the action number
 
--- a call that answers 14 was made in strict mode, and its value is the position of the operand of the first branch to a label
--- without a record
-pub answers-14 : (m : Mode) (s o : List ℕ) (t : Actions) (p : ℕ) (after : List ℕ) → ReadsAs s t → Outcome m s o 14 (pos p) after
-    → (m .strict ≡ true) × FirstWrong (λ o s. o ≡ none) m t p
-unfolding refusalNumber refusalValue
-answers-14 m s o t p after r h =
-    let a = own-answer m s o 14 (pos p) after (omega arith) h in
-    go (a .1) (a .2) (a .3) (a .4)
-  where
-    go : {x : Refusal} → OfMode x → pack m s (length o) ≡ Refused x → 14 ≡ refusalNumber x → pos p ≡ refusalValue x → (m .strict ≡ true) × FirstWrong (λ o s. o ≡ none) m t p
-    go (never-recorded {p = q}) e n v =
-        let same : q ≡ p = cc in
-        unrecorded-first m p s t (length o) r (e ∙ ap (λ (i : ℕ). Refused (NeverRecorded i)) same)
-    go stray-branch e n v = absurd (omega (arith, n))
+-- the numbers of the answers that name no action
+abbrev pub NoAction : ℕ → Type 0
+NoAction n = (n < 3) ⊎ (n ≡ 11)
 
--- a call that answers 15 was made in a contained mode, and its value is the position of the operand of the first branch whose label
--- is recorded in another function body
-pub answers-15 : (m : Mode) (s o : List ℕ) (t : Actions) (p : ℕ) (after : List ℕ) → ReadsAs s t → Outcome m s o 15 (pos p) after → (m .contained ≡ true) × FirstWrong Stray m t p
-unfolding refusalNumber refusalValue
-answers-15 m s o t p after r h =
-    let a = own-answer m s o 15 (pos p) after (omega arith) h in
-    go (a .1) (a .2) (a .3) (a .4)
+-- all others are from 3 on, and not 11
+neither : {n : ℕ} → NoAction n → 3 ≤ n → (n ≡ 11 → ⊥) → ⊥
+neither (inl h) l f = omega arith
+neither (inr e) l f = f e
+
+-- these have none
+refusal-none : (r : Refusal) → NoAction (refusalNumber r) → refusalAction r ≡ 0
+unfolding refusalNumber refusalAction
+refusal-none (SheetTooLong n) h = refl
+refusal-none BadTrailer h = refl
+refusal-none (ReadingFault f p k) h = absurd (neither h (fault-number f .0) (λ e. omega (arith, e, fault-number f .1)))
+refusal-none (ActionLenOverflow n k) h = absurd (neither h (omega arith) (λ e. omega (arith, e)))
+refusal-none (BlockLenOverflow n k) h = absurd (neither h (omega arith) (λ e. omega (arith, e)))
+refusal-none (JumpOffsetOverflow z k) h = absurd (neither h (omega arith) (λ e. omega (arith, e)))
+refusal-none (NoRoom n) h = refl
+refusal-none InputFull h = refl
+refusal-none (Unclean p) h = refl
+refusal-none (NeverRecorded p k) h = absurd (neither h (omega arith) (λ e. omega (arith, e)))
+refusal-none (StrayBranch p k) h = absurd (neither h (omega arith) (λ e. omega (arith, e)))
+
+-- "Other answers give 0": a call that answers 0, 1, 2 or 11
+pub no-action : (m : Mode) (s o : List ℕ) (n : ℕ) (v : ℤ) (i : ℕ) (after : List ℕ) → Outcome m s o n v i after → NoAction n → i ≡ 0
+unfolding number action
+no-action m s o n v i after h l = go (pack m s (length o)) (h .told .is-number) (h .told .is-action)
   where
-    go : {x : Refusal} → OfMode x → pack m s (length o) ≡ Refused x → 15 ≡ refusalNumber x → pos p ≡ refusalValue x → (m .contained ≡ true) × FirstWrong Stray m t p
-    go (stray-branch {p = q}) e n v =
-        let same : q ≡ p = cc in
-        stray-first m p s t (length o) r (e ∙ ap (λ (i : ℕ). Refused (StrayBranch i)) same)
-    go never-recorded e n v = absurd (omega (arith, n))
+    go : (a : Answer (List ℕ)) → n ≡ number a → i ≡ action a → i ≡ 0
+    go (Done q) en ei = ei
+    go (Refused r) en ei = ei ∙ refusal-none r (subst NoAction en l)
+
+-- so a call that answers 0 has action number 0
+pub done-action : (m : Mode) (s o : List ℕ) (v : ℤ) (i : ℕ) (after : List ℕ) → Outcome m s o 0 v i after → i ≡ 0
+done-action m s o v i after h = no-action m s o 0 v i after h (inl (omega arith))
+
+-- ---- a call that answers 3 to 7
+
+-- 3 to 7 are the faults of reading
+refusal-fault : (r : Refusal) → 3 ≤ refusalNumber r → refusalNumber r ≤ 7 → (f : Fault) × (p : ℕ) × (k : ℕ) × (r ≡ ReadingFault f p k)
+unfolding refusalNumber
+refusal-fault (ReadingFault f p k) l h = (f, p, k, refl)
+refusal-fault (SheetTooLong n) l h = absurd (omega (arith, l))
+refusal-fault BadTrailer l h = absurd (omega (arith, l))
+refusal-fault (ActionLenOverflow n k) l h = absurd (omega (arith, h))
+refusal-fault (BlockLenOverflow n k) l h = absurd (omega (arith, h))
+refusal-fault (JumpOffsetOverflow z k) l h = absurd (omega (arith, h))
+refusal-fault (NoRoom n) l h = absurd (omega (arith, h))
+refusal-fault InputFull l h = absurd (omega (arith, h))
+refusal-fault (Unclean p) l h = absurd (omega (arith, h))
+refusal-fault (NeverRecorded p k) l h = absurd (omega (arith, h))
+refusal-fault (StrayBranch p k) l h = absurd (omega (arith, h))
+
+-- the fault that was met, and its place: as many bytes of the main body stand before it as its action number says, or more
+pub record MeetsFault (s : List ℕ) (n : ℕ) (v : ℤ) (i : ℕ) : Type 0 where
+  pub fault : Fault
+  pub place : ℕ
+  pub meets : Meets s fault place i
+  pub is-number : n ≡ faultNumber fault
+  pub is-value : v ≡ pos place
+  pub is-behind : meets .start + i ≤ place
+  pub is-within : place ≤ meets .start + length (meets .bytes)
+
+-- it met a fault of reading
+pub answers-fault : (m : Mode) (s o : List ℕ) (n : ℕ) (v : ℤ) (i : ℕ) (after : List ℕ) → Bytes s → Outcome m s o n v i after → 3 ≤ n → n ≤ 7 → MeetsFault s n v i
+unfolding number value action refusalNumber refusalValue refusalAction
+answers-fault m s o n v i after small h l u = go (pack m s (length o)) refl (h .told .is-number) (h .told .is-value) (h .told .is-action)
+  where
+    by : (f : Fault) (p k : ℕ) → pack m s (length o) ≡ Refused (ReadingFault f p k) → n ≡ faultNumber f → v ≡ pos p → i ≡ k → MeetsFault s n v i
+    by f p k e en ev ei =
+        let w : Meets s f p i = subst (Meets s f p) (sym ei) (fault-meets m s (length o) f p k e) in
+        record { fault = f; place = p; meets = w; is-number = en; is-value = ev; is-behind = fault-within small w .0; is-within = fault-within small w .1 }
+
+    go : (a : Answer (List ℕ)) → pack m s (length o) ≡ a → n ≡ number a → v ≡ value lengthOf a → i ≡ action a → MeetsFault s n v i
+    go (Done q) e en ev ei = absurd (omega (arith, en))
+    go (Refused r) e en ev ei =
+        let x = refusal-fault r (omega (arith, en)) (omega (arith, en)) in
+        by (x .0) (x .1) (x .2) (e ∙ ap Refused (x .3)) (en ∙ ap refusalNumber (x .3)) (ev ∙ ap refusalValue (x .3)) (ei ∙ ap refusalAction (x .3))
+
+-- ---- a call on a sheet that reads whole as a tree t
+
+-- the action of the tree that an answer names, by its number, value and action number i. 8: action i has a payload of n bytes.
+-- 9: it owns a body of n bytes. 10: it is the first branch that goes too far, with its distance z. 14 and 15: it is the first branch
+-- to a label that has no record, or whose record is in another function body; p is the position of its operand, and the mode asks
+-- for that
+pub data NamesAction (m : Mode) (t : Actions) : ℕ → ℤ → ℕ → Type 0 where
+  at-8 : {n i : ℕ} → Names (bodyInOrder t) i (λ start a. (payloadSize a ≡ n) × (65535 < n)) → NamesAction m t 8 (pos n) i
+  at-9 : {n i : ℕ} → Names (bodyInOrder t) i (λ start a. OwnsBody n a × (65535 < n)) → NamesAction m t 9 (pos n) i
+  at-10 : {z : ℤ} {p i : ℕ} → WrongBranch (Far z) m t p i → NamesAction m t 10 z i
+  at-14 : {p i : ℕ} → m .strict ≡ true → WrongBranch (λ o s. o ≡ none) m t p i → NamesAction m t 14 (pos p) i
+  at-15 : {p i : ℕ} → m .contained ≡ true → WrongBranch Stray m t p i → NamesAction m t 15 (pos p) i
+
+-- as the refusal says it
+said : {m : Mode} {t : Actions} {x : Refusal} {n : ℕ} {v : ℤ} {i : ℕ} → Says m t x → n ≡ refusalNumber x → v ≡ refusalValue x → i ≡ refusalAction x → NamesAction m t n v i
+unfolding refusalNumber refusalValue refusalAction
+said (a-long-payload h) en ev ei = rw (en, ev, ei) (at-8 h)
+said (a-long-body h) en ev ei = rw (en, ev, ei) (at-9 h)
+said (a-far-branch h) en ev ei = rw (en, ev, ei) (at-10 h)
+said (an-unrecorded-branch e h) en ev ei = rw (en, ev, ei) (at-14 e h)
+said (a-stray-branch e h) en ev ei = rw (en, ev, ei) (at-15 e h)
+
+module _ (m : Mode) (s o : List ℕ) (t : Actions) (r : ReadsAs s t) where
+  -- if it answers neither 0 nor 11
+  module _ (n : ℕ) (v : ℤ) (i : ℕ) (after : List ℕ) (h : Outcome m s o n v i after) (done : n ≡ 0 → ⊥) (room : n ≡ 11 → ⊥) where
+    -- it refuses by what is wrong with an action of the tree
+    refused-by : (x : Refusal) × Says m t x × (n ≡ refusalNumber x) × (v ≡ refusalValue x) × (i ≡ refusalAction x)
+    unfolding number value action refusalNumber
+    refused-by = go (pack m s (length o)) refl (h .told .is-number) (h .told .is-value) (h .told .is-action)
+      where
+        go : (a : Answer (List ℕ)) → pack m s (length o) ≡ a → n ≡ number a → v ≡ value lengthOf a → i ≡ action a
+            → (x : Refusal) × Says m t x × (n ≡ refusalNumber x) × (v ≡ refusalValue x) × (i ≡ refusalAction x)
+        go (Done q) e en ev ei = absurd (done en)
+        go (Refused x) e en ev ei = ⊎-elim (λ k. absurd (room (en ∙ ap refusalNumber k))) (λ (k : Says m t x). (x, k, en, ev, ei)) (whole-says m s t (length o) r x e)
+
+    -- and so names an action of the tree
+    pub names-action : NamesAction m t n v i
+    names-action = said (refused-by .1) (refused-by .2) (refused-by .3) (refused-by .4)
+
+    -- whose number is under the number of actions
+    pub action-under : i < bodyCount t
+    action-under = omega (arith, refused-by .4, says-under (refused-by .1))
+
+  -- by each number
+  module _ (i : ℕ) (after : List ℕ) where
+    pub answers-8 : (n : ℕ) → Outcome m s o 8 (pos n) i after → Names (bodyInOrder t) i (λ start a. (payloadSize a ≡ n) × (65535 < n))
+    answers-8 n h = go (names-action 8 (pos n) i after h (λ e. omega (arith, e)) (λ e. omega (arith, e)))
+      where
+        go : NamesAction m t 8 (pos n) i → Names (bodyInOrder t) i (λ start a. (payloadSize a ≡ n) × (65535 < n))
+        go (at-8 w) = w
+
+    pub answers-9 : (n : ℕ) → Outcome m s o 9 (pos n) i after → Names (bodyInOrder t) i (λ start a. OwnsBody n a × (65535 < n))
+    answers-9 n h = go (names-action 9 (pos n) i after h (λ e. omega (arith, e)) (λ e. omega (arith, e)))
+      where
+        go : NamesAction m t 9 (pos n) i → Names (bodyInOrder t) i (λ start a. OwnsBody n a × (65535 < n))
+        go (at-9 w) = w
+
+    pub answers-10 : (z : ℤ) → Outcome m s o 10 z i after → (p : ℕ) × WrongBranch (Far z) m t p i
+    answers-10 z h = go (names-action 10 z i after h (λ e. omega (arith, e)) (λ e. omega (arith, e)))
+      where
+        go : NamesAction m t 10 z i → (p : ℕ) × WrongBranch (Far z) m t p i
+        go (at-10 {p = p} w) = (p, w)
+
+    pub answers-14 : (p : ℕ) → Outcome m s o 14 (pos p) i after → (m .strict ≡ true) × WrongBranch (λ o s. o ≡ none) m t p i
+    answers-14 p h = go (names-action 14 (pos p) i after h (λ e. omega (arith, e)) (λ e. omega (arith, e)))
+      where
+        go : NamesAction m t 14 (pos p) i → (m .strict ≡ true) × WrongBranch (λ o s. o ≡ none) m t p i
+        go (at-14 f w) = (f, w)
+
+    pub answers-15 : (p : ℕ) → Outcome m s o 15 (pos p) i after → (m .contained ≡ true) × WrongBranch Stray m t p i
+    answers-15 p h = go (names-action 15 (pos p) i after h (λ e. omega (arith, e)) (λ e. omega (arith, e)))
+      where
+        go : NamesAction m t 15 (pos p) i → (m .contained ≡ true) × WrongBranch Stray m t p i
+        go (at-15 f w) = (f, w)
 
 -- ---- what a call leaves alone
 
 -- a call that does not answer 0 leaves every byte of the output
-pub refused-leaves : (m : Mode) (s o : List ℕ) (n : ℕ) (v : ℤ) (after : List ℕ) → Outcome m s o n v after → (n ≡ 0 → ⊥) → after ≡ o
+pub refused-leaves : (m : Mode) (s o : List ℕ) (n : ℕ) (v : ℤ) {i : ℕ} (after : List ℕ) → Outcome m s o n v i after → (n ≡ 0 → ⊥) → after ≡ o
 unfolding number output
 refused-leaves m s o n v after h z = go (pack m s (length o)) (h .told .is-number) (h .holds)
   where
@@ -268,7 +389,7 @@ refused-leaves m s o n v after h z = go (pack m s (length o)) (h .told .is-numbe
     go (Refused r) en eo = eo
 
 -- a call that answers 0 with value k leaves the bytes from k on, and the output's length
-pub done-leaves : (m : Mode) (s o : List ℕ) (k : ℕ) (after : List ℕ) → Outcome m s o 0 (pos k) after → (drop k after ≡ drop k o) × (length after ≡ length o) × (k ≤ length o)
+pub done-leaves : (m : Mode) (s o : List ℕ) (k : ℕ) {i : ℕ} (after : List ℕ) → Outcome m s o 0 (pos k) i after → (drop k after ≡ drop k o) × (length after ≡ length o) × (k ≤ length o)
 done-leaves m s o k after h =
     let f : Filled m s o k after = filled m s o k after h in
     let l : length after ≡ length (take k after) + length (drop k after) = ap length (sym (take-append-drop k after)) ∙ length-append (take k after) (drop k after) in
@@ -283,7 +404,7 @@ pub record SourceWrites (t : Actions) (q : List ℕ) : Type 0 where
   pub is-output : encoder .output ≡ q
 
 -- for a sheet s of bytes that reads whole as a tree t, and a call that answers 0 with value k
-module _ (m : Mode) (s o : List ℕ) (t : Actions) (k : ℕ) (after : List ℕ) (small : Bytes s) (r : ReadsAs s t) (h : Outcome m s o 0 (pos k) after) where
+module _ (m : Mode) (s o : List ℕ) (t : Actions) (k : ℕ) {i : ℕ} (after : List ℕ) (small : Bytes s) (r : ReadsAs s t) (h : Outcome m s o 0 (pos k) i after) where
   -- the first k bytes of the output are what the source's encoder writes for the tree
   pub done-source : SourceWrites t (take k after)
   done-source = go (encode t) (Done (take k after)) refl refl (subst (Agrees (length o) (encode t)) (done-plain m s (length o) (take k after) (filled m s o k after h .packed)) (same-as-source s t (length o) small r))
@@ -301,10 +422,10 @@ module _ (m : Mode) (s o : List ℕ) (t : Actions) (k : ℕ) (after : List ℕ) 
   pub done-undisputed : BodyUndisputed t → Block asPublished t (take k after)
   done-undisputed u = no-other-difference m s t (length o) (take k after) small r (filled m s o k after h .packed) u
 
--- any call in plain mode on such a sheet tells and leaves the one answer that agrees with the source's result at its room: an
--- overflow's number and value too
-pub as-source : (s o : List ℕ) (t : Actions) (n : ℕ) (v : ℤ) (after : List ℕ) (a : Answer (List ℕ)) → Bytes s → ReadsAs s t → Agrees (length o) (encode t) a
-    → Outcome plainMode s o n v after → Told lengthOf a n v × (after ≡ output a o)
+-- any call in plain mode on such a sheet tells and leaves the number, the value and the output that agree with the source's result
+-- at its room: an overflow's number and value too
+pub as-source : (s o : List ℕ) (t : Actions) (n : ℕ) (v : ℤ) {i : ℕ} (after : List ℕ) (a : Answer (List ℕ)) → Bytes s → ReadsAs s t → Agrees (length o) (encode t) a
+    → Outcome plainMode s o n v i after → (n ≡ number a) × (v ≡ value lengthOf a) × (after ≡ output a o)
 as-source s o t n v after a small r g h =
-    let e : pack plainMode s (length o) ≡ a = agrees-once (length o) (encode t) (pack plainMode s (length o)) a (same-as-source s t (length o) small r) g in
-    subst (λ (x : Answer (List ℕ)). Told lengthOf x n v × (after ≡ output x o)) e (h .told, h .holds)
+    let e : Alike (pack plainMode s (length o)) a = agrees-once (length o) (encode t) (pack plainMode s (length o)) a (same-as-source s t (length o) small r) g in
+    (h .told .is-number ∙ e .same-number, h .told .is-value ∙ e .same-value, h .holds ∙ e .same-output o)

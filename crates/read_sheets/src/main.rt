@@ -1,5 +1,5 @@
 // Reads sheets from standard input, each after its length in four bytes and before four bytes of room, and writes a line for
-// each: the number of its reading, and the value.
+// each: the number of its reading, the value and the action number.
 ghost use Prim.Native.Nat.{_≤_};
 ghost use lib.ListN.{length};
 use cut::CutMain;
@@ -26,10 +26,12 @@ fn fault_number(f: Fault) -> u64 {
     }
 }
 
-fn write_line(number: u64, value: usize) {
+fn write_line(number: u64, value: usize, action: usize) {
     print_decimal(STDOUT_FILENO, number);
     write_all(STDOUT_FILENO, b" ");
     print_decimal(STDOUT_FILENO, value as u64);
+    write_all(STDOUT_FILENO, b" ");
+    print_decimal(STDOUT_FILENO, action as u64);
     write_all(STDOUT_FILENO, b"\n");
 }
 
@@ -40,17 +42,17 @@ fn answer_main(b: &[u8], edition: Edition, start: usize)
     let terms = terms_of(edition);
     let mut tab = [0; Terms::SECOND_LABELS];
     let mut homes = [0; 0];
-    let mut over = [0; 2];
+    let mut over = [0; 3];
     match read_main(b, terms, start, &mut tab, &mut homes, &mut over) {
-        Reading::Whole(_) => write_line(0, 0),
-        Reading::Stops(f, p) => write_line(fault_number(f), p),
+        Reading::Whole(_) => write_line(0, 0, 0),
+        Reading::Stops(f, p, action) => write_line(fault_number(f), p, action.0),
     }
 }
 
 fn answer(bytes: &[u8]) {
     match cut_main(bytes) {
-        CutMain::SheetTooLong(n) => write_line(1, n),
-        CutMain::BadTrailer => write_line(2, 0),
+        CutMain::SheetTooLong(n) => write_line(1, n, 0),
+        CutMain::BadTrailer => write_line(2, 0, 0),
         CutMain::Main(edition, start, end) => answer_main(&bytes[start..end], edition, start),
     }
 }

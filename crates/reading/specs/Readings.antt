@@ -8,7 +8,7 @@ use Rattle.layout.specs.Answers.{Refusal, ReadingFault, Refused}
 use Rattle.layout.specs.Tree.{ActionsOf}
 use Rattle.layout.specs.Read.{Text, Terms, deepest, Read, got, bad, readMain}
 use Rattle.layout.specs.Judge.{Mode}
-use Rattle.layout.specs.Pack.{packRead}
+use Rattle.layout.specs.Pack.{faultAction, packRead}
 use Rattle.positions.specs.Scanned.{meant}
 use Rattle.positions.specs.declared.BytePosition.{BytePosition}
 use Rattle.scan.specs.Mains.{MainWhole}
@@ -19,15 +19,15 @@ use Rattle.reading.specs.declared.Reading.the-variants as reading
 -- at `start`
 unfoldable pub faultIn : ℕ → Read (ActionsOf Text ℕ) → Option Refusal
 faultIn start (got t p) = none
-faultIn start (bad f p) = some (ReadingFault f (start + p .at))
+faultIn start (bad f s) = some (ReadingFault f (start + s .at) (faultAction f (s .begun)))
 
 -- by the code
 unfoldable pub said : Reading → Option Refusal
 said (reading.Whole w) = none
-said (reading.Stops f p) = some (ReadingFault (meant f) p)
+said (reading.Stops f p k) = some (ReadingFault (meant f) p (k .0))
 
--- the answer to a main body that starts at `start` in its sheet, with what is left in the tables and the two numbers where it reads
--- whole
+-- the answer to a main body that starts at `start` in its sheet, with what is left in the tables and the three numbers where it
+-- reads whole
 pub data MainRead (terms : Terms) (b : List ℕ) (start : ℕ) (tab homes over : List ℕ) : Reading → Type 0 where
   whole : {w : BytePosition} → MainWhole terms b w tab homes over → MainRead terms b start tab homes over (reading.Whole w)
   refused : {r : Reading} {x : Refusal} → said r ≡ some x → faultIn start (readMain terms b deepest) ≡ some x → MainRead terms b start tab homes over r

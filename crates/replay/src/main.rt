@@ -1,12 +1,13 @@
-// Replays the oracle's answers: packs each sheet of a list, and holds number, value and every byte of the output to what the list
-// says. Writes a line for each number that was met, with its count, and then how many answers differ and the first that does.
+// Replays the oracle's answers: packs each sheet of a list, and holds number, value, action number and every byte of the output to
+// what the list says. Writes a line for each number that was met, with its count, and then how many answers differ and the first that does.
 //
-// A record is the lengths of two patterns, the room, the mode, and the answer's number and value, in 22 bytes; then the pattern of
-// the sheet and that of the block.
+// A record is the lengths of two patterns, the room, the mode, and the answer's number, value and action number, in 26 bytes; then
+// the pattern of the sheet and that of the block.
 ghost use mathlib.Core.Path.{_≡_};
 ghost use Prim.Native.Nat.{_≤_};
 ghost use lib.ListN.{length};
 use answer::Answer;
+use answer::action_of;
 use answer::number_of;
 use answer::value_of;
 use fields::u32_at;
@@ -44,21 +45,26 @@ fn holds(out: &[u8], block: &[u8]) -> bool {
     block.len() <= out.len()
 }
 
-// Whether an answer has this number and value.
-fn tells(answer: Answer, number: u8, value: u64) -> bool {
+// Whether an answer has this number, value and action number.
+fn tells(answer: Answer, number: u8, value: u64, action: u32) -> bool {
     if number_of(answer) != number as u32 {
         return false;
     }
-    value_of(answer) == value
+    if value_of(answer) != value {
+        return false;
+    }
+    action_of(answer) == action as u64
 }
 
-// Whether packing into the first `room` bytes of the output gives this number, value and block, and leaves the bytes behind them.
+// Whether packing into the first `room` bytes of the output gives this number, value, action number and block, and leaves the bytes
+// behind them.
 fn agrees(
     sheet: &[u8],
     mode: Mode,
     room: usize,
     number: u8,
     value: u64,
+    action: u32,
     block: &[u8],
     out: &mut [u8],
 ) -> bool {
@@ -66,7 +72,8 @@ fn agrees(
         return false;
     }
     refresh(out);
-    if tells(pack::pack(sheet, mode, &mut out[..room]), number, value) {
+    let answer = pack::pack(sheet, mode, &mut out[..room]);
+    if tells(answer, number, value, action) {
         return holds(out, block);
     }
     false
@@ -75,12 +82,13 @@ fn agrees(
 // Whether packing the sheet gives what the head of a record says, and this block. 64 bytes behind the room are looked at too. The
 // mode is 0 to 3: 1 more if it is strict, 2 more if it is contained.
 fn replay_sheet(head: &[u8], sheet: &[u8], block: &[u8], out: &mut [u8]) -> bool
-    requires { ⌜ 22 ≤ length (now head) ⌝ }
+    requires { ⌜ 26 ≤ length (now head) ⌝ }
 {
     let room = u32_at(head, 8) as usize;
     let mode = head[12];
     let number = head[13];
     let value = u64_at(head, 14);
+    let action = u32_at(head, 22);
     if out.len() < room + 64 {
         return false;
     }
@@ -96,6 +104,7 @@ fn replay_sheet(head: &[u8], sheet: &[u8], block: &[u8], out: &mut [u8]) -> bool
         room,
         number,
         value,
+        action,
         block,
         &mut out[..room + 64],
     )
@@ -103,21 +112,21 @@ fn replay_sheet(head: &[u8], sheet: &[u8], block: &[u8], out: &mut [u8]) -> bool
 
 // Whether the record at the front of the input agrees.
 fn replay_one(input: &[u8], sheet: &mut [u8], block: &mut [u8], out: &mut [u8]) -> bool
-    requires { ⌜ 22 ≤ length (now input) ⌝ }
+    requires { ⌜ 26 ≤ length (now input) ⌝ }
 {
     let n = u32_at(input, 0) as usize;
     let m = u32_at(input, 4) as usize;
-    let long = unroll_at(input, 22, n, sheet);
-    let wide = unroll_at(input, 22 + n, m, block);
+    let long = unroll_at(input, 26, n, sheet);
+    let wide = unroll_at(input, 26 + n, m, block);
     replay_sheet(input, &sheet[..long], &block[..wide], out)
 }
 
 // The length of the record at the front of the input.
 fn record_length(input: &[u8]) -> usize
-    requires { ⌜ 22 ≤ length (now input) ⌝ }
-    ensures { λ r. ⌜ 22 ≤ r ⌝ }
+    requires { ⌜ 26 ≤ length (now input) ⌝ }
+    ensures { λ r. ⌜ 26 ≤ r ⌝ }
 {
-    22 + u32_at(input, 0) as usize + u32_at(input, 4) as usize
+    26 + u32_at(input, 0) as usize + u32_at(input, 4) as usize
 }
 
 // ---- counts: 0 to 15 are those of the numbers, 16 that of the answers that differ, 17 the first of these, counted from 1
@@ -197,7 +206,7 @@ fn replay_all(
 ) {
     let mut p = 0;
     let mut record = 0;
-    while p + 22 <= input.len() {
+    while p + 26 <= input.len() {
         let agree = replay_one(&input[p..], sheet, block, out);
         let number = input[p + 13];
         record += 1;

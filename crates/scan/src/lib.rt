@@ -6,9 +6,10 @@ ghost use Rattle.editions.specs.Allowed.{termsOf};
 ghost use Rattle.scan.specs.Mains.{Empty, MainScanned};
 use bodies::scan_body;
 use editions::Terms;
+use positions::ActionNumber;
 use positions::BytePosition;
 use positions::Fault;
-use positions::Scan;
+use positions::Walked;
 
 // A whole main body: no byte of it is left over.
 pub fn scan_main(
@@ -17,7 +18,7 @@ pub fn scan_main(
     tab: &mut [usize],
     homes: &mut [usize],
     over: &mut [usize],
-) -> Scan
+) -> Walked
     requires { ⌜ (length (now b) ≤ 1048576) × Empty (termsOf terms) (now tab) (now homes) (now over) ⌝ }
     ensures { λ r. ⌜ MainScanned (now (tab .exit)) (now (homes .exit)) (now (over .exit)) (readMain (termsOf terms) (now (b .entry)) deepest) r ⌝ }
 {
@@ -28,16 +29,17 @@ pub fn scan_main(
         16,
         BytePosition(0),
         BytePosition(0),
+        ActionNumber(0),
         tab,
         homes,
         over,
     ) {
-        Scan::Stops(f, p) => Scan::Stops(f, p),
-        Scan::Ends(p, w) => {
+        Walked::Stops(f, p, number) => Walked::Stops(f, p, number),
+        Walked::Ends(p, w, number) => {
             if p < b.len() {
-                return Scan::Stops(Fault::LeftOver, p);
+                return Walked::Stops(Fault::LeftOver, p, number);
             }
-            Scan::Ends(p, w)
+            Walked::Ends(p, w, number)
         }
     }
 }

@@ -7,14 +7,14 @@ use lib.ListN.{length}
 use lib.Seq.{sets, length-sets}
 use Rattle.stores.proofs.Stores.{sets-append}
 use Rattle.layout.specs.Numbers.{u16At}
-use Rattle.layout.specs.Tree.{Entry, ActionOf, ActionListOf, empty, more, ActionsOf, body, ActionIndex, firstAction, nextAction}
-use Rattle.layout.specs.Read.{Text, Terms, Place, placed, got, Reader, readEntries, readAction, readActions, readBodyWith, readBody}
+use Rattle.layout.specs.Tree.{Entry, ActionOf, ActionListOf, empty, more, ActionsOf, body, ActionIndex, firstAction, nextAction, count}
+use Rattle.layout.specs.Read.{Text, Terms, Place, placed, got, Reader, behind, readEntries, readAction, readActions, readBodyWith, readBody}
 use Rattle.layout.specs.Strings.{mapAction, mapActions, mapBody}
 use Rattle.layout.specs.Write.{bytes, actionsBytes, bodyBytes, sizes, bodySize, Position, position, moved, past, Event, labelsAt, traces, traceBody}
 use Rattle.layout.specs.Lengths.{length-bytes}
 use Rattle.layout.specs.Pack.{spelling}
 use Rattle.labels.proofs.Labels.{entries-read}
-use Rattle.pcode.proofs.Readings.{Gives, gives, refuses, given, next, then, itself, u16}
+use Rattle.pcode.proofs.Readings.{Gives, gives, refuses, given, also-behind, next, then, itself, u16}
 use Rattle.encode_flat.specs.Branches.{tableBits}
 use Rattle.laws.specs.Resolved.{bodyLength, actionSize, actionTrace}
 use Rattle.write.specs.Bodies.{NearFrom, nearOf, nearAction, bodyOf, actionOf, Room, Wrote}
@@ -36,20 +36,20 @@ pub record Fronted (terms : Terms) (b : List ℕ) (depth at : ℕ) (x : ActionsO
   pub entries : List Entry
   pub actions : ActionListOf Text ℕ
   pub is : x ≡ body entries actions
-  pub reads : readActions terms b (readBody terms b (depth - 1)) (u16At b (countAt b at)) (placed (countAt b at + 2)) ≡ got actions q
+  pub reads : readActions terms b (behind 1 (readBody terms b (depth - 1))) (u16At b (countAt b at)) (placed (countAt b at + 2)) ≡ got actions q
 
 module _ (terms : Terms) (b : List ℕ) (at : ℕ) where
   -- Of a body whose inner bodies have one level less.
-  fronted-with : (depth : ℕ) → Gives (Fronted terms b (suc depth) at) (readBodyWith terms b (readBody terms b depth) (placed at))
+  fronted-with : (depth : ℕ) → Gives (Fronted terms b (suc depth) at) (readBodyWith terms b (behind 1 (readBody terms b depth)) (placed at))
   unfolding readBodyWith
   fronted-with depth =
       next _ (u16 b at) (λ l. then (itself (readEntries terms b (u16At b at) 0 (placed (at + 2)))) (λ es r e.
       let f : r ≡ placed (countAt b at) = ap placed (entries-read terms b (u16At b at) (placed (at + 2)) es r l e .0 .ends) in
-      rw f (next _ (u16 b (countAt b at)) (λ m. then (itself (readActions terms b (readBody terms b depth) (u16At b (countAt b at)) (placed (countAt b at + 2))))
+      rw f (next _ (u16 b (countAt b at)) (λ m. then (itself (readActions terms b (behind 1 (readBody terms b depth)) (u16At b (countAt b at)) (placed (countAt b at + 2))))
       (λ xs s g. gives (record { first = l; second = m; deep = omega arith; entries = es; actions = xs; is = refl; reads = less xs s g }))))))
     where
-      less : (xs : ActionListOf Text ℕ) (s : Place) → readActions terms b (readBody terms b depth) (u16At b (countAt b at)) (placed (countAt b at + 2)) ≡ got xs s
-          → readActions terms b (readBody terms b (suc depth - 1)) (u16At b (countAt b at)) (placed (countAt b at + 2)) ≡ got xs s
+      less : (xs : ActionListOf Text ℕ) (s : Place) → readActions terms b (behind 1 (readBody terms b depth)) (u16At b (countAt b at)) (placed (countAt b at + 2)) ≡ got xs s
+          → readActions terms b (behind 1 (readBody terms b (suc depth - 1))) (u16At b (countAt b at)) (placed (countAt b at + 2)) ≡ got xs s
       less xs s g =
           let k : suc depth - 1 ≡ depth = omega arith in
           rw k g
@@ -81,7 +81,7 @@ module _ (terms : Terms) (b : List ℕ) (inner : Reader (ActionsOf Text ℕ)) wh
   unfolding readActions
   first-gives zero p h = absurd (omega arith)
   first-gives (suc n) p h =
-      then (itself (readAction terms b inner (placed p))) (λ a r e. then (itself (readActions terms b inner n r))
+      then (itself (readAction terms b inner (placed p))) (λ a r e. then (also-behind (count a) (itself (readActions terms b inner n r)))
       (λ xs q f. gives (record { first = a; others = xs; then-at = r; is = refl; reads-first = e; reads-others = less xs r q f })))
     where
       less : (xs : ActionListOf Text ℕ) (r q : Place) → readActions terms b inner n r ≡ got xs q → readActions terms b inner (suc n - 1) r ≡ got xs q
@@ -123,11 +123,11 @@ more-near : (tab : List ℕ) (es : List Entry) (i : ActionIndex) (xs : ActionLis
     → nearList tab es i xs w → nearAction tab a w × nearList tab es (nextAction i) ys (w + actionSize a)
 unfolding mapActions traces moved
 more-near tab es i xs a ys w e h =
-    let s : Position = position w (h .home) in
+    let s : Position = position w (h .home) (h .number) in
     let x : List Event = actionTrace a s in
     let y : List Event = traces (mapActions spelling ys) es (nextAction i) (past (mapAction spelling a) s) in
     let k : NoneFar (recordAt tab) (x ++ y) = near-right (recordAt tab) (labelsAt es i s) (x ++ y) (rw e at (h .none-far)) in
-    (record { home = h .home; none-far = near-left (recordAt tab) x y k }, record { home = h .home; none-far = near-right (recordAt tab) x y k })
+    (record { home = h .home; number = h .number; none-far = near-left (recordAt tab) x y k }, record { home = h .home; number = past (mapAction spelling a) s .number; none-far = near-right (recordAt tab) x y k })
 
 -- An action is written, and then the others: all of them are.
 more-bytes : (tab l : List ℕ) (a : ActionOf Text ℕ) (xs : ActionListOf Text ℕ) (w : ℕ)
@@ -144,7 +144,7 @@ pub record Writing (terms : Terms) (b : List ℕ) (at depth pos : ℕ) (tab old 
   pub rest : ActionListOf Text ℕ
   pub deep : 0 < depth
   pub is-read : readBody terms b depth (placed at) ≡ got whole end
-  pub goes-on : readActions terms b (readBody terms b (depth - 1)) left (placed p) ≡ got rest end
+  pub goes-on : readActions terms b (behind 1 (readBody terms b (depth - 1))) left (placed p) ≡ got rest end
   pub entries : List Entry
   pub index : ActionIndex
   pub is-near : nearList tab entries index rest w
@@ -176,7 +176,7 @@ module _ (terms : Terms) (b : List ℕ) (at depth pos : ℕ) (tab old : List ℕ
       near : (x : ActionsOf Text ℕ) (es : List Entry) (xs : ActionListOf Text ℕ) → x ≡ body es xs → nearOf tab x pos → nearList tab es firstAction xs pos
       near x es xs h k =
           let m = rw h at (k .none-far) in
-          record { home = k .home; none-far = unfold mapBody traceBody in m }
+          record { home = k .home; number = k .number; none-far = unfold mapBody traceBody in m }
 
       same : (x : ActionsOf Text ℕ) (es : List Entry) (xs : ActionListOf Text ℕ) → x ≡ body es xs → listOf tab xs pos ≡ bodyOf tab x pos
       same x es xs h = rw h (unfold bodyOf listOf mapBody bodyBytes in refl)
@@ -187,9 +187,9 @@ module _ (terms : Terms) (b : List ℕ) (at depth pos : ℕ) (tab old : List ℕ
   module _ (left p w : ℕ) (out : List ℕ) where
     -- The next action has room.
     pub writing-room : 0 < left → Writing terms b at depth pos tab old left p w out → Room terms (readBody terms b depth) bodyLength nearOf b at pos tab old
-        → Room terms (readAction terms b (readBody terms b (depth - 1))) actionSize nearAction b p w tab out
+        → Room terms (readAction terms b (behind 1 (readBody terms b (depth - 1)))) actionSize nearAction b p w tab out
     writing-room h g r =
-        let f = first-of terms b (readBody terms b (depth - 1)) left p (g .rest) (g .end) h (g .goes-on) in
+        let f = first-of terms b (behind 1 (readBody terms b (depth - 1))) left p (g .rest) (g .end) h (g .goes-on) in
         let same : g .whole ≡ r .value = as-read (g .whole) (g .end) (r .value) (r .next) (g .is-read) (r .reads) in
         record {
           bytes = r .bytes;
@@ -208,14 +208,14 @@ module _ (terms : Terms) (b : List ℕ) (at depth pos : ℕ) (tab old : List ℕ
 
     -- It was written, and the others are still to be.
     pub writing-more : (new : List ℕ) (e : Ends) → 0 < left → Writing terms b at depth pos tab old left p w out
-        → Wrote (readAction terms b (readBody terms b (depth - 1))) actionSize (λ x. sets out w (actionOf tab x w)) p w new e
+        → Wrote (readAction terms b (behind 1 (readBody terms b (depth - 1)))) actionSize (λ x. sets out w (actionOf tab x w)) p w new e
         → Writing terms b at depth pos tab old (left - 1) (e .next) (e .pos .0) new
     writing-more new e h g k =
-        let f = first-of terms b (readBody terms b (depth - 1)) left p (g .rest) (g .end) h (g .goes-on) in
+        let f = first-of terms b (behind 1 (readBody terms b (depth - 1))) left p (g .rest) (g .end) h (g .goes-on) in
         go (f .first) (f .others) (f .then-at) (e .next) (e .pos .0) (f .is) (f .reads-others) (k .wrote (f .first) (f .then-at) (f .reads-first)) (k .ends .ended (f .first) (f .then-at) (f .reads-first))
       where
         go : (a : ActionOf Text ℕ) (xs : ActionListOf Text ℕ) (q : Place) (p′ w′ : ℕ) → g .rest ≡ more a xs
-            → readActions terms b (readBody terms b (depth - 1)) (left - 1) q ≡ got xs (g .end)
+            → readActions terms b (behind 1 (readBody terms b (depth - 1))) (left - 1) q ≡ got xs (g .end)
             → new ≡ sets out w (actionOf tab a w) → (w′ ≡ w + actionSize a) × (p′ ≡ q .at) → Writing terms b at depth pos tab old (left - 1) p′ w′ new
         go a xs q p′ w′ is r o t =
             record {
@@ -239,7 +239,7 @@ module _ (terms : Terms) (b : List ℕ) (at depth pos : ℕ) (tab old : List ℕ
     writing-end h g = record { wrote = λ x q e. same-bytes x q e; ends = record { ended = λ x q e. (same-end x q e, same-place x q e) } }
       where
         rest-none : (g .rest ≡ empty) × (g .end ≡ placed p)
-        rest-none = none-of terms b (readBody terms b (depth - 1)) left p (g .rest) (g .end) h (g .goes-on)
+        rest-none = none-of terms b (behind 1 (readBody terms b (depth - 1))) left p (g .rest) (g .end) h (g .goes-on)
 
         same-whole : (x : ActionsOf Text ℕ) (q : Place) → readBody terms b depth (placed at) ≡ got x q → (g .whole ≡ x) × (g .end ≡ q)
         same-whole x q e =

@@ -37,9 +37,9 @@ table-bits tab t h l after k =
 table-far : (bound : ℕ) (tab : List ℕ) (t : Actions) → TableHolds tab (events t) → bound ≤ length tab → UnderBody bound t → farBy (recordAt tab) (events t) ≡ tooFar (events t) (events t)
 table-far bound tab t h m u = refused-same _ _ (recordAt tab) (λ l. lookup l (events t)) (events t) (each-then (λ l s. l < bound) _ same (events t) (unfold events in labels.body-under bound t blockStart u))
   where
-    same : (l : ℕ) (s : Position) → l < bound → judged (recordAt tab l) (s .at + 2) ≡ judged (lookup l (events t)) (s .at + 2)
+    same : (l : ℕ) (s : Position) → l < bound → judged (recordAt tab l) (s .at + 2) (s .number) ≡ judged (lookup l (events t)) (s .at + 2) (s .number)
     same l s k =
-        ap (λ (o : Option Position). judged o (s .at + 2)) (table-record tab (events t) h l (omega (arith, k, m))) ∙ homed-judged 0 (lookup l (events t)) (s .at + 2)
+        ap (λ (o : Option Position). judged o (s .at + 2) (s .number)) (table-record tab (events t) h l (omega (arith, k, m))) ∙ homed-judged 0 (lookup l (events t)) (s .at + 2) (s .number)
 
 -- ---- the block
 
@@ -63,7 +63,7 @@ module _ (terms : Terms) (b tab out : List ℕ) (m : MainWritable terms b tab ou
     where
       near-main : (x : ActionsOf Text ℕ) (t : Actions) → mapBody spelling x ≡ t → UnderBody (terms .labelBound) (mapBody spelling x) → TableHolds tab (events t)
           → tooFar (events t) (events t) ≡ none → nearOf tab x 0
-      near-main x t i u h k = record { home = 0; none-far = rw i (unfold events in (table-far (terms .labelBound) tab t h (m .slots) (subst (UnderBody (terms .labelBound)) i u) ∙ k)) }
+      near-main x t i u h k = record { home = 0; number = 0; none-far = rw i (unfold events in (table-far (terms .labelBound) tab t h (m .slots) (subst (UnderBody (terms .labelBound)) i u) ∙ k)) }
 
   -- The same where the position is held in a number.
   pub main-room : {p : ℕ} → p ≡ 0 → Room terms (readBody terms b deepest) bodyLength nearOf b 0 p tab out

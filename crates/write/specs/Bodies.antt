@@ -93,10 +93,12 @@ actionOf tab x p = bytes (tableBits tab) (mapAction spelling x) p
 
 -- ---- branches of which none goes too far, by the label table
 
--- among the events from a position on, in some function body: the writer does not know in which, and no byte depends on it
+-- among the events from a position on, in some function body and from some action number on: the writer does not know which, and
+-- no byte depends on them
 pub record NearFrom (tab : List ℕ) (trace : Position → List Event) (p : ℕ) : Type 0 where
   pub home : ℕ
-  pub none-far : NoneFar (recordAt tab) (trace (position p home))
+  pub number : ℕ
+  pub none-far : NoneFar (recordAt tab) (trace (position p home number))
 
 -- those of a body that was read, at a position
 abbrev pub nearOf : List ℕ → ActionsOf Text ℕ → ℕ → Type 0

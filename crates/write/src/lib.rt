@@ -2,7 +2,7 @@
 ghost use mathlib.Core.Path.{_≡_};
 ghost use Prim.Native.Nat.{_+_, _-_, _≤_};
 ghost use lib.Seq.{sets};
-ghost use Rattle.layout.specs.Read.{readAction, readBody};
+ghost use Rattle.layout.specs.Read.{behind, readAction, readBody};
 ghost use Rattle.laws.specs.Resolved.{bodyLength, actionSize};
 ghost use Rattle.editions.specs.Allowed.{termsOf};
 ghost use Rattle.write.specs.Bodies.{bodiesOf, readIf, readTried, lengthIf, lengthTried, nearOf, nearIf, nearTried, nearAction, bodyOf, actionOf, closed, closedIf, closedTried, Room, Wrote, MainWritable, PutMain, AppendedMain, WroteBlock};
@@ -150,8 +150,8 @@ fn write_action(
     tab: &[usize],
     out: &mut [u8],
 ) -> Ends
-    requires { ⌜ Room (termsOf terms) (readAction (termsOf terms) (now b) (readBody (termsOf terms) (now b) depth)) actionSize nearAction (now b) at (pos .0) (now tab) (now out) ⌝ }
-    ensures { λ r. ⌜ Wrote (readAction (termsOf terms) (now (b .entry)) (readBody (termsOf terms) (now (b .entry)) depth)) actionSize (λ x. sets (now (out .entry)) (pos .0) (actionOf (now (tab .entry)) x (pos .0))) at (pos .0) (now (out .exit)) r ⌝ }
+    requires { ⌜ Room (termsOf terms) (readAction (termsOf terms) (now b) (behind 1 (readBody (termsOf terms) (now b) depth))) actionSize nearAction (now b) at (pos .0) (now tab) (now out) ⌝ }
+    ensures { λ r. ⌜ Wrote (readAction (termsOf terms) (now (b .entry)) (behind 1 (readBody (termsOf terms) (now (b .entry)) depth))) actionSize (λ x. sets (now (out .entry)) (pos .0) (actionOf (now (tab .entry)) x (pos .0))) at (pos .0) (now (out .exit)) r ⌝ }
 {
     let a = action_at(b, at);
     let e = write_head(b, terms, at, a, pos, tab, out);

@@ -17,6 +17,7 @@ pub fn limits(give: &mut dyn FnMut(Vec<u8>)) {
     depths(give);
     lengths(give);
     refused_by_mode(give);
+    numbered(give);
 }
 
 /// An action whose payload has this length.
@@ -323,6 +324,28 @@ fn refused_by_mode(give: &mut dyn FnMut(Vec<u8>)) {
             }
             give(main.times(15, longest.clone()).action(jump(last)));
         }
+    }
+}
+
+/// 6, 8 and 9 at an action that is not the first: each kind of owner behind a body and inside one, with a payload that is too long
+/// in its body and behind it, with a body that is too long by what stands in it, and as the last of Withs that go too deep.
+fn numbered(give: &mut dyn FnMut(Vec<u8>)) {
+    let pops = |n| Body::new().times(n, pop());
+    let too_long = set_target(&text(65_535));
+    for owner in OWNERS {
+        let behind = |body: &Body| pops(1).action(with(&pops(2))).action(owner(body));
+        let mut give_both = |main: Body| {
+            give(sheet(&[], &main.bytes()));
+            give(sheet(&[], &pops(1).action(with(&main)).bytes()));
+        };
+        give_both(behind(&pops(2)).action(too_long.clone()));
+        give_both(behind(&pops(1).action(too_long.clone())));
+        give_both(behind(&pops(65_533).action(call())));
+        give_both(behind(&pops(1).action(with(&pops(65_530)))));
+        let deep = (1..16).fold(pops(1).action(owner(&pops(1))), |body, _| {
+            pops(2).action(with(&body))
+        });
+        give(sheet(b"note", &deep.bytes()));
     }
 }
 

@@ -1,5 +1,5 @@
 use super::*;
-use crate::answer::{Fault, number, value};
+use crate::answer::{Fault, action, number, value};
 use crate::generate::write::{
     Body, Catch, branch, call, define_function, define_function_2, jump, pop, set_target, sheet,
     sheet_in, try_, with,
@@ -89,7 +89,7 @@ fn sums_worked_by_hand() {
             let sheet = sheet_in(edition, &[], &hex(main));
             for mode in Mode::ALL {
                 if mode.strict && main == P7 {
-                    assert_eq!(pack(&sheet, mode, room), Err(Refusal::NeverRecorded(3)));
+                    assert_eq!(pack(&sheet, mode, room), Err(Refusal::NeverRecorded(3, 0)));
                     continue;
                 }
                 assert_eq!(pack(&sheet, mode, room), Ok(block.clone()));
@@ -173,7 +173,7 @@ fn never_recorded_among_the_answers() {
     assert_eq!(pack(&sheet, Mode::PLAIN, 0), Err(Refusal::NoRoom(6)));
     assert_eq!(
         pack(&sheet, Mode::STRICT, 0),
-        Err(Refusal::NeverRecorded(3))
+        Err(Refusal::NeverRecorded(3, 0))
     );
 }
 
@@ -273,7 +273,7 @@ fn stray_among_the_answers() {
     assert_eq!(pack(&sheet, Mode::STRICT, 0), Err(Refusal::NoRoom(15)));
     assert_eq!(
         pack(&sheet, Mode::CONTAINED, 0),
-        Err(Refusal::StrayBranch(12))
+        Err(Refusal::StrayBranch(12, 1))
     );
 }
 
@@ -332,7 +332,7 @@ fn label_numbers_by_the_edition() {
     let noted = sheet_in(2, b"note", &hex("00 00 01 00 99 00 10"));
     assert_eq!(
         pack(&noted, Mode::PLAIN, 0),
-        Err(Refusal::Reading(Fault::BadField, 9))
+        Err(Refusal::Reading(Fault::BadField, 9, 0))
     );
 }
 
@@ -491,8 +491,12 @@ fn a_bare_opcode_is_written_as_it_was_read() {
         match pack(&sheet(&[], &[0, 0, 1, 0, opcode]), Mode::PLAIN, AMPLE) {
             Ok(block) if opcode < 0x80 => assert_eq!(block, [opcode, 0]),
             Ok(block) => assert_eq!(block, [opcode, 0, 0, 0]),
-            Err(Refusal::Reading(Fault::UnknownCode, 4)) => continue,
-            Err(refusal) => assert_eq!(refusal, Refusal::Reading(Fault::CutShort, 5)),
+            Err(Refusal::Reading(Fault::UnknownCode, 4, 0)) => continue,
+            Err(refusal) => {
+                // With alone has no field before its body.
+                let action = usize::from(opcode == 0x94);
+                assert_eq!(refusal, Refusal::Reading(Fault::CutShort, 5, action));
+            }
         }
         listed += 1;
     }
@@ -532,7 +536,7 @@ fn faults_and_their_places() {
     let noted = sheet(b"note", &hex("00 00 01 00 01"));
     assert_eq!(
         pack(&noted, Mode::PLAIN, 0),
-        Err(Refusal::Reading(Fault::UnknownCode, 8))
+        Err(Refusal::Reading(Fault::UnknownCode, 8, 0))
     );
 }
 
@@ -546,4 +550,289 @@ fn strings_outside_utf8_pass_through() {
     let block = "8B 03 00 79 7A 00 8B 04 00 FF 79 7A 00 8B 03 00 C3 A9 00 8B 02 00 80 00 00";
     let sheet = sheet(&[], &main.bytes());
     assert_eq!(pack(&sheet, Mode::PLAIN, AMPLE), Ok(hex(block)));
+}
+
+/// Number, value and action number of the answer in each mode to a main body, which are the same in both editions.
+fn all_told(main: &[u8]) -> [(u8, i64, usize); 4] {
+    let [one, two] = [1, 2].map(|edition| {
+        let sheet = sheet_in(edition, &[], main);
+        Mode::ALL.map(|mode| {
+            let answer = pack(&sheet, mode, AMPLE);
+            (number(&answer), value(&answer), action(&answer))
+        })
+    });
+    assert_eq!(one, two);
+    one
+}
+
+/// The same, which must be the same in every mode.
+fn told(main: &[u8]) -> (u8, i64, usize) {
+    let told = all_told(main);
+    assert_eq!(told, [told[0]; 4]);
+    told[0]
+}
+
+/// What stands before a body, from its owner's opcode on, and how many actions that is: With, both functions, and each body of a
+/// Try, the later ones behind others. No body of the owner comes behind it.
+const BEFORE_A_BODY: [(&str, usize); 8] = [
+    ("94", 1),
+    ("9B 01 00 66 01 00 01 00 78", 1),
+    ("8E 00 00 00 00 02 00 00", 1),
+    ("8F 00", 1),
+    ("8F 01 01 00 65 00 00 01 00 17", 2),
+    ("8F 05 03 00 00 00 00", 1),
+    ("8F 02 00 00 02 00 17 17", 3),
+    // Try of a With of a Pop, catch of a Pop
+    ("8F 07 03 00 00 01 00 94 00 00 01 00 17 00 00 01 00 17", 4),
+];
+
+/// Document 02, item 7: which action a fault of reading gives, in a body and behind it.
+#[test]
+fn faults_and_their_actions() {
+    // A body, its second action if there is one, and what stands behind it in main; the place and the number, both from the body's
+    // start on.
+    let cases = [
+        // the count of entries, a label, its index, the order of labels, the count of actions: the next action's
+        ("", 3, 0, 0),
+        ("01", 3, 0, 0),
+        ("01 00", 3, 2, 0),
+        ("01 00 FF FF", 5, 2, 0),
+        ("01 00 00 00 00", 3, 4, 0),
+        ("02 00 05 00 00 00 05 00 00 00", 5, 6, 0),
+        ("00 00", 3, 2, 0),
+        ("01 00 05 00 00 00 01", 3, 6, 0),
+        // an opcode that is missing and one that is unknown, first and second
+        ("00 00 01 00", 3, 4, 0),
+        ("00 00 01 00 01", 4, 4, 0),
+        ("00 00 02 00 17", 3, 5, 1),
+        ("00 00 02 00 17 01", 4, 5, 1),
+        // fields, counts and items inside an action: its own
+        ("00 00 02 00 17 99 FF", 3, 6, 1),
+        ("00 00 02 00 17 9D FF FF", 5, 6, 1),
+        ("00 00 02 00 17 8F 04", 5, 6, 1),
+        ("00 00 02 00 17 88 02", 3, 6, 1),
+        ("00 00 02 00 17 88 02 00 00 00", 3, 10, 1),
+        ("00 00 02 00 17 8B 02 00 61 00", 5, 9, 1),
+        ("00 00 02 00 17 96 02 00 02 01", 4, 9, 1),
+        ("00 00 02 00 17 9B 00 00 01", 3, 8, 1),
+        ("00 00 02 00 17 8E 00 00 00 00 00 00 02", 5, 11, 1),
+        // behind the body, whose actions count: an opcode, a field, and what is left over
+        ("00 00 00 00", 3, 4, 0),
+        ("00 00 02 00 17 17", 3, 6, 2),
+        ("00 00 02 00 17 17 01", 4, 6, 2),
+        ("00 00 02 00 17 17 99 FF FF", 5, 7, 2),
+        ("00 00 01 00 94 00 00 01 00 17 99 FF FF", 5, 11, 2),
+        ("00 00 00 00 17 00", 7, 5, 1),
+        ("00 00 02 00 17 17 17 17", 7, 7, 3),
+    ];
+    for (before, actions) in BEFORE_A_BODY {
+        // as action 1 of main's three
+        let front = [hex("00 00 03 00 17"), hex(before)].concat();
+        for (rest, number, place, next) in cases {
+            let main = [&front[..], &hex(rest)].concat();
+            let due = (number, (front.len() + place) as i64, 1 + actions + next);
+            assert_eq!(told(&main), due, "{before} | {rest}");
+        }
+    }
+}
+
+/// In main nothing comes before the first action, and a missing main body is a missing count.
+#[test]
+fn faults_of_the_main_body_and_their_actions() {
+    let cases = [
+        ("", 3, 0, 0),
+        ("01 00 FF FF", 5, 2, 0),
+        ("00 00", 3, 2, 0),
+        ("00 00 02 00", 3, 4, 0),
+        ("00 00 02 00 17", 3, 5, 1),
+        ("00 00 02 00 17 01", 4, 5, 1),
+        ("00 00 02 00 01 17", 4, 4, 0),
+        ("00 00 00 00 17", 7, 4, 0),
+        ("00 00 02 00 17 17 17", 7, 6, 2),
+    ];
+    for (main, number, place, action) in cases {
+        assert_eq!(told(&hex(main)), (number, place, action), "{main}");
+    }
+}
+
+/// A body that is too deep gives its owner, whether or not a byte of it is there.
+#[test]
+fn too_deep_and_its_owner() {
+    let withs = |front: &str| hex(front).repeat(16);
+    assert_eq!(told(&withs("00 00 01 00 94")), (6, 80, 15));
+    let with_body = [withs("00 00 01 00 94"), hex("00 00 00 00")].concat();
+    assert_eq!(told(&with_body), (6, 80, 15));
+    // a Pop before each; Withs and Pops in a body before the last
+    assert_eq!(told(&withs("00 00 02 00 17 94")), (6, 96, 31));
+    let last = [
+        hex("00 00 01 00 94").repeat(15),
+        hex("00 00 02 00 9B 00 00 00 00"),
+    ]
+    .concat();
+    assert_eq!(told(&last), (6, 75 + 9, 15));
+    let beside = hex("00 00 02 00 94 00 00 02 00 17 17 94");
+    let beside = [beside, hex("00 00 01 00 94").repeat(15)].concat();
+    assert_eq!(told(&beside), (6, 12 + 75, 18));
+    // of a Try's bodies the first is too deep, with a catch too
+    for (owner, length) in [
+        ("8F 00", 2),
+        ("8F 07 00", 3),
+        ("8E 00 00 00 00 00 00 00", 8),
+    ] {
+        let main = [hex("00 00 01 00 94").repeat(15), hex("00 00 02 00 17")].concat();
+        let main = [main, hex(owner)].concat();
+        assert_eq!(told(&main), (6, 80 + length, 16), "{owner}");
+    }
+}
+
+/// An owner of a body, and how many actions it has before that body, itself counted. The others of a Try's bodies have a Pop each.
+type Owner = fn(&Body) -> Vec<u8>;
+
+fn owners() -> [(Owner, usize); 6] {
+    fn other() -> Body {
+        Body::new().action(pop())
+    }
+    [
+        (with, 1),
+        (|body| define_function(b"f", &[b"x"], body), 1),
+        (|body| define_function_2(b"f", &[], 0, 0, body), 1),
+        (|body| try_(body, None, None), 1),
+        (
+            |body| try_(&other(), Some(Catch::Register(3, body)), None),
+            2,
+        ),
+        (
+            |body| try_(&other(), Some(Catch::Name(b"e", &other())), Some(body)),
+            3,
+        ),
+    ]
+}
+
+/// 8 gives the action whose payload it is.
+#[test]
+fn long_payloads_and_their_actions() {
+    let long = || set_target(&[b'a'; 65_535]);
+    let short = Body::new().times(2, pop());
+    let holds = Body::new().action(pop()).action(long());
+    let told = |main: Body| told(&main.bytes());
+    let behind_pop = || Body::new().action(pop());
+    assert_eq!(told(Body::new().action(long())), (8, 65_536, 0));
+    assert_eq!(told(behind_pop().action(long())), (8, 65_536, 1));
+    let first = behind_pop().action(long()).action(long());
+    assert_eq!(told(first), (8, 65_536, 1));
+    for (owner, before) in owners() {
+        let behind = behind_pop().action(owner(&short)).action(long());
+        assert_eq!(told(behind), (8, 65_536, 1 + before + 2));
+        let inside = behind_pop().action(owner(&holds)).action(long());
+        assert_eq!(told(inside), (8, 65_536, 1 + before + 1));
+    }
+    // a payload is tested before its bodies
+    let name = [b'a'; 65_535];
+    let function = define_function(&name, &[], &holds);
+    assert_eq!(told(behind_pop().action(function)), (8, 65_540, 1));
+    let function = define_function_2(&name, &[], 0, 0, &holds);
+    assert_eq!(told(behind_pop().action(function)), (8, 65_543, 1));
+    let attempt = try_(&holds, Some(Catch::Name(&name, &holds)), Some(&holds));
+    assert_eq!(told(behind_pop().action(attempt)), (8, 65_543, 1));
+}
+
+/// 9 gives the action that owns the body.
+#[test]
+fn long_bodies_and_their_owners() {
+    // 65,536 bytes
+    let wide = Body::new().action(call()).times(65_533, pop());
+    let actions = usize::from(wide.count());
+    let told = |main: Body| told(&main.bytes());
+    let behind_pop = || Body::new().action(pop());
+    for (owner, before) in owners() {
+        assert_eq!(told(Body::new().action(owner(&wide))), (9, 65_536, 0));
+        let behind = behind_pop().action(with(&behind_pop()));
+        let behind = behind.action(owner(&wide));
+        assert_eq!(told(behind.action(pop())), (9, 65_536, 3));
+        // of two bodies, one in the other, the inner one
+        let inner = behind_pop().action(owner(&wide));
+        assert_eq!(told(behind_pop().action(with(&inner))), (9, 65_536, 3));
+        let inner = behind_pop().action(with(&wide));
+        let outer = behind_pop().action(owner(&inner));
+        assert_eq!(told(outer), (9, 65_536, 1 + before + 1));
+        // a body that is too long by the body inside it
+        let inner = Body::new().times(65_530, pop());
+        let outer = behind_pop().action(with(&inner));
+        let outer = behind_pop().action(owner(&outer)).action(owner(&wide));
+        assert_eq!(told(outer), (9, 65_536, 1));
+    }
+    // behind a body that is just short enough
+    let full = Body::new().times(65_535, pop());
+    let behind = behind_pop().action(with(&full)).action(with(&wide));
+    assert_eq!(told(behind), (9, 65_536, 65_537));
+
+    // Try's are tested after all three, and after what stands in them
+    let longer = wide.clone().action(pop());
+    let attempt = try_(&wide, Some(Catch::Name(b"e", &longer)), Some(&longer));
+    assert_eq!(told(behind_pop().action(attempt)), (9, 65_536, 1));
+    let holds_body = behind_pop().action(with(&longer));
+    let attempt = try_(&wide, Some(Catch::Name(b"e", &holds_body)), Some(&longer));
+    let due = (9, 65_537, 2 + actions + 1);
+    assert_eq!(told(behind_pop().action(attempt)), due);
+    let holds_payload = behind_pop().action(set_target(&[b'a'; 65_535]));
+    let attempt = try_(
+        &wide,
+        Some(Catch::Name(b"e", &holds_payload)),
+        Some(&longer),
+    );
+    let due = (8, 65_536, 2 + actions + 1);
+    assert_eq!(told(behind_pop().action(attempt)), due);
+}
+
+/// 10, 14 and 15 give the branch.
+#[test]
+fn branches_and_their_actions() {
+    let told = |main: Body| all_told(&main.bytes()).map(|(number, _, action)| (number, action));
+    // main begins with an If, which every mode takes; then the owner, of a body with two actions; then others
+    let main = || Body::new().label(0, 0).action(branch(0x9D, 0));
+    let pops = Body::new().times(2, pop());
+    let far = with(&Body::new().times(40_000, pop()));
+    let done = (0, 0);
+    for (owner, before) in owners() {
+        let (inner, behind) = (1 + before + 1, 1 + before + 2);
+        let branches = Body::new().action(pop()).action(jump(1));
+
+        let lost = main().action(owner(&branches)).action(jump(2));
+        let refused = (14, inner);
+        assert_eq!(told(lost), [done, refused, done, refused]);
+        let lost = main().action(owner(&pops)).action(jump(2));
+        let refused = (14, behind);
+        assert_eq!(told(lost), [done, refused, done, refused]);
+
+        let over = main().label(1, 3).action(owner(&branches));
+        assert_eq!(told(over.action(far.clone()))[0], (10, inner));
+        let over = main().label(1, 4).action(owner(&pops)).action(jump(1));
+        assert_eq!(told(over.action(far.clone())), [(10, behind); 4]);
+
+        // out of a function that stands second in the body, and into it
+        let out = Body::new().action(jump(0));
+        let out = Body::new().action(pop()).action(function(&out));
+        let refused = (15, inner + 1);
+        let stray = main().action(owner(&out));
+        assert_eq!(told(stray), [done, done, refused, refused]);
+        let records = Body::new().label(1, 0).times(2, pop());
+        let records = Body::new().action(pop()).action(function(&records));
+        let refused = (15, behind + 2);
+        let stray = main().action(owner(&records)).action(jump(1));
+        assert_eq!(told(stray), [done, done, refused, refused]);
+    }
+}
+
+/// Done and the refusals that are of no action.
+#[test]
+fn answers_without_an_action() {
+    let main = Body::new().action(with(&Body::new().times(3, pop())));
+    let main = main.action(jump(0)).label(0, 2).bytes();
+    assert_eq!(told(&main), (0, 14, 0));
+    let good = sheet(&[], &main);
+    assert_eq!(action(&pack(&good, Mode::PLAIN, 13)), 0);
+    assert_eq!(action(&pack(&good[1..], Mode::PLAIN, AMPLE)), 0);
+    let too_long = sheet(&vec![0; 1_048_577], &main);
+    assert_eq!(action(&pack(&too_long, Mode::PLAIN, AMPLE)), 0);
+    assert_eq!(Refusal::InputFull(65_536).action(), 0);
 }

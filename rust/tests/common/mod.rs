@@ -133,6 +133,31 @@ fn all_sums() -> Vec<(Vec<u8>, Vec<u8>)> {
     ]
 }
 
+/// More than the blocks of these tests need.
+pub const ROOM: usize = 200_000;
+
+/// The refusal in this mode, with its number, value and action number held to the documents'.
+pub fn refused_in(mode: Mode, sheet: &[u8], number: u32, value: i64, action: u64) -> Refusal {
+    let refusal = packed(sheet, mode, ROOM).expect_err("a refusal");
+    // One that names no action has action number 0.
+    let named = refusal.action().unwrap_or(0);
+    assert_eq!(
+        (refusal.number(), refusal.value(), named),
+        (number, value, action),
+        "{refusal:?}"
+    );
+    // What is wrong with a sheet comes before the room.
+    assert_eq!(packed(sheet, mode, 0), Err(refusal));
+    refusal
+}
+
+/// The refusal, which is the same in every mode.
+pub fn refused(sheet: &[u8], number: u32, value: i64, action: u64) -> Refusal {
+    let refusals = MODES.map(|mode| refused_in(mode, sheet, number, value, action));
+    assert_eq!(refusals, [refusals[0]; 4]);
+    refusals[0]
+}
+
 /// Packs into an output of this room, twice, over two fills. Fails if a byte changed that must keep its value: past a Done
 /// length, on a refusal any, and around the output.
 pub fn packed(sheet: &[u8], mode: Mode, room: usize) -> Result<Vec<u8>, Refusal> {

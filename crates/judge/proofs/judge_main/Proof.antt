@@ -20,10 +20,10 @@ enum-told : tie.Need-enum-told
 enum-told c = search needs
 
 returns-2 : tie.Need-returns-2
-returns-2 c = main-bad _ _ _ _ _ _ (c .before .before .before .before .before .before .before .before .before .pre) _ (c .before .before .before .judge-body .ensures) _ (c .before .bad .given .1)
+returns-2 c = main-bad _ _ _ _ _ _ (c .before .before .before .before .before .before .before .before .before .pre) _ (c .before .before .before .judge-body .ensures) _ _ (c .before .bad .given .1)
 
 returns-3 : tie.Need-returns-3
-returns-3 c = main-passed _ _ _ _ _ _ (c .before .before .before .before .before .before .before .before .pre) _ (c .before .before .judge-body .ensures) _ _ (c .enum-told .given .1)
+returns-3 c = main-passed _ _ _ _ _ _ (c .before .before .before .before .before .before .before .before .pre) _ (c .before .before .judge-body .ensures) _ _ _ (c .enum-told .given .1)
 
 pub judge-main-spec : {M : Type 1} → statement M
 judge-main-spec =

@@ -17,13 +17,13 @@ note-long-requires : tie.Need-note-long-requires
 note-long-requires c κs = search needs
 
 returns : tie.Need-returns
-returns c = (lay.function-stops _ _ _ (c .before .r .given .1), lay.noted-stops _ _ _ _ _ (c .before .r .given .1))
+returns c = (lay.function-stops _ _ _ (c .before .r .given .1), lay.noted-stops _ _ _ _ _ _ (c .before .r .given .1))
 
 same-length : tie.Need-same-length
 same-length c = search needs
 
 returns-2 : tie.Need-returns-2
-returns-2 c = (lay.function-ends _ _ _ (c .before .before .before .before .before .before .before .r2 .given .1), lay.noted-ends _ _ _ _ _ _ (c .before .before .before .before .before .before .before .r2 .given .1) (c .before .before .note-long .ensures))
+returns-2 c = (lay.function-ends _ _ _ (c .before .before .before .before .before .before .before .r2 .given .1), lay.noted-ends _ _ _ _ _ _ _ (c .before .before .before .before .before .before .before .r2 .given .1) (c .before .before .note-long .ensures))
 
 pub function-payload-spec : {M : Type 1} → statement M
 function-payload-spec =

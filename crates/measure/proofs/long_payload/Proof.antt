@@ -20,16 +20,16 @@ same-length : tie.Need-same-length
 same-length c = search needs
 
 returns : tie.Need-returns
-returns c = (lay.laid-flat _ _ _ _ (c .before .before .before .before .before .before .before .before .r2 .given .1) (c .if1 .taken), lay.noted-ends _ _ _ _ _ _ (c .before .before .before .before .before .before .before .before .r2 .given .1) (c .before .before .before .note-long .ensures))
+returns c = (lay.laid-flat _ _ _ _ (c .before .before .before .before .before .before .before .before .r2 .given .1) (c .if1 .taken), lay.noted-ends _ _ _ _ _ _ _ (c .before .before .before .before .before .before .before .before .r2 .given .1) (c .before .before .before .note-long .ensures))
 
 returns-2 : tie.Need-returns-2
-returns-2 c = (lay.laid-stops _ _ _ _ (c .before .r .given .1), lay.noted-stops _ _ _ _ _ (c .before .r .given .1))
+returns-2 c = (lay.laid-stops _ _ _ _ (c .before .r .given .1), lay.noted-stops _ _ _ _ _ _ (c .before .r .given .1))
 
 same-length-2 : tie.Need-same-length-2
 same-length-2 c = search needs
 
 returns-3 : tie.Need-returns-3
-returns-3 c = (lay.laid-bodies _ _ _ _ (c .before .before .before .before .before .before .before .before .r2 .given .1) (c .if1 .left), lay.noted-ends _ _ _ _ _ _ (c .before .before .before .before .before .before .before .before .r2 .given .1) (c .before .before .before .note-long .ensures))
+returns-3 c = (lay.laid-bodies _ _ _ _ (c .before .before .before .before .before .before .before .before .r2 .given .1) (c .if1 .left), lay.noted-ends _ _ _ _ _ _ _ (c .before .before .before .before .before .before .before .before .r2 .given .1) (c .before .before .before .note-long .ensures))
 
 pub long-payload-spec : {M : Type 1} → statement M
 long-payload-spec =

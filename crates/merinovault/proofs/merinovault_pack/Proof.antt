@@ -5,7 +5,7 @@ use native.Mathlib.Omega.{arith}
 use Rattle.layout.specs.Answers.{lengthOf}
 use Rattle.laws.specs.Fits.{all-bytes}
 use Rattle.merinovault.specs.Calls.{Lent}
-use Rattle.merinovault.proofs.Values.{eight, other, told-bytes}
+use Rattle.merinovault.proofs.Values.{sixteen, other, told-bytes}
 use borrow.Author.Needs.{needs}
 use Rattle.merinovault.proofs.merinovault_pack.Statement.{statement}
 use Rattle.merinovault.proofs.merinovault_pack.Tie as tie
@@ -24,8 +24,11 @@ pack-requires c κs = search needs
 value-of-requires : tie.Need-value-of-requires
 value-of-requires c κs = search needs
 
-fill-u64-requires : tie.Need-fill-u64-requires
-fill-u64-requires c κs = search needs
+action-of-requires : tie.Need-action-of-requires
+action-of-requires c κs = search needs
+
+fill-value-requires : tie.Need-fill-value-requires
+fill-value-requires c κs = search needs
 
 number-of-requires : tie.Need-number-of-requires
 number-of-requires c κs = search needs
@@ -38,13 +41,13 @@ same-length-2 c = search needs
 
 returns-2 : tie.Need-returns-2
 returns-2 c =
-    let e = c .before .before .before .before .before .before .before .before .before .before .if1 .left in
-    let o = c .before .before .before .before .before .before .before .before .pack .ensures in
+    let e = c .before .before .before .before .before .before .before .before .before .before .before .if1 .left in
+    let o = c .before .before .before .before .before .before .before .before .before .pack .ensures in
     record {
-      is-lent = is-lent (c .before .before .before .before .before .before .before .before .before .before .before .before .before);
-      is-number = c .number-of .ensures ∙ o .told .is-number ∙ sym (eight _ _ _ e);
-      is-value = told-bytes lengthOf _ (c .before .before .before .fill-u64 .ensures) (c .before .before .before .before .value-of .ensures .0) (o .told .is-value) ∙ sym (eight _ _ _ e);
-      is-output = o .holds ∙ sym (eight _ _ _ e);
+      is-lent = is-lent (c .before .before .before .before .before .before .before .before .before .before .before .before .before .before);
+      is-number = c .number-of .ensures ∙ o .told .is-number ∙ sym (sixteen _ _ _ e);
+      is-value = told-bytes lengthOf _ (c .before .before .before .fill-value .ensures) (c .before .before .before .before .before .value-of .ensures .0) (o .told .is-value) (omega arith) (c .before .before .before .before .action-of .ensures ∙ o .told .is-action) ∙ sym (sixteen _ _ _ e);
+      is-output = o .holds ∙ sym (sixteen _ _ _ e);
     }
 
 pub merinovault-pack-spec : {M : Type 1} → statement M
@@ -54,7 +57,8 @@ merinovault-pack-spec =
     returns
     pack-requires
     value-of-requires
-    fill-u64-requires
+    action-of-requires
+    fill-value-requires
     number-of-requires
     same-length
     same-length-2

@@ -23,14 +23,14 @@ step-requires c κs = search needs
 enum-known-n : tie.Need-enum-known-n
 enum-known-n c = search needs
 
-fill-u64-requires : tie.Need-fill-u64-requires
-fill-u64-requires c κs = search needs
+fill-value-requires : tie.Need-fill-value-requires
+fill-value-requires c κs = search needs
 
 enum-known-p : tie.Need-enum-known-p
 enum-known-p c = search needs
 
-fill-u64-requires-2 : tie.Need-fill-u64-requires-2
-fill-u64-requires-2 c κs = search needs
+fill-value-requires-2 : tie.Need-fill-value-requires-2
+fill-value-requires-2 c κs = search needs
 
 same-length : tie.Need-same-length
 same-length c = search needs
@@ -43,7 +43,7 @@ returns-2 c =
     record {
       is-lent = is-lent (m .before .before .before);
       is-number = done-number _ _ [] e _ d;
-      is-value = done-value _ _ _ e _ d (omega arith) (c .before .before .fill-u64 .ensures);
+      is-value = done-value _ _ _ e _ d (omega arith) (c .before .before .fill-value .ensures);
     }
 
 same-length-2 : tie.Need-same-length-2
@@ -57,7 +57,7 @@ returns-3 c =
     record {
       is-lent = is-lent (m .before .before .before);
       is-number = unclean-number _ _ [] e _ d;
-      is-value = unclean-value _ _ _ e _ d (omega arith) (c .before .before .fill-u642 .ensures);
+      is-value = unclean-value _ _ _ e _ d (omega arith) (c .before .before .fill-value2 .ensures);
     }
 
 pub merinovault-step-spec : {M : Type 1} → statement M
@@ -67,9 +67,9 @@ merinovault-step-spec =
     returns
     step-requires
     enum-known-n
-    fill-u64-requires
+    fill-value-requires
     enum-known-p
-    fill-u64-requires-2
+    fill-value-requires-2
     same-length
     returns-2
     same-length-2

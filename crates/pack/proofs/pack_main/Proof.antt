@@ -35,7 +35,7 @@ same-length-2 : tie.Need-same-length-2
 same-length-2 c = search needs
 
 returns : tie.Need-returns
-returns c = packs.read-stops _ _ _ _ _ _ _ (c .before .before .before .before .before .before .before .before .before .read-main .ensures) _ _ _ _ (c .before .before .f .given .1) _ (c .fault-answer .ensures)
+returns c = packs.read-stops _ _ _ _ _ _ _ (c .before .before .before .before .before .before .before .before .before .read-main .ensures) _ _ _ _ _ (c .before .before .f .given .1) _ (c .fault-answer .ensures)
 
 same-length-3 : tie.Need-same-length-3
 same-length-3 c = search needs

@@ -24,7 +24,7 @@ pack-near-requires c κs =
 returns : tie.Need-returns
 returns c =
     let m = c .before .before .before .before in
-    packs.short-bad _ _ _ _ _ _ (m .before .before .before .before .before .pre) _ (m .judge-main .ensures) _ (c .before .before .bad .given .1) _ (c .branch-answer .ensures) _
+    packs.short-bad _ _ _ _ _ _ (m .before .before .before .before .before .pre) _ (m .judge-main .ensures) _ _ (c .before .before .bad .given .1) _ (c .branch-answer .ensures) _
 
 same-length : tie.Need-same-length
 same-length c = search needs

@@ -8,14 +8,14 @@ use Rattle.payload.proofs.scan_payload.Tie as tie
 add-p : tie.Need-add-p
 add-p c = search needs
 
-add-t11 : tie.Need-add-t11
-add-t11 c = search needs
+add-t12 : tie.Need-add-t12
+add-t12 c = search needs
 
-add-t11-2 : tie.Need-add-t11-2
-add-t11-2 c = search needs
+add-t12-2 : tie.Need-add-t12-2
+add-t12-2 c = search needs
 
-add-t11-3 : tie.Need-add-t11-3
-add-t11-3 c = search needs
+add-t12-3 : tie.Need-add-t12-3
+add-t12-3 c = search needs
 
 scan-bytes-requires : tie.Need-scan-bytes-requires
 scan-bytes-requires c κs = search needs
@@ -38,8 +38,8 @@ flat-payload-requires-2 c κs = search needs
 constant-pool-len-requires : tie.Need-constant-pool-len-requires
 constant-pool-len-requires c κs = search needs
 
-add-t20 : tie.Need-add-t20
-add-t20 c = search needs
+add-t21 : tie.Need-add-t21
+add-t21 c = search needs
 
 scan-strings-requires : tie.Need-scan-strings-requires
 scan-strings-requires c κs =
@@ -87,8 +87,8 @@ scan-try-requires c κs =
 push-len-requires : tie.Need-push-len-requires
 push-len-requires c κs = search needs
 
-add-t39 : tie.Need-add-t39
-add-t39 c = search needs
+add-t40 : tie.Need-add-t40
+add-t40 c = search needs
 
 scan-push-requires : tie.Need-scan-push-requires
 scan-push-requires c κs = search needs
@@ -114,8 +114,8 @@ function-payload-requires-2 c κs = (c .before .before .before .before .before .
 scan-branch-requires-2 : tie.Need-scan-branch-requires-2
 scan-branch-requires-2 c κs = search needs
 
-add-t47 : tie.Need-add-t47
-add-t47 c = search needs
+add-t48 : tie.Need-add-t48
+add-t48 c = search needs
 
 scan-goto-frame-2-requires : tie.Need-scan-goto-frame-2-requires
 scan-goto-frame-2-requires c κs = search needs
@@ -124,94 +124,94 @@ flat-payload-requires-6 : tie.Need-flat-payload-requires-6
 flat-payload-requires-6 c κs = search needs
 
 returns : tie.Need-returns
-returns c = arms.arm-goto-frame _ _ _ _ _ _ _ _ (c .before .before .match .keys1) (c .before .scan-bytes .ensures) (c .flat-payload .ensures)
+returns c = arms.arm-goto-frame _ _ _ _ _ _ _ _ _ (c .before .before .match .keys1) (c .before .scan-bytes .ensures) (c .flat-payload .ensures)
 
 same-length : tie.Need-same-length
 same-length c = search needs
 
 returns-2 : tie.Need-returns-2
-returns-2 c = arms.arm-get-url _ _ _ _ _ _ _ _ _ (c .before .before .before .before .before .match .keys2) (c .before .before .before .before .scan-get-url .ensures) (c .before .before .long-payload .ensures .0) (c .before .before .long-payload .ensures .1)
+returns-2 c = arms.arm-get-url _ _ _ _ _ _ _ _ _ _ (c .before .before .before .before .before .match .keys2) (c .before .before .before .before .scan-get-url .ensures) (c .before .before .long-payload .ensures .0) (c .before .before .long-payload .ensures .1)
 
 returns-3 : tie.Need-returns-3
-returns-3 c = arms.arm-store-register _ _ _ _ _ _ _ _ (c .before .before .match .keys3) (c .before .scan-bytes2 .ensures) (c .flat-payload2 .ensures)
+returns-3 c = arms.arm-store-register _ _ _ _ _ _ _ _ _ (c .before .before .match .keys3) (c .before .scan-bytes2 .ensures) (c .flat-payload2 .ensures)
 
 same-length-2 : tie.Need-same-length-2
 same-length-2 c = search needs
 
 returns-4 : tie.Need-returns-4
-returns-4 c = arms.arm-constant-pool _ _ _ _ _ _ _ _ _ _ (c .before .before .before .before .before .before .before .match .keys4) (omega (arith, c .before .before .before .before .before .before .constant-pool-len .ensures)) (c .before .before .before .before .scan-strings .ensures) (c .before .before .long-payload2 .ensures .0) (c .before .before .long-payload2 .ensures .1)
+returns-4 c = arms.arm-constant-pool _ _ _ _ _ _ _ _ _ _ _ (c .before .before .before .before .before .before .before .match .keys4) (omega (arith, c .before .before .before .before .before .before .constant-pool-len .ensures)) (c .before .before .before .before .scan-strings .ensures) (c .before .before .long-payload2 .ensures .0) (c .before .before .long-payload2 .ensures .1)
 
 returns-5 : tie.Need-returns-5
-returns-5 c = arms.arm-wait-for-frame _ _ _ _ _ _ _ _ (c .before .before .match .keys5) (c .before .scan-wait-for-frame .ensures) (c .flat-payload3 .ensures)
+returns-5 c = arms.arm-wait-for-frame _ _ _ _ _ _ _ _ _ (c .before .before .match .keys5) (c .before .scan-wait-for-frame .ensures) (c .flat-payload3 .ensures)
 
 same-length-3 : tie.Need-same-length-3
 same-length-3 c = search needs
 
 returns-6 : tie.Need-returns-6
-returns-6 c = arms.arm-set-target _ _ _ _ _ _ _ _ _ (c .before .before .before .before .before .match .keys6) (c .before .before .before .before .scan-string .ensures) (c .before .before .long-payload3 .ensures .0) (c .before .before .long-payload3 .ensures .1)
+returns-6 c = arms.arm-set-target _ _ _ _ _ _ _ _ _ _ (c .before .before .before .before .before .match .keys6) (c .before .before .before .before .scan-string .ensures) (c .before .before .long-payload3 .ensures .0) (c .before .before .long-payload3 .ensures .1)
 
 same-length-4 : tie.Need-same-length-4
 same-length-4 c = search needs
 
 returns-7 : tie.Need-returns-7
-returns-7 c = arms.arm-goto-label _ _ _ _ _ _ _ _ _ (c .before .before .before .before .before .match .keys7) (c .before .before .before .before .scan-string2 .ensures) (c .before .before .long-payload4 .ensures .0) (c .before .before .long-payload4 .ensures .1)
+returns-7 c = arms.arm-goto-label _ _ _ _ _ _ _ _ _ _ (c .before .before .before .before .before .match .keys7) (c .before .before .before .before .scan-string2 .ensures) (c .before .before .long-payload4 .ensures .0) (c .before .before .long-payload4 .ensures .1)
 
 returns-8 : tie.Need-returns-8
-returns-8 c = arms.arm-wait-for-frame-2 _ _ _ _ _ _ _ _ (c .before .before .match .keys8) (c .before .scan-bytes3 .ensures) (c .flat-payload4 .ensures)
+returns-8 c = arms.arm-wait-for-frame-2 _ _ _ _ _ _ _ _ _ (c .before .before .match .keys8) (c .before .scan-bytes3 .ensures) (c .flat-payload4 .ensures)
 
 same-length-5 : tie.Need-same-length-5
 same-length-5 c = search needs
 
 returns-9 : tie.Need-returns-9
-returns-9 c = arms.arm-define-function-2 _ _ _ _ _ _ _ _ (c .before .before .before .before .before .before .before .before .before .before .before .pre .3 .bytes) (omega arith) _ (c .before .before .before .before .before .match .keys9) (c .before .before .before .before .scan-define-function-2 .ensures) (c .before .before .function-payload .ensures .0) (c .before .before .function-payload .ensures .1)
+returns-9 c = arms.arm-define-function-2 _ _ _ _ _ _ _ _ _ (c .before .before .before .before .before .before .before .before .before .before .before .pre .3 .bytes) (omega arith) _ (c .before .before .before .before .before .match .keys9) (c .before .before .before .before .scan-define-function-2 .ensures) (c .before .before .function-payload .ensures .0) (c .before .before .function-payload .ensures .1)
 
 same-length-6 : tie.Need-same-length-6
 same-length-6 c = search needs
 
 returns-10 : tie.Need-returns-10
-returns-10 c = arms.arm-try _ _ _ _ _ _ (c .before .before .before .before .before .before .before .before .before .before .pre .3 .bytes) (omega arith) _ _ (c .before .before .before .before .match .keys10) (c .before .before .scan-try .ensures)
+returns-10 c = arms.arm-try _ _ _ _ _ _ _ (c .before .before .before .before .before .before .before .before .before .before .pre .3 .bytes) (omega arith) _ _ (c .before .before .before .before .match .keys10) (c .before .before .scan-try .ensures)
 
 returns-11 : tie.Need-returns-11
-returns-11 c = arms.arm-with _ _ _ _ _ _ (c .match .keys11) (omega arith)
+returns-11 c = arms.arm-with _ _ _ _ _ _ _ (c .match .keys11) (omega arith)
 
 same-length-7 : tie.Need-same-length-7
 same-length-7 c = search needs
 
 returns-12 : tie.Need-returns-12
-returns-12 c = arms.arm-push _ _ _ _ _ _ _ _ _ _ (c .before .before .before .before .before .before .before .match .keys12) (omega (arith, c .before .before .before .before .before .before .push-len .ensures)) (c .before .before .before .before .scan-push .ensures) (c .before .before .long-payload5 .ensures .0) (c .before .before .long-payload5 .ensures .1)
+returns-12 c = arms.arm-push _ _ _ _ _ _ _ _ _ _ _ (c .before .before .before .before .before .before .before .match .keys12) (omega (arith, c .before .before .before .before .before .before .push-len .ensures)) (c .before .before .before .before .scan-push .ensures) (c .before .before .long-payload5 .ensures .0) (c .before .before .long-payload5 .ensures .1)
 
 returns-13 : tie.Need-returns-13
-returns-13 c = arms.arm-jump _ _ _ _ _ _ _ (omega arith) (c .before .match .keys13) (c .scan-branch .ensures)
+returns-13 c = arms.arm-jump _ _ _ _ _ _ _ _ (omega arith) (c .before .match .keys13) (c .scan-branch .ensures)
 
 returns-14 : tie.Need-returns-14
-returns-14 c = arms.arm-get-url-2 _ _ _ _ _ _ _ _ (c .before .before .match .keys14) (c .before .scan-get-url-2 .ensures) (c .flat-payload5 .ensures)
+returns-14 c = arms.arm-get-url-2 _ _ _ _ _ _ _ _ _ (c .before .before .match .keys14) (c .before .scan-get-url-2 .ensures) (c .flat-payload5 .ensures)
 
 same-length-8 : tie.Need-same-length-8
 same-length-8 c = search needs
 
 returns-15 : tie.Need-returns-15
-returns-15 c = arms.arm-define-function _ _ _ _ _ _ _ _ (c .before .before .before .before .before .before .before .before .before .before .before .pre .3 .bytes) (omega arith) _ (c .before .before .before .before .before .match .keys15) (c .before .before .before .before .scan-define-function .ensures) (c .before .before .function-payload2 .ensures .0) (c .before .before .function-payload2 .ensures .1)
+returns-15 c = arms.arm-define-function _ _ _ _ _ _ _ _ _ (c .before .before .before .before .before .before .before .before .before .before .before .pre .3 .bytes) (omega arith) _ (c .before .before .before .before .before .match .keys15) (c .before .before .before .before .scan-define-function .ensures) (c .before .before .function-payload2 .ensures .0) (c .before .before .function-payload2 .ensures .1)
 
 returns-16 : tie.Need-returns-16
-returns-16 c = arms.arm-if _ _ _ _ _ _ _ (omega arith) (c .before .match .keys16) (c .scan-branch2 .ensures)
+returns-16 c = arms.arm-if _ _ _ _ _ _ _ _ (omega arith) (c .before .match .keys16) (c .scan-branch2 .ensures)
 
 returns-17 : tie.Need-returns-17
-returns-17 c = arms.arm-call _ _ _ _ _ _ (c .before .match .keys17)
+returns-17 c = arms.arm-call _ _ _ _ _ _ _ (c .before .match .keys17)
 
 returns-18 : tie.Need-returns-18
-returns-18 c = arms.arm-goto-frame-2 _ _ _ _ _ _ _ _ (c .before .before .match .keys18) (c .before .scan-goto-frame-2 .ensures) (c .flat-payload6 .ensures)
+returns-18 c = arms.arm-goto-frame-2 _ _ _ _ _ _ _ _ _ (c .before .before .match .keys18) (c .before .scan-goto-frame-2 .ensures) (c .flat-payload6 .ensures)
 
 returns-19 : tie.Need-returns-19
-returns-19 c = let r = c .match .rest in arms.arm-unknown _ _ _ _ _ _ (arms.unlisted _ (c .before .before .before .before .before .before .pre .0) (omega arith) (r .0 .0 .0 .0 .0 .0 .0 .0 .0 .0 .0 .0 .0 .0 .0 .0 .0 .1, (r .0 .0 .0 .0 .0 .0 .0 .0 .0 .0 .0 .0 .0 .0 .0 .0 .1, (r .0 .0 .0 .0 .0 .0 .0 .0 .0 .0 .0 .0 .0 .0 .0 .1, (r .0 .0 .0 .0 .0 .0 .0 .0 .0 .0 .0 .0 .0 .0 .1, (r .0 .0 .0 .0 .0 .0 .0 .0 .0 .0 .0 .0 .0 .1, (r .0 .0 .0 .0 .0 .0 .0 .0 .0 .0 .0 .0 .1, (r .0 .0 .0 .0 .0 .0 .0 .0 .0 .0 .0 .1, (r .0 .0 .0 .0 .0 .0 .0 .0 .0 .0 .1, (r .0 .0 .0 .0 .0 .0 .0 .0 .0 .1, (r .0 .0 .0 .0 .0 .0 .0 .0 .1, (r .0 .0 .0 .0 .0 .0 .0 .1, (r .0 .0 .0 .0 .0 .0 .1, (r .0 .0 .0 .0 .0 .1, (r .0 .0 .0 .0 .1, (r .0 .0 .0 .1, (r .0 .0 .1, (r .0 .1, (r .1, tt)))))))))))))))))))
+returns-19 c = let r = c .match .rest in arms.arm-unknown _ _ _ _ _ _ _ (arms.unlisted _ (c .before .before .before .before .before .before .pre .0) (omega arith) (r .0 .0 .0 .0 .0 .0 .0 .0 .0 .0 .0 .0 .0 .0 .0 .0 .0 .1, (r .0 .0 .0 .0 .0 .0 .0 .0 .0 .0 .0 .0 .0 .0 .0 .0 .1, (r .0 .0 .0 .0 .0 .0 .0 .0 .0 .0 .0 .0 .0 .0 .0 .1, (r .0 .0 .0 .0 .0 .0 .0 .0 .0 .0 .0 .0 .0 .0 .1, (r .0 .0 .0 .0 .0 .0 .0 .0 .0 .0 .0 .0 .0 .1, (r .0 .0 .0 .0 .0 .0 .0 .0 .0 .0 .0 .0 .1, (r .0 .0 .0 .0 .0 .0 .0 .0 .0 .0 .0 .1, (r .0 .0 .0 .0 .0 .0 .0 .0 .0 .0 .1, (r .0 .0 .0 .0 .0 .0 .0 .0 .0 .1, (r .0 .0 .0 .0 .0 .0 .0 .0 .1, (r .0 .0 .0 .0 .0 .0 .0 .1, (r .0 .0 .0 .0 .0 .0 .1, (r .0 .0 .0 .0 .0 .1, (r .0 .0 .0 .0 .1, (r .0 .0 .0 .1, (r .0 .0 .1, (r .0 .1, (r .1, tt)))))))))))))))))))
 
 pub scan-payload-spec : {M : Type 1} → statement M
 scan-payload-spec =
     tie.close
     (tie.spec
     add-p
-    add-t11
-    add-t11-2
-    add-t11-3
+    add-t12
+    add-t12-2
+    add-t12-3
     scan-bytes-requires
     flat-payload-requires
     scan-get-url-requires
@@ -219,7 +219,7 @@ scan-payload-spec =
     scan-bytes-requires-2
     flat-payload-requires-2
     constant-pool-len-requires
-    add-t20
+    add-t21
     scan-strings-requires
     long-payload-requires-2
     scan-wait-for-frame-requires
@@ -234,7 +234,7 @@ scan-payload-spec =
     function-payload-requires
     scan-try-requires
     push-len-requires
-    add-t39
+    add-t40
     scan-push-requires
     long-payload-requires-5
     scan-branch-requires
@@ -243,7 +243,7 @@ scan-payload-spec =
     scan-define-function-requires
     function-payload-requires-2
     scan-branch-requires-2
-    add-t47
+    add-t48
     scan-goto-frame-2-requires
     flat-payload-requires-6
     returns

@@ -31,14 +31,14 @@ long-payload-requires : tie.Need-long-payload-requires
 long-payload-requires c κs = (c .before .before .before .before .before .before .before .before .pre .0, lay.scanned-from-is _ _ _ _ _ _ (c .before .before .before .before .before .scan-catch .ensures) (c .before .before .before .p .given .1))
 
 returns : tie.Need-returns
-returns c = let e = sym (c .before .before .before .scan-catch .ensures) ∙ (c .before .f .given .1) in record { is-laid = lay.laid-stops _ _ _ _ e; is-noted = lay.noted-stops _ _ _ _ _ e }
+returns c = let e = sym (c .before .before .before .scan-catch .ensures) ∙ (c .before .f .given .1) in record { is-laid = lay.laid-stops _ _ _ _ e; is-noted = lay.noted-stops _ _ _ _ _ _ e }
 
 same-length : tie.Need-same-length
 same-length c = search needs
 
 returns-2 : tie.Need-returns-2
 unfolding bodiesAfter
-returns-2 c = lay.tried _ _ _ _ _ _ _ (sym (c .before .before .before .before .before .before .p .given .1) ∙ (c .before .before .before .before .before .before .before .before .scan-catch .ensures)) (c .before .before .long-payload .ensures)
+returns-2 c = lay.tried _ _ _ _ _ _ _ _ (sym (c .before .before .before .before .before .before .p .given .1) ∙ (c .before .before .before .before .before .before .before .before .scan-catch .ensures)) (c .before .before .long-payload .ensures)
 
 pub scan-try-spec : {M : Type 1} → statement M
 scan-try-spec =

@@ -21,6 +21,9 @@ shared-slice-read-number c = search needs
 u64-at-requires : tie.Need-u64-at-requires
 u64-at-requires c κs = search needs
 
+u32-at-requires-2 : tie.Need-u32-at-requires-2
+u32-at-requires-2 c κs = search needs
+
 add-if1 : tie.Need-add-if1
 add-if1 c = search needs
 
@@ -57,6 +60,7 @@ replay-sheet-spec =
     shared-slice-read-mode
     shared-slice-read-number
     u64-at-requires
+    u32-at-requires-2
     add-if1
     returns
     returns-2

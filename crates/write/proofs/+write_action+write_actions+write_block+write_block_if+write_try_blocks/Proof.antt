@@ -5,7 +5,7 @@ use mathlib.Core.Path.{sym, ap, _∙_}
 use native.Mathlib.Omega.{arith}
 use Prim.Native.Nat.{ℕ, _+_, _*_, _<_}
 use Rattle.layout.specs.Numbers.{u16At}
-use Rattle.layout.specs.Read.{hasCatch, hasFinally}
+use Rattle.layout.specs.Read.{hasCatch, hasFinally, readBody}
 use Rattle.editions.specs.Allowed.{termsOf}
 use Rattle.write.proofs.Loop as loop
 use Rattle.write.proofs.Steps as steps
@@ -139,10 +139,10 @@ abbrev write-action-calls : ℕ → write-action-lts.Claims
 write-action-calls t = (action-at-reads.Asked, action-at-reads.Learnt, write-head-reads.Asked, write-head-reads.Learnt, bodies-of-reads.Asked, bodies-of-reads.Learnt, write-block-below t, write-block.Post, write-try-blocks-below t, write-try-blocks.Post)
 
 write-action-action-at-requires : (t : ℕ) → write-action-lts.Need-action-at-requires (write-action-calls t) (write-action-at t) write-action.Post
-write-action-action-at-requires t c κs = acts.reads-action _ _ (c .before .before .before .pre .1)
+write-action-action-at-requires t c κs = acts.reads-action _ (readBody _ _ _) (c .before .before .before .pre .1)
 
 write-action-write-head-requires : (t : ℕ) → write-action-lts.Need-write-head-requires (write-action-calls t) (write-action-at t) write-action.Post
-write-action-write-head-requires t c κs = acts.head-room _ _ (c .before .action-at .ensures) (c .before .before .before .before .before .pre .1)
+write-action-write-head-requires t c κs = acts.head-room _ (readBody _ _ _) (c .before .action-at .ensures) (c .before .before .before .before .before .pre .1)
 
 write-action-bodies-of-requires : (t : ℕ) → write-action-lts.Need-bodies-of-requires (write-action-calls t) (write-action-at t) write-action.Post
 write-action-bodies-of-requires t c κs = search needs
@@ -156,7 +156,7 @@ write-action-enum-told-2 t c = search needs
 write-action-sub-t22 : (t : ℕ) → write-action-lts.Need-sub-t22 (write-action-calls t) (write-action-at t) write-action.Post
 write-action-sub-t22 t c =
     let h = c .before .before .before .before .before .before .before in
-    omega (arith, acts.one-room _ _ (h .before .before .action-at .ensures) (h .write-head .ensures) (sym (c .before .before .before .bodies-of .ensures) ∙ c .before .enum-told2 .given .1) (h .before .before .before .before .before .before .pre .1) (h .write-head .kept .1 .1 .1 .1 .1 .1 .0) .1)
+    omega (arith, acts.one-room _ (readBody _ _ _) (h .before .before .action-at .ensures) (h .write-head .ensures) (sym (c .before .before .before .bodies-of .ensures) ∙ c .before .enum-told2 .given .1) (h .before .before .before .before .before .before .pre .1) (h .write-head .kept .1 .1 .1 .1 .1 .1 .0) .1)
 
 write-action-write-block-requires : (t : ℕ) → write-action-lts.Need-write-block-requires (write-action-calls t) (write-action-at t) write-action.Post
 write-action-write-block-requires t c κs =
@@ -183,7 +183,7 @@ write-action-same-length t c = c .before .before .before .before .before .before
 write-action-returns : (t : ℕ) → write-action-lts.Need-returns (write-action-calls t) (write-action-at t) write-action.Post
 write-action-returns t c =
     let h = c .before .before .before .before .before .before in
-    acts.none-wrote _ _ (h .before .before .action-at .ensures) (h .write-head .ensures) (sym (c .before .before .bodies-of .ensures) ∙ c .enum-told .given .1)
+    acts.none-wrote _ (readBody _ _ _) (h .before .before .action-at .ensures) (h .write-head .ensures) (sym (c .before .before .bodies-of .ensures) ∙ c .enum-told .given .1)
 
 write-action-same-length-2 : (t : ℕ) → write-action-lts.Need-same-length-2 (write-action-calls t) (write-action-at t) write-action.Post
 write-action-same-length-2 t c = c .before .before .before .write-block .kept .1 .1 .1 .1 .1 .1 .1 .0 ∙ c .before .before .before .before .before .before .before .before .before .before .before .before .write-head .kept .1 .1 .1 .1 .1 .1 .0
