@@ -35,8 +35,8 @@ pub enum Refusal {
     BadField {
         /// Where the field begins; of a string, where its first zero byte stands.
         place: usize,
-        /// The number of the action being read, counted from 0 in sheet order through all bodies. Where the field is one of a body's
-        /// label entries, it is the number that the next action would have had.
+        /// The number of the action being read, counted from 0 in sheet order through all bodies. Where the field is one of a
+        /// body's label entries, it is the number that the next action would have had.
         action: u64,
     },
     /// 6: a body is at depth 17; the main body is at depth 1.

@@ -1,6 +1,6 @@
-// The walk of bodies and actions, front to back: it reads and checks (3 to 6), measures, counts, records labels, and notes the first
-// of 8 and 9. `home` is the position at which the function body starts that it is in; only a function's body has another. `number`
-// is that of the next action.
+// The walk of bodies and actions, front to back: it reads and checks (3 to 6), measures, counts, records labels, and notes the
+// first of 8 and 9. `home` is the position at which the function body starts that it is in; only a function's body has another.
+// `number` is that of the next action.
 ghost use Prim.Native.Nat.{_+_};
 ghost use Rattle.layout.specs.Tree.{count, bodyCount};
 ghost use Rattle.layout.specs.Read.{placed, behind, readBody, readAction};

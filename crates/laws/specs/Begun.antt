@@ -1,5 +1,5 @@
--- How many actions reading begins: a field begins none, so that a fault in it is met at the action being read; and no reading begins
--- more than one for each byte it passes. Assumes nothing.
+-- How many actions reading begins: a field begins none, so that a fault in it is met at the action being read; and no reading
+-- begins more than one for each byte it passes. Assumes nothing.
 use mathlib.Core.Path.{_≡_, refl, subst}
 use Prim.Native.Nat.{ℕ, zero, suc, _+_, _≤_}
 use native.Mathlib.Omega.{arith}

@@ -23,8 +23,8 @@ use Rattle.positions.specs.declared.Walked.the-variants as walked
 use Rattle.measure.specs.declared.Laid.{Laid}
 use Rattle.measure.specs.declared.Laid.the-variants as laid
 
--- ---- what the events make of the tables and of the first overflow, which is three numbers: the answer's number, or 0, its value, and
--- the action's number
+-- ---- what the events make of the tables and of the first overflow, which is three numbers: the answer's number, or 0, its value,
+-- and the action's number
 
 pub record State : Type 0 where
   pub labels : Tables

@@ -71,8 +71,8 @@ fn scan_try(
     }
 }
 
-// The payload of an opcode from 80 on, which stands at a place; `pos` is the action's position and `action` its number. A payload of
-// a byte ends at `byte`, one of a u16 at `word`; a list is measured from the end of a payload whose list is empty.
+// The payload of an opcode from 80 on, which stands at a place; `pos` is the action's position and `action` its number. A payload
+// of a byte ends at `byte`, one of a u16 at `word`; a list is measured from the end of a payload whose list is empty.
 pub fn scan_payload(
     b: &[u8],
     terms: Terms,

@@ -15,7 +15,8 @@ pub enum Fault {
     LeftOver,
 }
 
-// Of a field or a list that is read: the place where reading ended and the position that writing would have reached, or a fault and its place.
+// Of a field or a list that is read: the place where reading ended and the position that writing would have reached, or a fault and
+// its place.
 pub enum Scan {
     Ends(usize, BytePosition),
     Stops(Fault, usize),

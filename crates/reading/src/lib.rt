@@ -1,5 +1,5 @@
-// The main body of a sheet, read and checked: 3 to 7, their places counted from the sheet's byte 0, with the actions that they name;
-// and where it reads whole, what packing goes on with.
+// The main body of a sheet, read and checked: 3 to 7, their places counted from the sheet's byte 0, with the actions that they
+// name; and where it reads whole, what packing goes on with.
 ghost use mathlib.Core.Path.{_≡_};
 ghost use Prim.Native.Nat.{_≤_};
 ghost use lib.ListN.{length};
@@ -41,8 +41,8 @@ fn fault_action(f: Fault, begun: ActionNumber) -> ActionNumber
     }
 }
 
-// Reads a main body that starts at `start` in its sheet, by the terms of its edition. The label tables and the three numbers for the
-// first of 8 and 9 are lent empty; of the homes as many are kept as there are slots.
+// Reads a main body that starts at `start` in its sheet, by the terms of its edition. The label tables and the three numbers for
+// the first of 8 and 9 are lent empty; of the homes as many are kept as there are slots.
 pub fn read_main(
     b: &[u8],
     terms: Terms,

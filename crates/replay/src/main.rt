@@ -1,5 +1,6 @@
 // Replays the oracle's answers: packs each sheet of a list, and holds number, value, action number and every byte of the output to
-// what the list says. Writes a line for each number that was met, with its count, and then how many answers differ and the first that does.
+// what the list says. Writes a line for each number that was met, with its count, and then how many answers differ and the first
+// that does.
 //
 // A record is the lengths of two patterns, the room, the mode, and the answer's number, value and action number, in 26 bytes; then
 // the pattern of the sheet and that of the block.
