@@ -6,7 +6,7 @@ use Prim.Native.Nat.{ℕ, _+_, _-_, _≤_, _<_}
 use native.Mathlib.Omega.{arith}
 use mathlib.Core.Bool.{Bool, true, false, _&&_, not, and-eq-true-iff}
 use mathlib.Core.Option.{Option, none, some, Option·none-ne-some}
-use mathlib.Core.List.{List, [], _∷_}
+use mathlib.Core.List.{List, [], _∷_, _++_}
 use lib.ListN.{length, drop}
 use lib.IntN.{ℤ, pos}
 use lib.Dec.{leb, eqb}
@@ -27,8 +27,8 @@ use Rattle.laws.specs.Fits.{Bytes}
 use Rattle.laws.specs.Begun.{begins-got, begins-bad, main-begins}
 use Rattle.laws.specs.ReadFits.{good-got, good-bad, main-good}
 use Rattle.laws.specs.Packed.{IsMain, is-main, main-bytes, spells}
-use Rattle.laws.specs.Branches.{or-left, or-right, each-then, Decided, decided}
-use Rattle.laws.specs.Barred.{Stray, stray, FirstWrong}
+use Rattle.laws.specs.Branches.{or-left, or-right, EachBranch, each-then, Decided, decided}
+use Rattle.laws.specs.Barred.{Stray, stray}
 use Rattle.action_numbers.specs.Numbered.{payloadSize, BranchTo, OwnsBody, bodyInOrder, length-order, Names, names-under, names-as, Named, events-named, event-named}
 
 -- ---- what a refusal says of the action that it names
@@ -36,6 +36,19 @@ use Rattle.action_numbers.specs.Numbered.{payloadSize, BranchTo, OwnsBod
 -- a branch's record lies at this distance from the position after its operand, "outside -32,768 to 32,767"
 pub data Far (z : ℤ) : Option Position → Position → Type 0 where
   too-far : {r s : Position} → isNear (r .at) (s .at + 2) ≡ false → z ≡ distance (some r) (s .at + 2) → Far z (some r) s
+
+-- the branch whose operand stands at p, action k, is wrong, and every branch before it is neither barred by the mode nor too far
+pub record FirstWrong (Wrong : Option Position → Position → Type 0) (m : Mode) (t : Actions) (p k : ℕ) : Type 0 where
+  pub before : List Event
+  pub label : ℕ
+  pub operand : Position
+  pub later : List Event
+  pub is-among : events t ≡ before ++ (branchAt label operand ∷ later)
+  pub is-at : operand .at ≡ p
+  pub is-action : operand .number ≡ k
+  pub is-wrong : Wrong (lookup label (events t)) operand
+  pub are-unbarred : EachBranch (λ l s. barred m (lookup l (events t)) s ≡ none) before
+  pub are-near : EachBranch (λ l s. judged (lookup l (events t)) (s .at + 2) (s .number) ≡ none) before
 
 -- the first branch that is wrong, whose operand stands at p, is action k of the tree: a branch to that label, three bytes before p
 pub record WrongBranch (Wrong : Option Position → Position → Type 0) (m : Mode) (t : Actions) (p k : ℕ) : Type 0 where

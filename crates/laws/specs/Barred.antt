@@ -1,20 +1,18 @@
--- What a mode bars: what it asks of a branch, what its Done says of a tree, and what 14 and 15 say. Assumes nothing.
-use mathlib.Core.Path.{_≡_, refl, sym, ap, _∙_, subst}
-use Prim.Native.Nat.{ℕ, _+_}
-use native.Mathlib.Omega.{arith}
-use mathlib.Core.Bool.{Bool, true, false, false≢true, _&&_, not, and-eq-true-iff}
+-- What a mode bars: what it asks of a branch, and what its Done says of a tree. Assumes nothing.
+use mathlib.Core.Path.{_≡_, refl, sym, _∙_}
+use Prim.Native.Nat.{ℕ}
+use mathlib.Core.Bool.{Bool, true, false, false≢true, _&&_, not}
 use mathlib.Core.Option.{Option, none, some, Option·none-ne-some}
-use mathlib.Core.List.{List, [], _∷_, _++_}
-use lib.Dec.{leb, eqb}
-use borrow.Author.Tests.{eqb-true, eqb-false, eq-eqb, not-true}
-use Rattle.layout.specs.Answers.{Refusal, NoRoom, NeverRecorded, StrayBranch, Done, Refused}
+use mathlib.Core.List.{List}
+use lib.Dec.{eqb}
+use borrow.Author.Tests.{eqb-true, eq-eqb}
+use Rattle.layout.specs.Answers.{NeverRecorded, StrayBranch, Done}
 use Rattle.layout.specs.Tree.{Actions}
-use Rattle.layout.specs.Write.{Position, Event, labelAt, branchAt, payloadTooLong, bodyTooLong, lookup, events, blockBytes, blockSize}
-use Rattle.layout.specs.Judge.{distance, isNear, farUnless, judged, orElse, tooLong, Mode, plainMode, refusalIf, barred, judgedIn, badBranch, judge}
-use Rattle.layout.specs.Pack.{unless, ifRoom, packTree, pack, ReadsAs}
-use Rattle.layout.specs.Order.{tree-next}
-use Rattle.laws.specs.Branches.{or-left, or-right, EachBranch, each-then, each-both, Decided, decided}
-use Rattle.laws.specs.Modes.{OfMode, asks, never-recorded, stray-branch, unbarred-plain, done-unbarred}
+use Rattle.layout.specs.Write.{Position, lookup, events}
+use Rattle.layout.specs.Judge.{Mode, plainMode, refusalIf, barred}
+use Rattle.layout.specs.Pack.{pack, ReadsAs}
+use Rattle.laws.specs.Branches.{EachBranch, each-then, each-both}
+use Rattle.laws.specs.Modes.{unbarred-plain, done-unbarred}
 
 -- ---- one branch, by its label's final record and its operand's position
 
@@ -98,129 +96,3 @@ module _ (m : Mode) where
   -- "refuses a branch whose final label record is in another function body": a contained Done has none
   pub done-contained : m .contained ≡ true → (s : List ℕ) (t : Actions) (room : ℕ) (q : List ℕ) → ReadsAs s t → pack m s room ≡ Done q → TreeContained t
   done-contained contained s t room q h e = each-then _ _ (λ l s k. k .is-home contained) (events t) (done-allowed s t room q h e)
-
--- ---- what 14 and 15 say
-
--- the branch whose operand stands at p, action k, is wrong, and every branch before it is neither barred by the mode nor too far
-pub record FirstWrong (Wrong : Option Position → Position → Type 0) (m : Mode) (t : Actions) (p k : ℕ) : Type 0 where
-  pub before : List Event
-  pub label : ℕ
-  pub operand : Position
-  pub later : List Event
-  pub is-among : events t ≡ before ++ (branchAt label operand ∷ later)
-  pub is-at : operand .at ≡ p
-  pub is-action : operand .number ≡ k
-  pub is-wrong : Wrong (lookup label (events t)) operand
-  pub are-unbarred : EachBranch (λ l s. barred m (lookup l (events t)) s ≡ none) before
-  pub are-near : EachBranch (λ l s. judged (lookup l (events t)) (s .at + 2) (s .number) ≡ none) before
-
--- no payload or body that is too long, and no branch that goes too far, is refused by a mode's own refusal
-abbrev NotOwn : Option Refusal → Type 0
-NotOwn none = Unit {0}
-NotOwn (some r) = OfMode r → ⊥
-
-long-not : (es : List Event) → NotOwn (tooLong es)
-unfolding tooLong
-long-not [] = tt
-long-not (labelAt l s ∷ es) = long-not es
-long-not (branchAt l s ∷ es) = long-not es
-long-not (payloadTooLong n s ∷ es) = λ h. elim h [ ]
-long-not (bodyTooLong n s ∷ es) = λ h. elim h [ ]
-
-far-not : (o : Option Position) (after k : ℕ) → NotOwn (judged o after k)
-unfolding judged farUnless
-far-not none after k = tt
-far-not (some r) after k = go (isNear (r .at) after)
-  where
-    go : (t : Bool) → NotOwn (farUnless t (distance (some r) after) k)
-    go true = tt
-    go false = λ h. elim h [ ]
-
--- so such a refusal x is made for a branch that the mode bars
-module _ (m : Mode) (x : Refusal) (own : OfMode x) where
-  own-left : (y z : Option Refusal) → NotOwn z → orElse y z ≡ some x → y ≡ some x
-  unfolding orElse
-  own-left none z n e = absurd (subst NotOwn e n own)
-  own-left (some r) z n e = e
-
-  own-right : (y z : Option Refusal) → NotOwn y → orElse y z ≡ some x → z ≡ some x
-  unfolding orElse
-  own-right none z n e = e
-  own-right (some r) z n e = absurd (subst NotOwn e n own)
-
-  tree-own : (t : Actions) (room : ℕ) → packTree m t room ≡ Refused x → badBranch m (events t) (events t) ≡ some x
-  unfolding packTree unless judge ifRoom
-  tree-own t room e = own-right (tooLong (events t)) _ (long-not (events t)) (go (judge m t) (leb (blockSize t) room) e)
-    where
-      go : (y : Option Refusal) (z : Bool) → unless y (ifRoom z (blockBytes t) (blockSize t)) ≡ Refused x → y ≡ some x
-      go (some r) z k =
-          let same : r ≡ x = cc in
-          ap some same
-      go none true k =
-          let z : _≡_ {A = ℕ} 0 1 = cc in
-          absurd (omega arith)
-      go none false k =
-          let same : NoRoom (blockSize t) ≡ x = cc in
-          elim (subst OfMode (sym same) own) [ ]
-
-  module _ (Wrong : Option Position → Position → Type 0) (p k : ℕ)
-      (reading : (o : Option Position) (s : Position) → barred m o s ≡ some x → (asks m own ≡ true) × Wrong o s × (s .at ≡ p) × (s .number ≡ k)) where
-    first-wrong : (s : List ℕ) (t : Actions) (room : ℕ) → ReadsAs s t → pack m s room ≡ Refused x → (asks m own ≡ true) × FirstWrong Wrong m t p k
-    unfolding judgedIn
-    first-wrong s t room h e =
-        let d : Decided (judgedIn m) final (events t) x = decided (judgedIn m) final (events t) x (tree-own t room (sym (tree-next m s room t h) ∙ e)) in
-        let w = reading (final (d .label)) (d .operand) (own-left _ _ (far-not (final (d .label)) (d .operand .at + 2) (d .operand .number)) (d .is-refused)) in (
-          w .0,
-          record {
-            before = d .before;
-            label = d .label;
-            operand = d .operand;
-            later = d .later;
-            is-among = d .is-among;
-            is-at = w .2;
-            is-action = w .3;
-            is-wrong = w .1;
-            are-unbarred = each-then _ _ (λ l s k. or-left (barred m (final l) s) _ k) (d .before) (d .are-taken);
-            are-near = each-then _ _ (λ l s k. or-right (barred m (final l) s) _ k) (d .before) (d .are-taken);
-          },
-        )
-      where
-        final : ℕ → Option Position
-        final l = lookup l (events t)
-
-if-is : (t : Bool) {r x : Refusal} → refusalIf t r ≡ some x → (t ≡ true) × (r ≡ x)
-unfolding refusalIf
-if-is true e = (refl, cc)
-if-is false {x} e = absurd (Option·none-ne-some x e)
-
-module _ (m : Mode) (p k : ℕ) where
-  barred-14 : (o : Option Position) (s : Position) → barred m o s ≡ some (NeverRecorded p k) → (m .strict ≡ true) × (o ≡ none) × (s .at ≡ p) × (s .number ≡ k)
-  unfolding barred
-  barred-14 none s e =
-      let i = if-is (m .strict) e in
-      (i .0, refl, cc, cc)
-  barred-14 (some r) s e =
-      let i = if-is (m .contained && not (eqb (r .home) (s .home))) e in
-      let z : _≡_ {A = ℕ} 0 1 = cc in
-      absurd (omega arith)
-
-  barred-15 : (o : Option Position) (s : Position) → barred m o s ≡ some (StrayBranch p k) → (m .contained ≡ true) × Stray o s × (s .at ≡ p) × (s .number ≡ k)
-  unfolding barred
-  barred-15 none s e =
-      let i = if-is (m .strict) e in
-      let z : _≡_ {A = ℕ} 0 1 = cc in
-      absurd (omega arith)
-  barred-15 (some r) s e =
-      let i = if-is (m .contained && not (eqb (r .home) (s .home))) e in
-      let j = and-eq-true-iff (m .contained) (not (eqb (r .home) (s .home))) .0 (i .0) in
-      (j .0, stray (eqb-false (r .home) (s .home) (not-true _ (j .1))), cc, cc)
-
-  -- 14 is answered in strict mode alone, at "the byte position of the operand": that of the "first branch in writing order" whose
-  -- label has no record
-  pub unrecorded-first : (s : List ℕ) (t : Actions) (room : ℕ) → ReadsAs s t → pack m s room ≡ Refused (NeverRecorded p k)
-      → (m .strict ≡ true) × FirstWrong (λ o s. o ≡ none) m t p k
-  unrecorded-first s t room h e = first-wrong m (NeverRecorded p k) never-recorded _ p k barred-14 s t room h e
-
-  -- 15 in a contained mode alone, at "the operand's byte position" of the first branch to "another function body"
-  pub stray-first : (s : List ℕ) (t : Actions) (room : ℕ) → ReadsAs s t → pack m s room ≡ Refused (StrayBranch p k) → (m .contained ≡ true) × FirstWrong Stray m t p k
-  stray-first s t room h e = first-wrong m (StrayBranch p k) stray-branch Stray p k barred-15 s t room h e
