@@ -1,17 +1,17 @@
 -- How many actions reading begins: a field begins none, so that a fault in it is met at the action being read; and no reading
 -- begins more than one for each byte it passes. Assumes nothing.
-use mathlib.Core.Path.{_≡_, refl, subst}
+use mathlib.Core.Path.{_≡_, subst}
 use Prim.Native.Nat.{ℕ, zero, suc, _+_, _≤_}
 use native.Mathlib.Omega.{arith}
-use mathlib.Core.Bool.{Bool, true, false, _&&_}
+use mathlib.Core.Bool.{Bool, true, false}
 use mathlib.Core.Option.{Option, none, some}
 use mathlib.Core.List.{List, [], _∷_}
 use lib.ListN.{length, getD}
-use lib.Dec.{leb, ltb, eqb}
+use lib.Dec.{leb, eqb}
 use Rattle.layout.specs.Answers.{Fault}
 use Rattle.layout.specs.OpCode.{OpCode, opcodeOf}
 use Rattle.layout.specs.PushKind.{PushKind, kindOf}
-use Rattle.layout.specs.Tree.{FlatOf, With, DefineFunction, DefineFunction2, Branch, CatchTargetOf, ActionOf, flat, branch, owner, Try, ActionListOf, empty, more, ActionsOf, body, CatchOf, noCatch, catch, FinallyOf, noFinally, finally, count, counts, bodyCount, catchCount, finallyCount}
+use Rattle.layout.specs.Tree.{FlatOf, With, DefineFunction, DefineFunction2, Branch, CatchTargetOf, ActionOf, flat, branch, owner, Try, ActionListOf, empty, more, ActionsOf, body, noCatch, catch, noFinally, finally, count, counts, bodyCount, catchCount, finallyCount}
 use Rattle.layout.specs.Read.{Text, Terms, Place, placed, Stop, stop, Read, got, bad, Reader, chain, moreBegun, behind, ifWhole, ifWithin, tested, repeat, firstZero, ifNoZero, ifNothingLeft, readU8, readU16, readU32, readU64, readBytes, readFlag, readSpelling, readCounted, hasCatch, hasFinally, hasRegister, isShape, readString, readValueOf, readValueIf, readValue, readParam, readLabel, readEntries, readCatchTarget, readCatch, readFinally, readTry, readFields, readFieldsIf, readAction, readActions, readBodyWith, readBody, readMain}
 
 -- ---- fields

@@ -10,7 +10,7 @@ use borrow.Author.Tests.{leb-true}
 use mathlib.Core.Bool.{Bool, true, false}
 use Rattle.layout.specs.Numbers.{u16At}
 use Rattle.layout.specs.Answers as answers
-use Rattle.layout.specs.Read.{Terms, Place, placed, stop, ahead, Read, got, bad, Reader, chain, ifWhole, repeat, readU16, readString, readCounted, readValue}
+use Rattle.layout.specs.Read.{Terms, Place, placed, ahead, Read, got, bad, Reader, chain, ifWhole, repeat, readU16, readString, readCounted, readValue}
 use Rattle.layout.specs.Lengths.{total, stringLength}
 use Rattle.layout.specs.Pack.{spelling}
 use Rattle.laws.specs.Fits.{Bytes}

@@ -1,5 +1,5 @@
 -- What a payload's scan says of its action: laws for actions without a body and for those that own one. Assumes nothing.
-use mathlib.Core.Path.{_≡_, refl, sym, ap, ap₂, _∙_}
+use mathlib.Core.Path.{_≡_, refl, sym, ap, _∙_}
 use Prim.Native.Nat.{ℕ, _+_, _-_, _≤_, _<_}
 use native.Mathlib.Omega.{arith}
 use native.Mathlib.Nat.{add-zero}
@@ -12,7 +12,7 @@ use Rattle.layout.specs.Lists.{pick}
 use Rattle.layout.specs.OpCode.{byte}
 use Rattle.layout.specs.Answers as answers
 use Rattle.layout.specs.Tree.{FlatOf, OwnerOf, With, DefineFunction, DefineFunction2, ActionOf, flat, branch, Branch, owner, ActionsOf, count, bodyCount}
-use Rattle.layout.specs.Read.{Text, Terms, Place, placed, Stop, stop, Read, got, bad, Reader, chain, moreBegun, behind}
+use Rattle.layout.specs.Read.{Text, Terms, Place, placed, stop, Read, got, bad, Reader, chain, moreBegun, behind}
 use Rattle.layout.specs.Strings.{mapFlat, mapOwner, mapAction, mapBody}
 use Rattle.layout.specs.Payload.{opcode, payload, ownerFields}
 use Rattle.layout.specs.Write.{size, bodySize, Position, position, Event, moved, homeIn, toBody, payloadTest, bodyTest, trace, traceBody}
@@ -29,7 +29,7 @@ use Rattle.measure.specs.declared.Laid.the-variants as laid
 use Rattle.action_fields.specs.Fields.{flatSize, ownerSize, readCaught, caughtSize}
 use Rattle.laws.specs.Begun.{Fields}
 use Rattle.laws.specs.Resolved.{actionSize, actionTrace, bodyLength}
-use Rattle.measure.specs.Walk.{State, state, notedIf, run, done, fault, outcome, branches, measure, uncounted, measured, inTurn, inBodies, bodyTests, bodiesEvents, Onward, Owning, Laying, laidAs, laidFunction, branchLaid, notedFrom, EndsFrom, Tried}
+use Rattle.measure.specs.Walk.{State, state, notedIf, run, fault, outcome, branches, uncounted, measured, inTurn, inBodies, bodyTests, bodiesEvents, Onward, Owning, Laying, laidAs, laidFunction, branchLaid, notedFrom, EndsFrom, Tried}
 use Rattle.action_fields.proofs.Steps.{caught-out}
 use Rattle.measure.proofs.Runs.{run-append, run-payload, run-body, noted-short, outcome-got, branches-append, branches-payload, branches-after, branches-body, measured-got}
 

@@ -16,7 +16,7 @@ use Rattle.layout.specs.Tree.{CatchTargetOf, Variable, Register, ActionOf, Try,
 use Rattle.layout.specs.Read.{Text, plain, Terms, Place, placed, ahead, stop, Read, got, bad, Reader, chain, moreBegun, behind, ifWhole, tested, isShape, readU8, hasCatch, hasFinally, hasRegister, readCatchTarget, readCatch, readFinally, readTry, readFields}
 use Rattle.layout.specs.Strings.{mapTarget, mapAction, mapBody, mapCatch, mapFinally}
 use Rattle.layout.specs.Payload.{catchName}
-use Rattle.layout.specs.Write.{size, catchSize, finallySize, Position, position, Event, moved, toTry, payloadTest, bodyTest, trace, traceBody, traceCatch, traceFinally}
+use Rattle.layout.specs.Write.{size, catchSize, finallySize, Position, position, moved, toTry, payloadTest, bodyTest, trace, traceBody, traceCatch, traceFinally}
 use Rattle.layout.specs.Lengths.{total, nameLength, stringLength, length-catchName}
 use Rattle.layout.specs.Pack.{spelling}
 use Rattle.laws.specs.Fits.{Bytes}
