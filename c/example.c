@@ -1,4 +1,4 @@
-/* example.c: packs a small sheet, steps through blocks, and shows refusals. */
+/* example.c: packs small sheets, one of them with a book, steps through blocks, and shows refusals. */
 #include <inttypes.h>
 #include <stdio.h>
 
@@ -28,11 +28,12 @@ static void show_steps(const uint8_t *block, size_t block_len)
     printf("stepped: answer %" PRIu32 ", value %" PRId64 "\n", number, number_in(value));
 }
 
-/* Packs the sheet and prints the block with its steps, or the answer that refused it. */
-static void show(const uint8_t *sheet, size_t sheet_len, bool strict, bool contained)
+/* Packs the sheet with the book and prints the block with its steps, or the answer that refused it. */
+static void show_with(const uint8_t *book, size_t book_len, const uint8_t *sheet, size_t sheet_len, bool strict, bool contained)
 {
     uint8_t block[64], value[MERINOVAULT_VALUE_LEN];
-    uint32_t number = merinovault_pack(sheet, sheet_len, strict, contained, block, sizeof block, value, sizeof value);
+    uint32_t number =
+        merinovault_pack(sheet, sheet_len, book, book_len, strict, contained, block, sizeof block, value, sizeof value);
     if (number != MERINOVAULT_DONE) {
         printf("refused: answer %" PRIu32 ", value %" PRId64, number, number_in(value));
         if (names_action(number))
@@ -46,6 +47,12 @@ static void show(const uint8_t *sheet, size_t sheet_len, bool strict, bool conta
         printf(" %02X", block[i]);
     printf("\n");
     show_steps(block, len);
+}
+
+/* The same without a book. */
+static void show(const uint8_t *sheet, size_t sheet_len, bool strict, bool contained)
+{
+    show_with(merinovault_empty_book, sizeof merinovault_empty_book, sheet, sheet_len, strict, contained);
 }
 
 int main(void)
@@ -76,8 +83,30 @@ int main(void)
     show(form, sizeof form, false, false);
     form[15] = 1; /* edition 1: BadField at byte 2 of the sheet, since its label numbers are up to 1,023 */
     show(form, sizeof form, false, false);
-    form[15] = 3; /* no edition: BadTrailer */
+    form[15] = 4; /* no edition: BadTrailer */
     show(form, sizeof form, false, false);
+
+    uint8_t book[] = {
+        0x03, 0x00, 0x79, 0x65, 0x73, /* entry 0, of 3 bytes: "yes" */
+        0x02, 0x00, 0x6E, 0x6F,       /* entry 1, of 2 bytes: "no" */
+        0x09, 0x00, 0x00, 0x00,       /* trailer: the first entry begins 9 bytes before it, */
+        0x02, 0x00, 0x42, 0x31,       /* 2 entries, and the mark */
+    };
+    uint8_t words[] = {
+        0x00, 0x00,                   /* no label entry */
+        0x01, 0x00,                   /* one action: */
+        0x96, 0x02, 0x00,             /* Push of two values: */
+        0x00, 0x02, 0x00, 0x6F, 0x6B, /* a string of 2 bytes, "ok", */
+        0x00, 0xFF, 0xFF, 0x01, 0x00, /* and a string that is entry 1 of the book */
+        0x11, 0x00, 0x00, 0x00,       /* trailer: the main body begins 17 bytes before it, */
+        0x03, 0x00, 0x41, 0x31,       /* edition 3, and the mark */
+    };
+    show_with(book, sizeof book, words, sizeof words, false, false);
+    show(words, sizeof words, false, false); /* the empty book has no entry 1: BadField at byte 15 of the sheet, action 0 */
+    book[13] = 3;                            /* the book has not 3 entries: BadBook */
+    show_with(book, sizeof book, words, sizeof words, false, false);
+    words[21] = 2; /* edition 2 does not look at the book; there 65,535 is a length: CutShort at byte 15, action 0 */
+    show_with(book, sizeof book, words, sizeof words, false, false);
 
     uint8_t into[] = {
         0x00, 0x00,                         /* no label entry */

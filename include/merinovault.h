@@ -10,7 +10,7 @@
  *  - A pointer and the length after it are one run of bytes, at most PTRDIFF_MAX long. All of it may be read, and all of out and
  *    value written, until the call returns.
  *  - out and value share no byte with any other run of the call.
- *  - While the call runs, nothing else writes to sheet or block, and nothing else reads or writes out or value.
+ *  - While the call runs, nothing else writes to sheet, book or block, and nothing else reads or writes out or value.
  *  - A run of length 0 is never read or written; its pointer may be NULL. No run needs an alignment.
  *  - strict and contained are true or false, as every bool is. If one was made to hold another byte by writing to its memory, the
  *    call is undefined.
@@ -49,6 +49,7 @@ extern "C" {
 #define MERINOVAULT_UNCLEAN 13u              /* place of an opcode whose step passes the end, or block_len; of stepping alone */
 #define MERINOVAULT_NEVER_RECORDED 14u       /* place in the block of a branch's operand; of strict mode alone */
 #define MERINOVAULT_STRAY_BRANCH 15u         /* place in the block of a branch's operand; of contained mode alone */
+#define MERINOVAULT_BAD_BOOK 18u             /* 0; of sheets of edition 3 alone */
 
 /*
  * The action number of each answer. Actions count from 0 in sheet order through all bodies; an action comes before those in its
@@ -65,11 +66,32 @@ extern "C" {
  */
 
 /*
- * Packs sheet into the front of out: 0 to 11, 14 or 15. Bytes of out past a Done length keep their values, and on any other
- * answer all do. A block is never longer than 3 x sheet_len. With out_len 0, NO_ROOM tells the length that a good sheet needs.
+ * A book is lent beside the sheet and holds words that sheets share. It is bytes that are passed over; then entries, each a u16
+ * length and that many bytes, none of them 00; then a trailer of 8 bytes: u32 distance back from the trailer's first byte to the
+ * first entry, u16 number of entries, bytes 42 31. Numbers are little-endian. The entries fill the space from there to the trailer
+ * exactly.
  *
- * The trailer of a sheet tells its edition, 1 or 2; any other is BAD_TRAILER. Label numbers are 0 to 1,023 in edition 1 and 0 to
- * 4,095 in edition 2, and any other is BAD_FIELD. All else is the same in both.
+ * Without a book, lend the empty one, which has no entry:
+ *
+ *   merinovault_pack(sheet, sheet_len, merinovault_empty_book, sizeof merinovault_empty_book, ...
+ *
+ * Only a sheet of edition 3 looks at the book. For one of edition 1 or 2 any bytes will do, also none: NULL and length 0.
+ */
+static const uint8_t merinovault_empty_book[8] = {0x00, 0x00, 0x00, 0x00, 0x00, 0x00, 0x42, 0x31};
+
+/*
+ * Packs sheet into the front of out: 0 to 11, 14, 15 or 18. Bytes of out past a Done length keep their values, and on any other
+ * answer all do. With out_len 0, NO_ROOM tells the length that a good sheet needs. For editions 1 and 2 it is never more than
+ * 3 x sheet_len. For edition 3 it can be more than 4 GiB, since a few bytes of the sheet can name a long entry.
+ *
+ * The trailer of a sheet tells its edition, 1, 2 or 3; any other is BAD_TRAILER. Label numbers are 0 to 1,023 in edition 1 and 0
+ * to 4,095 in editions 2 and 3, and any other is BAD_FIELD. In edition 3 a string may be an entry of the book. All else is the
+ * same in all three.
+ *
+ * In a sheet of edition 3 a string length of 65,535 is followed by a u16 entry number, from 0, in place of bytes. The string is
+ * packed as if the entry's bytes stood in the sheet. An entry number at or past the number of entries is BAD_FIELD, at its place. A
+ * book that is not well formed is BAD_BOOK, also if no string names an entry: after SHEET_TOO_LONG and BAD_TRAILER, and before what
+ * else is wrong with the sheet. In editions 1 and 2 a string length of 65,535 is a length like others.
  *
  * In plain mode, strict and contained false, a branch (If or Jump) whose label no body records has distance 0, so it goes on with
  * what stands after it. In strict mode it is refused: NEVER_RECORDED, with the byte position in the block at which its operand
@@ -77,8 +99,8 @@ extern "C" {
  * STRAY_BRANCH, with the same position. The main body is one; bodies of With and Try belong to the function around them. All else
  * is as in plain mode, the bytes of a block too.
  */
-uint32_t merinovault_pack(const uint8_t *sheet, size_t sheet_len, bool strict, bool contained, uint8_t *out, size_t out_len,
-                          uint8_t *value, size_t value_len);
+uint32_t merinovault_pack(const uint8_t *sheet, size_t sheet_len, const uint8_t *book, size_t book_len, bool strict, bool contained,
+                          uint8_t *out, size_t out_len, uint8_t *value, size_t value_len);
 
 /*
  * Steps through block to its last byte. A step is one byte for an opcode under 0x80; else it is 3 bytes and as many more as the

@@ -6,8 +6,8 @@ Run in the checkout after the oracle is built: python3 oracle/blocks.py
 import struct
 import subprocess
 
-from packings import CALL, HAND, HAND_2, POP, jump, pattern, push, string
-from readings import LABELS, ORACLE, OTHER_EDITIONS, body, nested, sheet, u16
+from packings import CALL, HAND, HAND_2, HAND_3, POP, jump, pattern, push, string
+from readings import LABELS, ORACLE, OTHER_EDITIONS, PLACES, body, named, nested, sheet, u16
 
 # What document 01 says of the program: an input, and its text.
 SAMPLE = bytes.fromhex("01 00 00 00 00 00 01 00 99 00 00 0B 00 00 00 01 00 41 31")
@@ -32,8 +32,19 @@ def in_edition(edition):
     return SAMPLE[:-4] + u16(edition) + SAMPLE[-2:]
 
 
+def without_entries():
+    """Sheets of edition 3 that name an entry, of which the program's book has none, each with the line that it must give."""
+    for main, _ in HAND_3:
+        # the first string's number stands two bytes behind its length
+        yield sheet(main, edition=3), f"5 {main.index(named(0)[:2]) + 2}"
+    for action, n in PLACES:
+        main = body(POP, action(named(0)))
+        yield sheet(main, edition=3), f"5 {5 + n + 2}"
+        yield sheet(main[: 5 + n + 3], edition=3), f"3 {5 + n + 2}"
+
+
 def refusals():
-    """2 to 7 and 9 to 11, each with the line that it must give. A sheet so short has no payload for 8."""
+    """2 to 7 and 9 to 11, each with the line that it must give. A sheet so short has no payload for 8, and 18 is not met."""
     for bad in (b"", b"\x01", SAMPLE[:7], SAMPLE[:-1], SAMPLE[:-1] + b"2", sheet(body(), distance=5)):
         yield bad, "2 0"
     for edition in OTHER_EDITIONS:
@@ -47,6 +58,7 @@ def refusals():
         yield sheet(body(jump(bound)), edition=edition), "5 5"
         yield sheet(body(labels=[(bound, 0)]), edition=edition), "5 2"
     yield sheet(body(jump(4095), labels=[(4095, 0)])), "5 2"
+    yield from without_entries()
     yield sheet(body(b"\x8b" + string(b"a\0b"))), "5 8"
     yield sheet(nested(17)), "6 80"
     yield sheet(body() + b"\x00"), "7 4"
@@ -59,11 +71,13 @@ def refusals():
 
 
 def blocks():
-    """Blocks that end before a line's end, at it and behind it; of both editions; every byte; and the longest."""
+    """Blocks that end before a line's end, at it and behind it; of all editions; every byte; and the longest."""
     for main, _ in HAND:
         yield sheet(main)
     for main, _ in HAND_2:
         yield sheet(main, edition=2)
+    for main, _ in HAND + HAND_2:
+        yield sheet(main, edition=3)
     yield sheet(body(jump(4095), labels=[(n, 0) for n in range(4096)]), edition=2)
     for n in (1, 2, 15, 16, 17, 31, 32, 33, 48, 255, 256, 257, 999, 1000, 1001):
         yield of_size(n)
@@ -90,7 +104,7 @@ def write(crate, stdin, stdout):
 
 
 def main():
-    assert text(SAMPLE) == text(in_edition(2)) == SAMPLE_TEXT
+    assert text(SAMPLE) == text(in_edition(2)) == text(in_edition(3)) == SAMPLE_TEXT
     write("block", SAMPLE, text(SAMPLE))
     full = as_long_as(SPACE, HAND[5][0])
     assert text(full) == "12 65536\n"
@@ -100,7 +114,7 @@ def main():
     for s, line in refusals():
         assert text(s) == line + "\n", (line, text(s))
         cases.append(s)
-    cases += [in_edition(2), SAMPLE]
+    cases += [in_edition(2), in_edition(3), SAMPLE]
     write("block_cases", records(cases), "".join(map(text, cases)))
 
 

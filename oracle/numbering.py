@@ -15,6 +15,8 @@ OWNERS, BRANCHES = (0x8E, 0x94, 0x9B), (0x99, 0x9D)
 VALUES = {2: 0, 3: 0, 4: 1, 5: 1, 6: 8, 7: 4, 8: 2}
 STRING, CONSTANT = 0, 8
 LONGEST = 65535
+# The length of a string that is an entry of the book, in the edition that has one.
+NAMED, WITH_BOOK = 65535, 3
 
 
 class Met(Exception):
@@ -38,16 +40,29 @@ class Action:
         self.opcode, self.body, self.index, self.payload = opcode, body, index, 0
 
 
+@lru_cache(4)
+def entry_lengths(book):
+    """Of each entry of a book that is well formed."""
+    distance, count = struct.unpack_from("<IH", book, len(book) - 8)
+    at, lengths = len(book) - 8 - distance, []
+    for _ in range(count):
+        lengths += struct.unpack_from("<H", book, at)
+        at += 2 + lengths[-1]
+    return lengths
+
+
 class Reading:
     """A sheet read as far as the field at a place, or whole: its actions in sheet order, and what was being read then.
 
     No field is tested: the oracle has told that there is a fault at the place, or that there is none.
     """
 
-    def __init__(self, sheet, place):
-        (distance,) = struct.unpack_from("<I", sheet, len(sheet) - 8)
+    def __init__(self, sheet, book, place):
+        distance, edition = struct.unpack_from("<IH", sheet, len(sheet) - 8)
         self.bytes, self.at, self.place = sheet, len(sheet) - 8 - distance, -1 if place is None else place
-        self.actions, self.records, self.bodies = [], [], []
+        self.entries = entry_lengths(book) if edition == WITH_BOOK else None
+        # where each string stands, its length included
+        self.actions, self.records, self.bodies, self.strings = [], [], [], []
         try:
             self.read_body(Body())
         except Met:
@@ -106,11 +121,21 @@ class Reading:
         if kind in "bw":
             return len(self.take("bw".index(kind) + 1))
         if kind == "s":
-            return len(self.take(self.number())) + 1
+            start = self.at
+            length = self.string()
+            self.strings.append((start, self.at))
+            return length + 1
         items = range(self.number())
         if kind == "V":
             return sum(self.value() for _ in items)
         return 2 + sum((self.field("b") if kind == "P" else 0) + self.field("s") for _ in items)
+
+    def string(self):
+        """Gives the length of the bytes that it stands for."""
+        n = self.number()
+        if n == NAMED and self.entries is not None:
+            return self.entries[self.number()]
+        return len(self.take(n))
 
     def value(self):
         kind = self.number(1)
@@ -177,11 +202,11 @@ WRONG = {
 
 
 @lru_cache(4)
-def numberings(sheet, number, value):
+def numberings(sheet, book, number, value):
     """The action number of an answer with this number and value: by the rules, and then by each of the wrong ones."""
-    if number in (0, 1, 2, 11, 12, 13):
+    if number in (0, 1, 2, 11, 12, 13, 18):
         return (0,) * (1 + len(WRONG))
-    reading = read(sheet, value if number <= 6 else None)
+    reading = read(sheet, book, value if number <= 6 else None)
     begun, body, index, last = len(reading.actions), reading.body, reading.index, None
     if number <= 5:
         right = begun - 1 if reading.part == "action" else begun
@@ -213,11 +238,11 @@ def numberings(sheet, number, value):
 def check(answers):
     """Holds action numbers to the rules, and sees that the answers tell each of the wrong ones apart, as far as they have its numbers.
 
-    Of each answer the sheet, number, value and action number are given.
+    Of each answer the sheet, the book, number, value and action number are given.
     """
     met, told = set(), set()
-    for sheet, number, value, action in answers:
-        right, *others = numberings(sheet, number, value)
+    for sheet, book, number, value, action in answers:
+        right, *others = numberings(sheet, book, number, value)
         assert action == right, (sheet[:64].hex(), number, value, action, right)
         met.add(number)
         told.update((name, number) for name, other in zip(WRONG, others) if other != right)

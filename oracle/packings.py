@@ -1,5 +1,5 @@
 #!/usr/bin/env python3
-"""Writes stdin and stdout of crates/replay: sheets with rooms, and what the oracle answers to each in every mode.
+"""Writes stdin and stdout of crates/replay: sheets with books and rooms, and what the oracle answers to each in every mode.
 
 Run in the checkout after the oracle is built: python3 oracle/packings.py
 """
@@ -10,7 +10,8 @@ from collections import Counter
 
 import numbering
 import readings
-from readings import LABELS, ORACLE, OTHER_EDITIONS, body, function2, nested, sheet, string, u16
+from readings import COUNTS, EMPTY_BOOK, GOOD_BOOK, LABELS, ORACLE, OTHER_EDITIONS, WORDS, Lent
+from readings import body, book, book_of, edition_of, function2, named, nested, probed, sheet, string, u16
 
 GENERATE = "oracle/target/release/generate"
 # The rooms that are called ample: of small sheets, and of long ones all that the program can lend.
@@ -78,6 +79,25 @@ HAND = [
     (body(jump(0), with_(PLAY, labels=[(0, 0)]), labels=[(0, 0)]), "99 02 00 05 00 94 02 00 01 00 06 00"),
 ]
 
+# Main bodies of edition 3 that name entries of GOOD_BOOK, and their blocks, worked by hand.
+HAND_3 = [
+    (body(b"\x8b" + named(0)), "8B 03 00 61 62 00 00"),
+    (body(b"\x8c" + named(1), b"\x8b" + named(2)), "8C 01 00 00 8B 04 00 FF 63 64 00 00"),
+    (body(b"\x83" + named(0) + named(2)), "83 07 00 61 62 00 FF 63 64 00 00"),
+    (body(b"\x88" + u16(3) + named(0) + string(b"q") + named(0)), "88 0A 00 03 00 61 62 00 71 00 61 62 00 00"),
+    (body(push(b"\x00" + named(0), b"\x02", b"\x00" + named(1))), "96 07 00 00 61 62 00 02 00 00 00"),
+    (
+        body(b"\x8e" + named(0) + u16(1) + b"\x01" + named(1) + b"\x02" + u16(257) + body()),
+        "8E 0C 00 61 62 00 01 00 02 01 01 01 00 00 00 00",
+    ),
+    (body(b"\x9b" + named(1) + u16(1) + named(0) + body(PLAY)), "9B 08 00 00 01 00 61 62 00 01 00 06 00"),
+    (
+        body(b"\x8f\x01" + named(0) + body(b"\x8b" + named(1)) + body()),
+        "8F 0A 00 01 04 00 00 00 00 00 61 62 00 8B 01 00 00 00",
+    ),
+    (body(jump(4095), b"\x8b" + named(0), labels=[(4095, 2)]), "99 02 00 06 00 8B 03 00 61 62 00 00"),
+]
+
 # Label numbers of edition 2 that have their low bits in common: all 0, and all 1.
 ZEROS, ONES = (0, 1024, 2048, 3072), (255, 1023, 2047, 4095)
 # Main bodies of edition 2 that name label numbers from 1,024 on, and their blocks, worked by hand.
@@ -97,6 +117,18 @@ HAND_2 = [
     (body(jump(4095), with_(PLAY, labels=[(4095, 0)]), labels=[(4095, 0)]), "99 02 00 05 00 94 02 00 01 00 06 00"),
     (body(function(b"f", [], body(jump(1024), labels=[(1024, 0)]))), "9B 06 00 66 00 00 00 05 00 99 02 00 FB FF 00"),
 ]
+
+
+def all_named(s, note=b""):
+    """A sheet of edition 1 or 2 that spells its strings, in edition 3: they are all entries of its book."""
+    numbers, main, start = {}, b"", len(s) - 8 - struct.unpack_from("<I", s, len(s) - 8)[0]
+    at = start
+    for first, end in numbering.read(s, b"", None).strings:
+        main += s[at:first] + named(numbers.setdefault(s[first + 2 : end], len(numbers)))
+        at = end
+    lent = Lent(sheet(main + s[at:-8], note=s[:start], edition=3), book(*numbers, note=note))
+    lent.spelt = s
+    return lent
 
 
 def labels_and_branches():
@@ -170,23 +202,30 @@ def small_questions():
     mains = [main for main, _ in HAND] + [*labels_and_branches(), *strings_and_values()]
     sheets = [sheet(main) for main in mains] + [sheet(mains[11], note=b"a note"), sheet(mains[11], note=bytes(9))]
     sheets += [sheet(main, edition=2) for main, _ in HAND + HAND_2] + [sheet(HAND_2[0][0], note=b"a note", edition=2)]
+    sheets += [sheet(main, edition=3) for main, _ in HAND + HAND_2] + [sheet(HAND_2[0][0], note=b"a note", edition=3)]
+    sheets += [Lent(sheet(main, edition=3), GOOD_BOOK) for main, _ in HAND_3]
+    sheets += [all_named(sheet(main), note=b"note") for main in strings_and_values()]
     for s, (number, n, *_) in zip(sheets, answers((s, SHEETS_SPACE, PLAIN) for s in sheets)):
         yield s, SHEETS_SPACE
         if number == 0:
             yield from ((s, room) for room in (n, n - 1, 0))
     for main in every_opcode():
         yield sheet(main), SHEETS_SPACE
-    # edition 2 with small label numbers
+    # editions 2 and 3 with small label numbers
     for main in labels_and_branches():
         yield sheet(main, edition=2), SHEETS_SPACE
-    # 2 to 7 come before 11
+        yield all_named(sheet(main)), SHEETS_SPACE
+    # 2 to 7 come before 11, and so does 18
     for i, s in enumerate([*readings.sheets(), *(s for s, _ in readings.editions())]):
         if i % 9 == 0:
+            yield s, i % 2 * 7
+    for i, (s, _) in enumerate(readings.word_books()):
+        if i % 3 != 2:
             yield s, i % 2 * 7
     # a block of 64 bytes and of 65, and a sheet that takes all the room there is
     for n in (63, 64):
         yield from ((sheet(body(*[POP] * n)), room) for room in (n, n + 1, n + 2))
-    for kind in (("mixed", 300, 1, 1), ("mixed", 300, 1, 2), ("damaged", 90, 20, 3), ("small", 60, 701, 1)):
+    for kind in (("mixed", 200, 2, 1), ("damaged", 90, 41, 3), ("small", 60, 1501, 1), ("books", 300, 301, 1)):
         yield from generated(*kind, SHEETS_SPACE)
 
 
@@ -261,7 +300,7 @@ def orders():
 
 # By the edition: three label numbers for the sheets below, and the last that there is. The three of edition 2 have their low bits
 # in common.
-NUMBERS = {1: (0, 1, 2, 1023), 2: (*ZEROS[1:], 4095)}
+NUMBERS = {1: (0, 1, 2, 1023), 2: (*ZEROS[1:], 4095), 3: (*ONES[1:], 4094)}
 
 
 def unrecorded(edition):
@@ -402,7 +441,7 @@ def editions():
     f = lambda inside: function(b"f", [], inside)
     for edition, bound in LABELS.items():
         of = lambda *actions, labels=(): sheet(body(*actions, labels=labels), edition=edition)
-        # at the bounds of both editions; a label that is out of bounds is refused where it is met first
+        # at the bounds of all editions; a label that is out of bounds is refused where it is met first
         for label in (1, 1022, 1023, 1024, 1025, 2048, 4094, 4095, 4096, 4097, 65535):
             unless = lambda place, answers: answers if label < bound else alike((5, place))
             # an entry, and one behind another; a branch, and one behind another; both
@@ -418,9 +457,10 @@ def editions():
             yield of(f(body(PLAY, labels=[(label, 0)])), jump(label)), unless(12, by_contained((0, 16), (15, 13)))
         # entries of all numbers up to 1,024
         yield of(jump(1024), labels=[(n, 0) for n in range(1025)]), alike((0, 6) if 1024 < bound else (5, 4098))
-    # edition 2 with small label numbers: what document 01 runs
+    # editions 2 and 3 with small label numbers: what document 01 runs
     for main, number, value in RUN:
         yield sheet(main, edition=2), alike((number, value))
+        yield all_named(sheet(main)), alike((number, value))
     # the same with large ones: as far as a branch reaches, and one further
     for label in (1024, 4095):
         for pops, answer in ((32767, (0, 32773)), (32768, (10, 32768))):
@@ -440,10 +480,12 @@ def editions():
     for edition in OTHER_EDITIONS:
         for main in (HAND[5][0], HAND_2[0][0], body(jump(4096))):
             yield sheet(main, edition=edition), alike((2, 0))
-    for edition in (2, 3):
+    for edition in (2, 3, 4):
         for n in (1048576, 1048577):
             s = sheet(HAND_2[0][0], note=b"n" * (n - 8 - len(HAND_2[0][0])), edition=edition)
-            yield s, alike((1, n) if n > 1048576 else (0, 6) if edition == 2 else (2, 0))
+            yield s, alike((1, n) if n > 1048576 else (0, 6) if edition < 4 else (2, 0))
+            if edition > 2:
+                yield Lent(s, b""), alike((1, n) if n > 1048576 else (18, 0) if edition < 4 else (2, 0))
     yield sheet(HAND_2[0][0], distance=12, edition=2), alike((2, 0))
     yield sheet(HAND_2[0][0], edition=2)[:-1] + b"2", alike((2, 0))
 
@@ -509,12 +551,125 @@ def numbered():
     yield body(with_(POP), POP), alike((0, 8, 0))
 
 
+def word_books():
+    """Document 02's item 8: a sheet with its book, and the answers' numbers and values in each mode."""
+    target_of = lambda *entries: body(*[b"\x8b" + named(entry) for entry in entries])
+    lend = lambda main, lent, edition=3: Lent(sheet(main, edition=edition), lent)
+    # a bad book comes before what a mode refuses, and before 8 to 11; editions 1 and 2 do not look at it
+    bad = book(b"a\0")
+    for main, edition_2 in (
+        (body(target(65535)), alike((8, 65536))),
+        (body(b"\x94" + of_length(65536)), alike((9, 65536))),
+        (body(*[POP] * 40000, jump(0), labels=[(0, 0)]), alike((10, -40005))),
+        (body(jump(0)), by_strict((0, 6), (14, 3))),
+        (body(function(b"f", [], body(labels=[(0, 0)])), jump(0)), by_contained((0, 15), (15, 12))),
+        (body(*[CALL] * 65535), alike((0, 196606))),
+    ):
+        yield lend(main, bad), alike((18, 0))
+        yield lend(main, bad, edition=2), edition_2
+        yield lend(main, bad, edition=1), edition_2
+    # the longest entries: of 65,535 bytes for a payload that has room for one less; a book that is longer than they
+    longest = book(b"a" * 65535, b"b", b"c" * 65534, note=b"n" * 70000)
+    for entry, answer in ((0, (8, 65536)), (1, (0, 6)), (2, (0, 65539)), (3, (5, 7))):
+        yield lend(target_of(entry), longest), alike(answer)
+    yield lend(target_of(1), longest, edition=2), alike((3, 7))
+    for cut in (1, 2, 65535, 65536):
+        yield lend(body(), book(note=u16(65535) + b"a" * 65535)[cut:-8] + longest[-8:-4] + b"\x01\x00B1"), alike((18, 0))
+        front = (u16(65535) + b"a" * 65535)[:-cut]
+        yield lend(body(), book(note=front, distance=len(front), count=1)), alike((18, 0))
+    yield lend(target_of(0), book(b"a" * 65534 + b"\0")), alike((18, 0))
+    yield lend(target_of(0), book(b"a" * 65535, b"b", count=1)), alike((18, 0))
+    # a length of 65,535 is plain in editions 1 and 2; in edition 3 it is entry 24,929, with bytes left over
+    plain, many = body(target(65535)), book(*[b""] * 24930)
+    for edition, answer in ((1, (8, 65536)), (2, (8, 65536)), (3, (7, 9))):
+        yield lend(plain, many, edition=edition), alike(answer)
+    yield lend(plain, book(*[b""] * 24929)), alike((5, 7))
+    # the longest note, and the longest book that the program has space for
+    yield lend(target_of(0, 1, 2), book(*WORDS, note=b"\0" * 1048000)), alike((0, 18))
+    yield lend(target_of(15), book(*[b"a" * 65533] * 15, b"b")), alike((0, 6))
+    # sheets of the longest length
+    for n in (1048575, 1048576, 1048577):
+        main = target_of(0, 2)
+        s = sheet(main, note=b"n" * (n - 8 - len(main)), edition=3)
+        for lent, answer in ((GOOD_BOOK, (0, 14)), (EMPTY_BOOK, (5, n - 15)), (bad, (18, 0))):
+            yield Lent(s, lent), alike((1, n) if n > 1048576 else answer)
+
+
+def many_words(count):
+    """So many entries: those that are probed are all different, the others are one letter."""
+    words = [b"z"] * count
+    for n in probed(count):
+        words[n] = b"%x" % n
+    return words
+
+
+def counts():
+    """Books of many entries, up to the most, and sheets that name those that are probed: a sheet, and the answers."""
+    pool = lambda strings: body(b"\x88" + u16(len(strings)) + b"".join(strings))
+    for count in sorted({*COUNTS, *(n - 1 for n in COUNTS), 1, 2, 3, 15, 16, 17}):
+        words, numbers = many_words(count), probed(count)
+        lent = Lent(sheet(pool([named(n) for n in numbers]), edition=3), book(*words))
+        lent.spelt = sheet(pool([string(words[n]) for n in numbers]))
+        yield lent, alike((0, None))
+        backward = Lent(sheet(pool([named(n) for n in numbers[::-7]]), edition=3), book(*words, note=b"note"))
+        backward.spelt = sheet(pool([string(words[n]) for n in numbers[::-7]]))
+        yield backward, alike((0, None))
+        # empty ones, and a number at the count; one entry too few and one too many
+        main = pool([named(0), named(count - 1), named(count)])
+        empty = [b""] * count
+        yield Lent(sheet(main, edition=3), book(*empty)), alike((5, 17))
+        for other in (count - 1, count + 1):
+            yield Lent(sheet(main, edition=3), book(*empty, count=other % 65536)), alike((18, 0))
+
+
+# What a book of LONG_WORDS makes the longest of: a payload, and with it one body of 65,535 bytes, and three.
+LONG_WORDS = book(*[b"a" * n for n in (65534, 65531, 65530, 65527)])
+LONG_TARGET = b"\x8b" + named(0)
+LONG_BODY = body(b"\x8b" + named(1))
+LONG_FUNCTION = b"\x9b" + named(2) + u16(0) + LONG_BODY
+LONG_TRY = b"\x8f\x03" + named(3) + 3 * LONG_BODY
+
+
+def long_blocks():
+    """Blocks that are longer than a u32 counts, of sheets of edition 3: a sheet, and the answers in each mode."""
+    lend = lambda *actions, labels=(): Lent(sheet(body(*actions, labels=labels), edition=3), LONG_WORDS)
+    each = 65538
+    # with one and with three long bodies; as many as there can be of each; the most that a sheet can come to
+    yield lend(LONG_FUNCTION), alike((0, 2 * 65535 + 4))
+    yield lend(LONG_TRY), alike((0, 4 * 65535 + 4))
+    yield lend(*[LONG_TARGET] * 65535), alike((11, 4295032831))
+    yield lend(*[LONG_FUNCTION] * 65535), alike((11, 65535 * 131073 + 1))
+    yield lend(*[LONG_TRY] * 31774), alike((11, 8329331683))
+    yield lend(*[LONG_TARGET] * 39789, *[LONG_TRY] * 25746), alike((11, 39789 * each + 25746 * 262143 + 1))
+    # around 2 to the 31 and 2 to the 32
+    for n in (1 << 31, 1 << 32):
+        for length in (n - 1, n, n + 1):
+            times, rest = divmod(length - 1 - 4, each)
+            rest = [target(rest)] if rest + 4 <= each else [target(rest - 4), target(0)]
+            yield lend(*[LONG_TARGET] * times, *rest), alike((11, length))
+    # refused behind so many bytes, and before them
+    front, far = [LONG_TARGET] * 65500, 65500 * each
+    f = lambda inside: function(b"f", [], inside)
+    yield lend(*front, b"\x83" + named(0) + named(3)), alike((8, 65534 + 65527 + 2, 65500))
+    yield lend(*front, with_(LONG_TARGET)), alike((9, each, 65500))
+    yield lend(*front, jump(0), labels=[(0, 0)]), alike((10, -far - 5, 65500))
+    yield lend(branch(0), *front, labels=[(0, 65501)]), alike((10, far, 0))
+    yield lend(*front, jump(0), labels=[(0, 65501)]), alike((11, far + 6, 0))
+    yield lend(*front, jump(0)), by_strict((11, far + 6, 0), (14, far + 3, 65500))
+    yield lend(*front, f(body(labels=[(0, 0)])), jump(0)), by_contained((11, far + 15, 0), (15, far + 12, 65501))
+    yield lend(f(body(labels=[(0, 0)])), *front, jump(0)), by_contained((10, -far - 5, 65501), (15, far + 12, 65501))
+    # a function whose first byte is 2 to the 32 from that of main
+    start, n = [LONG_TRY, *[LONG_TARGET] * 65530, target(0)], 1 << 32
+    strays = lend(*start, f(body(PLAY, labels=[(0, 0)])), jump(0))
+    yield strays, by_contained((11, n + 7, 0), (15, n + 4, 65537))
+
+
 def tables_2():
     """4,096 label entries in edition 2, and a jump to every 65th label: a sheet, and the answers in each mode."""
     actions = [POP if n % 64 else jump(n // 64 * 65) for n in range(4096)]
     done = (0, 64 * 5 + 63 * 64 + 1)
-    # at rising indices, at falling ones, all at one, and at the count
-    for index in (lambda n: n, lambda n: 4095 - n, lambda n: 7, lambda n: 4096):
+    # at rising indices, at falling ones, and all at one
+    for index in (lambda n: n, lambda n: 4095 - n, lambda n: 7):
         yield sheet(body(*actions, labels=[(n, index(n)) for n in range(4096)]), edition=2), alike(done)
     # at the count and past it in turn: the second jump's label has no record
     yield sheet(body(*actions, labels=[(n, 4096 + n % 2) for n in range(4096)]), edition=2), by_strict(done, (14, 71))
@@ -575,26 +730,30 @@ def long_sheets():
 def long_questions():
     """Sheets with rooms, and the answers in each mode where documents 01 and 02 give them."""
     dues = [(sheet(main), alike((number, value))) for main, number, value in [*RUN, *orders()]]
+    dues += [(all_named(sheet(main)), alike((number, value))) for main, number, value in orders()]
     for edition in LABELS:
-        dues += [(sheet(main, edition=edition), by_strict(plain, strict)) for main, plain, strict in unrecorded(edition)]
-        dues += [(sheet(main, edition=edition), due) for main, due in contained(edition)]
-    for s, due in [*dues, *editions()]:
-        yield s, LONG_SPACE if len(s) > 1000 else SHEETS_SPACE, due
+        dues += [(in_edition(edition, main), by_strict(plain, strict)) for main, plain, strict in unrecorded(edition)]
+        dues += [(in_edition(edition, main), due) for main, due in contained(edition)]
+    for s, due in [*dues, *editions(), *word_books()]:
+        yield s, ample(s), due
         # 8 to 10, 14 and 15 come before 11
         if any(number in (8, 9, 10, 14, 15) for number, _ in due):
             yield s, 0, tuple(map(without_room, due))
     for s, due in readings.numbered():
         yield s, SHEETS_SPACE, alike(due)
     for i, (main, due) in enumerate(numbered()):
-        s, is_taken = sheet(main, edition=1 + i % 2), any(number == 0 for number, *_ in due)
-        yield s, LONG_SPACE if is_taken and len(s) > 1000 else SHEETS_SPACE, due
+        s, is_taken = numbered_in(1 + i % 3, main, due), any(number == 0 for number, *_ in due)
+        yield s, ample(s) if is_taken else SHEETS_SPACE, due
     for s, due in tables_2():
         yield s, LONG_SPACE, due
+    for s, due in [*counts(), *long_blocks()]:
+        yield s, LONG_SPACE, due
     for n, main in payloads():
-        yield sheet(main), LONG_SPACE, alike((0, None) if n < 65536 else (8, n))
+        for s in (sheet(main), all_named(sheet(main))):
+            yield s, LONG_SPACE, alike((0, None) if n < 65536 else (8, n))
     for edition in LABELS:
         for main in longest_branches(edition):
-            yield sheet(main, edition=edition), LONG_SPACE, alike(None)
+            yield in_edition(edition, main), LONG_SPACE, alike(None)
     for main in tables():
         yield sheet(main), LONG_SPACE, alike(None)
     sheets = [sheet(main) for main, number, _ in RUN if number == 0] + list(long_sheets())
@@ -602,11 +761,26 @@ def long_questions():
         yield s, LONG_SPACE, alike(None)
         if number == 0:
             yield from ((s, room, ((0, n) if room == n else (11, n), None, None, None)) for room in (n, n - 1, 0))
-    for family, step in (("distances", 11), ("limits", 13)):
-        for s, room in generated(family, LONG_SPACE, step, 1, LONG_SPACE):
+    for family, longest, step in (("distances", LONG_SPACE, 17), ("limits", LONG_SPACE, 19), ("books", 60000, 211)):
+        for s, room in generated(family, longest, step, 1, LONG_SPACE):
             # of label entries, which no pattern shortens, there are enough above
-            if len(pattern(s)) < 5000:
+            if len(pattern(s)) < 5000 and len(pattern(book_of(s))) < 5000:
                 yield s, room, alike(None)
+
+
+def ample(s):
+    return LONG_SPACE if len(s) + len(book_of(s)) > 1000 else SHEETS_SPACE
+
+
+def in_edition(edition, main):
+    """A sheet of an edition; of edition 3 with all strings named."""
+    return all_named(sheet(main, edition=2)) if edition == 3 else sheet(main, edition=edition)
+
+
+def numbered_in(edition, main, due):
+    """The same; where reading meets a fault, no string is named, so that its place stays."""
+    reads_whole = all(number > 7 or number == 0 for number, *_ in due)
+    return in_edition(edition, main) if reads_whole else sheet(main, edition=edition)
 
 
 def without_room(due):
@@ -615,22 +789,26 @@ def without_room(due):
 
 
 def generated(family, longest, step, seed, space):
-    """Every step-th of a family's sheets of at most this length, with rooms of at most this space."""
+    """Every step-th of a family's sheets, with books, both of at most this length, with rooms of at most this space."""
     count = {"mixed": 900, "damaged": 20}.get(family, 1)
     stream = subprocess.run([GENERATE, family, str(seed), str(count)], stdout=subprocess.PIPE, check=True).stdout
     at, seen = 0, 0
     while at < len(stream):
-        (n,) = struct.unpack_from("<I", stream, at)
-        s, (room,) = stream[at + 4 : at + 4 + n], struct.unpack_from("<I", stream, at + 4 + n)
-        at += 9 + n
-        if n <= longest:
+        parts = []
+        for _ in ("sheet", "book"):
+            (n,) = struct.unpack_from("<I", stream, at)
+            parts.append(stream[at + 4 : at + 4 + n])
+            at += 4 + n
+        (room,) = struct.unpack_from("<I", stream, at)
+        at += 5
+        if max(map(len, parts)) <= longest:
             if seen % step == 0:
-                yield s, min(room, space)
+                yield Lent(*parts), min(room, space)
             seen += 1
 
 
 def question(s, room, mode):
-    return struct.pack("<I", len(s)) + s + struct.pack("<IB", room, mode)
+    return readings.question(s, room) + bytes([mode])
 
 
 def answers(questions):
@@ -645,8 +823,9 @@ def answers(questions):
     return found
 
 
-# Up to six bytes, many times.
-REPEATED = re.compile(rb"(.{1,6}?)\1{15,}", re.S)
+# Up to six bytes, many times; or one of the actions that are repeated, and are longer.
+LONG_ACTIONS = b"|".join(map(re.escape, (LONG_FUNCTION, LONG_TRY)))
+REPEATED = re.compile(rb"(" + LONG_ACTIONS + rb"|.{1,6}?)\1{15,}", re.S)
 
 
 def pattern(s):
@@ -655,14 +834,15 @@ def pattern(s):
     for found in REPEATED.finditer(s):
         runs += [(s[at : found.start()], 1), (found[1], len(found[0]) // len(found[1]))]
         at = found.end()
-    runs = [(part, times) for part, times in runs + [(s[at:], 1)] if part]
+    # a part has a length of two bytes
+    runs = [(part[i : i + 65535], times) for part, times in runs + [(s[at:], 1)] for i in range(0, len(part), 65535)]
     assert b"".join(part * times for part, times in runs) == s
     return b"".join(struct.pack("<IH", len(part) * times, len(part)) + part for part, times in runs)
 
 
 def record(s, room, mode, number, value, action, block):
-    sheet, block = pattern(s), pattern(block)
-    return struct.pack("<IIIBBqI", len(sheet), len(block), room, mode, number, value, action) + sheet + block
+    parts = [pattern(part) for part in (s, book_of(s), block)]
+    return struct.pack("<IIIIBBqI", *map(len, parts), room, mode, number, value, action) + b"".join(parts)
 
 
 def check(due, answer):
@@ -671,9 +851,11 @@ def check(due, answer):
 
 
 def main():
-    by_hand = [(1, *hand) for hand in HAND] + [(2, *hand) for hand in HAND + HAND_2]
-    told = answers((sheet(main, edition=edition), 32, PLAIN) for edition, main, _ in by_hand)
-    for (*_, text), answer in zip(by_hand, told):
+    by_hand = [(sheet(main, edition=edition), text) for edition in LABELS for main, text in HAND]
+    by_hand += [(sheet(main, edition=edition), text) for edition in (2, 3) for main, text in HAND_2]
+    by_hand += [(Lent(sheet(main, edition=3), GOOD_BOOK), text) for main, text in HAND_3]
+    told = answers((s, 32, PLAIN) for s, _ in by_hand)
+    for (_, text), answer in zip(by_hand, told):
         block = bytes.fromhex(text)
         assert answer == (0, len(block), 0, block), answer
 
@@ -682,21 +864,25 @@ def main():
     told = answers(asked)
     for due, answer in zip([due for *_, dues in sheets for due in dues], told):
         check(due, answer)
+    # a string that is named is the string that it stands for
+    named_ones = [(asked, answer) for asked, answer in zip(asked, told) if hasattr(asked[0], "spelt") and not 1 <= answer[0] <= 7]
+    spelt = answers((s.spelt, room, mode) for (s, room, mode), _ in named_ones)
+    assert all(by_names == by_letters for (_, by_names), by_letters in zip(named_ones, spelt))
     # all else is as in plain mode
     by_mode = [told[mode :: len(MODES)] for mode in range(len(MODES))]
     for plain, strict, contained, both in zip(*by_mode):
         for number, answer in ((14, strict), (15, contained)):
             assert answer == plain or answer[0] == number and plain[0] in (0, 10, 11), (plain, answer)
         assert both in (strict, contained), (strict, contained, both)
-    numbering.check((s, *answer[:3]) for (s, *_), answer in zip(asked, told))
+    numbering.check((s, book_of(s), *answer[:3]) for (s, *_), answer in zip(asked, told))
     stdin = b"".join(record(*question, *answer) for question, answer in zip(asked, told))
     assert len(stdin) < 3145728, len(stdin)
     numbers = Counter(number for number, *_ in told)
     lines = [f"{number} {count}\n" for number, count in sorted(numbers.items())] + ["differ 0, first 0\n"]
     open("crates/replay/stdin", "wb").write(stdin)
     open("crates/replay/stdout", "w").write("".join(lines))
-    of_edition_2 = sum(s.endswith(b"\x02\x00A1") for s, *_ in sheets)
-    print(len(sheets), "sheets,", of_edition_2, "of them of edition 2, each in every mode,", len(stdin), "bytes")
+    of_2, of_3 = (sum(edition_of(s) == edition for s, *_ in sheets) for edition in (2, 3))
+    print(len(sheets), "sheets,", of_2, "of edition 2 and", of_3, "of edition 3, each in every mode,", len(stdin), "bytes")
     for mode, found in zip(MODES, by_mode):
         print(mode, dict(sorted(Counter(number for number, *_ in found).items())))
 

@@ -54,12 +54,26 @@ tells "$made/accept_leaves_its_function" 0 pack --strict <"$made/accept_leaves_i
 tells samples/accept_leaves_its_function.contained.out 1 pack --contained <"$made/accept_leaves_its_function.sheet"
 tells samples/accept_leaves_its_function.contained.out 1 pack --strict --contained <"$made/accept_leaves_its_function.sheet"
 tells "$made/form_with_many_labels" 0 pack --strict --contained <"$made/form_with_many_labels.sheet"
-for name in refused_cut_string refused_too_deep refused_boolean_in_catch; do
+for name in refused_cut_string refused_too_deep refused_boolean_in_catch prompts_from_the_book; do
   samples/hex.sh "samples/$name.hex" >"$made/$name.sheet"
   tells "samples/$name.plain.out" 1 pack <"$made/$name.sheet"
 done
 tells /dev/null 2 pack --other </dev/null 2>/dev/null
-say "the Rust example pack tells of eight samples what it must, of four in strict mode and of three in contained mode too"
+say "the Rust example pack tells of nine samples what it must, of four in strict mode and of three in contained mode too"
+
+# A sample with its book, with a book of which the last byte is missing, and with one that is not there.
+sheet=$made/prompts_from_the_book.sheet book=$made/prompts_from_the_book.book
+samples/hex.sh samples/prompts_from_the_book.book.hex >"$book"
+head -c -1 "$book" >"$made/cut.book"
+text='the book is not well formed: its last 8 bytes must be the distance back to its first entry, the number of entries and the '
+text+='mark 42 31, and the entries, each a length and that many bytes, none of them zero, must fill that distance exactly'
+tells samples/prompts_from_the_book.book.out 0 pack --book "$book" <"$sheet"
+tells samples/prompts_from_the_book.book.out 0 pack --strict --contained --book "$book" <"$sheet"
+tells <(echo "18 BadBook, value 0: $text") 1 pack --book "$made/cut.book" <"$sheet"
+tells "$made/reject_is_rejected" 0 pack --book "$made/cut.book" <"$made/reject_is_rejected.sheet"
+tells /dev/null 2 pack --book "$made/no.book" <"$sheet" 2>/dev/null
+tells /dev/null 2 pack --book <"$sheet" 2>/dev/null
+say "the Rust example pack takes a sample's strings from its book, and refuses a book that is not well formed"
 
 # The block of a sample, whole and without its last byte.
 sed 1d samples/end_in_the_middle.out | xxd -r -p >"$made/block"

@@ -1,7 +1,7 @@
-//! `compare [SHEETS]` packs generated sheets of both editions by the C entry and by the oracle, a million unless told otherwise,
-//! each in every mode: number, value, action number, block, and every byte that must keep its value. It steps through each sheet
-//! and each block by the C entry and by the oracle's plain stepper; a block must be clean. It prints counts by answer and mode, by
-//! edition, and the smallest sheet that is answered differently.
+//! `compare [SHEETS]` packs generated sheets of all editions, each with a book, by the C entry and by the oracle, a million unless
+//! told otherwise, each in every mode: number, value, action number, block, and every byte that must keep its value. It steps
+//! through each sheet and each block by the C entry and by the oracle's plain stepper; a block must be clean. It prints counts by
+//! answer and mode, by edition, and the smallest sheet that is answered differently, with its book.
 
 use merinovault::{Mode, VALUE_LEN, raw};
 use oracle::answer::{self, Answer, action, number, value};
@@ -27,6 +27,9 @@ const MODES: [(&str, Mode, answer::Mode); 4] = [
 const FRESH: u8 = 0xA5;
 const GUARD: usize = 64;
 
+/// Answers have numbers up to 18.
+const NUMBERS: usize = 19;
+
 /// The first seed of the families that are random; each batch takes the next.
 const SEED: u64 = 20_261_115;
 
@@ -36,7 +39,7 @@ struct Counts {
     /// Sheets whose trailer is good, by its edition.
     editions: [u64; Edition::ALL.len()],
     /// By number, in each of the modes.
-    answers: [[u64; MODES.len()]; 16],
+    answers: [[u64; MODES.len()]; NUMBERS],
     /// Answers that give an action other than the first.
     later: u64,
     /// Sheets and blocks that were stepped through, and those of them that are clean.
@@ -44,40 +47,51 @@ struct Counts {
     clean: u64,
     /// Answers that differ, and blocks that are not clean.
     differences: u64,
-    /// The smallest sheet that is answered differently, its room and what differs.
-    smallest: Option<(Vec<u8>, usize, String)>,
+    /// The smallest sheet that is answered differently, with its book and its room, and what differs.
+    smallest: Option<(Lent, String)>,
     output: Vec<u8>,
 }
 
+/// What both sides get, but for the mode.
+#[derive(Clone)]
+struct Lent {
+    sheet: Vec<u8>,
+    book: Vec<u8>,
+    room: usize,
+}
+
 impl Counts {
-    /// A room over what any block can take is cut to that, so that the output can be looked through.
-    fn compare(&mut self, question: &Question) {
-        let sheet = &question.sheet;
-        let room = (question.room as usize).min(3 * sheet.len() + 64);
+    /// A room that is far over what the block takes is cut, so that the output can be looked through. A block of another mode is
+    /// the same bytes as in plain mode.
+    fn compare(&mut self, question: Question) {
+        let Question {
+            sheet, book, room, ..
+        } = question;
+        let asked = room as usize;
+        let theirs = MODES.map(|(_, _, mode)| oracle::pack::pack(&sheet, &book, mode, asked));
+        let most = theirs[0].as_ref().map_or(3 * sheet.len(), Vec::len);
+        let room = asked.min(most + GUARD);
+        let lent = Lent { sheet, book, room };
         self.sheets += 1;
-        if let Ok((_, edition)) = cut(sheet) {
+        if let Ok((_, edition)) = cut(&lent.sheet) {
             self.editions[usize::from(edition.number()) - 1] += 1;
         }
-        self.compare_steps(sheet, room, None);
-        for (column, (name, ours, theirs)) in MODES.into_iter().enumerate() {
-            let theirs = oracle::pack::pack(sheet, theirs, room);
-            self.answers[usize::from(number(&theirs))][column] += 1;
-            self.later += u64::from(action(&theirs) > 0);
-            if let Some(what) = self.difference(sheet, ours, room, &theirs) {
-                self.differs(sheet, room, format!("{name}: {what}"));
+        self.compare_steps(&lent, None);
+        for (column, ((name, ours, _), theirs)) in MODES.into_iter().zip(&theirs).enumerate() {
+            self.answers[usize::from(number(theirs))][column] += 1;
+            self.later += u64::from(action(theirs) > 0);
+            if let Some(what) = self.difference(&lent, ours, theirs) {
+                self.differs(&lent, format!("{name}: {what}"));
             }
-            // A block of another mode is the same bytes.
-            if ours == Mode::PLAIN
-                && let Ok(block) = &theirs
-            {
-                self.compare_steps(sheet, room, Some(block));
-            }
+        }
+        if let Ok(block) = &theirs[0] {
+            self.compare_steps(&lent, Some(block));
         }
     }
 
     /// Steps through a sheet's bytes, or through its block, by the C entry and by the oracle's stepper. A block must be clean.
-    fn compare_steps(&mut self, sheet: &[u8], room: usize, block: Option<&[u8]>) {
-        let (name, bytes) = block.map_or(("sheet", sheet), |block| ("block", block));
+    fn compare_steps(&mut self, lent: &Lent, block: Option<&[u8]>) {
+        let (name, bytes) = block.map_or(("sheet", &lent.sheet[..]), |block| ("block", block));
         let ours = told_by(|value| raw::step(bytes, value));
         let stepped = steps::step(bytes);
         let theirs = told_of_steps(stepped);
@@ -85,35 +99,34 @@ impl Counts {
         self.clean += u64::from(stepped.is_ok());
         if ours != theirs {
             let what = format!("{}, not {}", text(ours), text(theirs));
-            self.differs(sheet, room, format!("stepping through the {name}: {what}"));
+            self.differs(lent, format!("stepping through the {name}: {what}"));
         } else if block.is_some() && stepped.is_err() {
             let what = format!("stepping through the block: {}, not clean", text(theirs));
-            self.differs(sheet, room, what);
+            self.differs(lent, what);
         }
     }
 
-    fn differs(&mut self, sheet: &[u8], room: usize, what: String) {
+    fn differs(&mut self, lent: &Lent, what: String) {
+        let size = |lent: &Lent| lent.sheet.len() + lent.book.len();
         self.differences += 1;
         if self
             .smallest
             .as_ref()
-            .is_none_or(|(least, ..)| sheet.len() < least.len())
+            .is_none_or(|(least, _)| size(lent) < size(least))
         {
-            self.smallest = Some((sheet.to_vec(), room, what));
+            self.smallest = Some((lent.clone(), what));
         }
     }
 
-    fn difference(
-        &mut self,
-        sheet: &[u8],
-        mode: Mode,
-        room: usize,
-        theirs: &Answer,
-    ) -> Option<String> {
+    fn difference(&mut self, lent: &Lent, mode: Mode, theirs: &Answer) -> Option<String> {
         self.output.clear();
-        self.output.resize(room + 2 * GUARD, FRESH);
-        let out = &mut self.output[GUARD..GUARD + room];
-        let ours = told_by(|value| raw::pack(sheet, mode.strict, mode.contained, out, value));
+        self.output.resize(lent.room + 2 * GUARD, FRESH);
+        let out = &mut self.output[GUARD..GUARD + lent.room];
+        let Mode {
+            strict, contained, ..
+        } = mode;
+        let ours =
+            told_by(|value| raw::pack(&lent.sheet, &lent.book, strict, contained, out, value));
         if ours != told_of(theirs) {
             return Some(format!("{}, not {}", text(ours), text(told_of(theirs))));
         }
@@ -169,7 +182,12 @@ fn main() -> ExitCode {
         }
     };
     let mut counts = Counts::default();
-    for family in [Family::Limits, Family::Distances, Family::Small] {
+    for family in [
+        Family::Limits,
+        Family::Distances,
+        Family::Small,
+        Family::Books,
+    ] {
         run(&mut counts, family, SEED, 0);
     }
     let mut seed = SEED;
@@ -184,8 +202,10 @@ fn main() -> ExitCode {
         "each sheet was packed in every mode; {} answers give an action other than the first",
         counts.later
     );
-    let [one, two] = counts.editions;
-    println!("{one} sheets have a good trailer of edition 1, {two} of edition 2");
+    let [one, two, three] = counts.editions;
+    println!(
+        "{one} sheets have a good trailer of edition 1, {two} of edition 2, {three} of edition 3"
+    );
     println!(
         "{} sheets and blocks stepped through, {} of them clean",
         counts.stepped, counts.clean
@@ -194,12 +214,17 @@ fn main() -> ExitCode {
         "{} sheets, {} differences: answers that differ, or blocks that are not clean",
         counts.sheets, counts.differences
     );
-    let Some((sheet, room, what)) = counts.smallest else {
+    let Some((Lent { sheet, book, room }, what)) = counts.smallest else {
         return ExitCode::SUCCESS;
     };
-    let hex: Vec<String> = sheet.iter().map(|b| format!("{b:02X}")).collect();
-    println!("smallest, at room {room}: {what}\n{}", hex.join(" "));
+    println!("smallest, at room {room}: {what}\n{}", hex(&sheet));
+    println!("its book\n{}", hex(&book));
     ExitCode::FAILURE
+}
+
+fn hex(bytes: &[u8]) -> String {
+    let bytes: Vec<String> = bytes.iter().map(|b| format!("{b:02X}")).collect();
+    bytes.join(" ")
 }
 
 /// A line for each number that was met.
@@ -221,7 +246,7 @@ fn print_answers(answers: &[[u64; MODES.len()]]) {
 fn run(counts: &mut Counts, family: Family, seed: u64, count: usize) {
     let before = counts.sheets;
     questions(family, seed, count, &mut |question| {
-        counts.compare(&question)
+        counts.compare(question)
     });
     eprintln!("{:<9} {:>9} sheets", family.name(), counts.sheets - before);
 }

@@ -51,7 +51,7 @@ pub enum Fault {
     LeftOver,
 }
 
-/// 1 to 12, 14 and 15, with what their values are made of; behind that, in 3 to 10, 14 and 15, the action's number.
+/// 1 to 12, 14, 15 and 18, with what their values are made of; behind that, in 3 to 10, 14 and 15, the action's number.
 #[derive(Clone, Copy, Debug, Eq, PartialEq)]
 pub enum Refusal {
     SheetTooLong(usize),
@@ -64,6 +64,7 @@ pub enum Refusal {
     InputFull(usize),
     NeverRecorded(usize, usize),
     StrayBranch(usize, usize),
+    BadBook,
 }
 
 /// Done with the block, or a refusal.
@@ -86,12 +87,13 @@ impl Refusal {
             Refusal::InputFull(_) => 12,
             Refusal::NeverRecorded(..) => 14,
             Refusal::StrayBranch(..) => 15,
+            Refusal::BadBook => 18,
         }
     }
 
     pub fn value(self) -> i64 {
         match self {
-            Refusal::BadTrailer => 0,
+            Refusal::BadTrailer | Refusal::BadBook => 0,
             Refusal::JumpOffsetOverflow(distance, _) => distance as i64,
             Refusal::SheetTooLong(n)
             | Refusal::Reading(_, n, _)
@@ -110,7 +112,8 @@ impl Refusal {
             Refusal::SheetTooLong(_)
             | Refusal::BadTrailer
             | Refusal::NoRoom(_)
-            | Refusal::InputFull(_) => 0,
+            | Refusal::InputFull(_)
+            | Refusal::BadBook => 0,
             Refusal::Reading(_, _, action)
             | Refusal::ActionLenOverflow(_, action)
             | Refusal::BlockLenOverflow(_, action)

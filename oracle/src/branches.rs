@@ -28,9 +28,12 @@ struct Branch<'a> {
     action: usize,
 }
 
+/// The length of a string by how it stands in the tree.
+pub type Length = fn(&str) -> usize;
+
 /// What a walk in writing order has met. That is sheet order too: an action comes before those in its bodies.
-#[derive(Default)]
 pub struct Walk<'a> {
+    length: Length,
     /// Where it stands.
     now: Spot,
     /// How many actions have begun, in all bodies.
@@ -46,11 +49,24 @@ pub struct Walk<'a> {
 
 impl<'a> Walk<'a> {
     /// Walks over a main body and the End behind it.
-    pub fn over(main: &'a Actions) -> Self {
-        let mut walk = Self::default();
+    pub fn over(main: &'a Actions, length: Length) -> Self {
+        let mut walk = Self {
+            length,
+            now: Spot::default(),
+            actions: 0,
+            functions: 0,
+            too_long: None,
+            branches: vec![],
+            records: HashMap::new(),
+        };
         walk.body(main);
         walk.now.position += 1;
         walk
+    }
+
+    /// The block's length.
+    pub fn wrote(&self) -> usize {
+        self.now.position
     }
 
     /// The first length that is too long. Then the first branch that is too far; in strict mode, that has no record; in contained
@@ -80,7 +96,7 @@ impl<'a> Walk<'a> {
 
     /// Holds the walk against a block of the encoder: its length, and where each branch stands with which distance.
     pub fn assert_wrote(&self, block: &[u8]) {
-        assert_eq!(self.now.position, block.len());
+        assert_eq!(self.wrote(), block.len());
         for Branch { operand, label, .. } in &self.branches {
             let record = self.records.get(label);
             let distance = record.map_or(0, |record| distance(operand, record));
@@ -124,7 +140,7 @@ impl<'a> Walk<'a> {
                 action: number,
             });
         }
-        let payload = payload(action);
+        let payload = payload(action, self.length);
         self.test(payload.unwrap_or(0), number, Refusal::ActionLenOverflow);
         self.now.position += payload.map_or(1, |length| HEADER + length);
         let around = self.now.function;
@@ -158,21 +174,21 @@ fn distance(operand: &Spot, record: &Spot) -> isize {
 }
 
 /// The payload's length, bodies excluded; none for an opcode under 80.
-fn payload(action: &Action) -> Option<usize> {
+fn payload(action: &Action, length: Length) -> Option<usize> {
     Some(match action {
-        Action::GetUrl { url, target } => url.len() + target.len() + 2,
-        Action::SetTarget(string) | Action::GotoLabel(string) => string.len() + 1,
-        Action::ConstantPool(strings) => 2 + sum(strings, |s| s.len() + 1),
+        Action::GetUrl { url, target } => length(url) + length(target) + 2,
+        Action::SetTarget(string) | Action::GotoLabel(string) => length(string) + 1,
+        Action::ConstantPool(strings) => 2 + sum(strings, |s| length(s) + 1),
         Action::DefineFunction { name, params, .. } => {
-            name.len() + 5 + sum(params, |p| p.len() + 1)
+            length(name) + 5 + sum(params, |p| length(p) + 1)
         }
         Action::DefineFunction2 { name, params, .. } => {
-            name.len() + 8 + sum(params, |p| p.name.len() + 2)
+            length(name) + 8 + sum(params, |p| length(&p.name) + 2)
         }
         Action::Try {
             catch_body: Some((CatchTarget::Variable(name), _)),
             ..
-        } => 7 + name.len() + 1,
+        } => 7 + length(name) + 1,
         Action::Try { .. } => 7 + 1,
         Action::With(_) | Action::Jump(_) | Action::If(_) | Action::GotoFrame(_) => 2,
         Action::WaitForFrame { .. } => 3,
@@ -180,15 +196,15 @@ fn payload(action: &Action) -> Option<usize> {
         Action::GotoFrame2 { scene_bias: 0, .. } => 1,
         Action::GotoFrame2 { .. } => 3,
         Action::Call => 0,
-        Action::Push(values) => sum(values, pushed),
+        Action::Push(values) => sum(values, |value| pushed(value, length)),
         _ => return None,
     })
 }
 
 /// The kind byte and what follows it.
-fn pushed(value: &PushValue) -> usize {
+fn pushed(value: &PushValue, length: Length) -> usize {
     1 + match value {
-        PushValue::String(string) => string.len() + 1,
+        PushValue::String(string) => length(string) + 1,
         PushValue::Null | PushValue::Undefined => 0,
         PushValue::Register(_) | PushValue::False | PushValue::True => 1,
         PushValue::Float(_) => 8,
@@ -198,7 +214,7 @@ fn pushed(value: &PushValue) -> usize {
     }
 }
 
-fn sum<T>(items: &[T], length: fn(&T) -> usize) -> usize {
+fn sum<T>(items: &[T], length: impl Fn(&T) -> usize) -> usize {
     items.iter().map(length).sum()
 }
 

@@ -1,8 +1,9 @@
 //! The Rust ActionEncoder, as it stands, behind a reader of sheets of its own; and a generator of sheets.
-//! Document 01 gives the sheet, the answers and their order, document 02 the modes, edition 2, stepping and action numbers. Nothing
-//! here leans on anything in `crates/`.
+//! Document 01 gives the sheet, the answers and their order, document 02 the modes, editions 2 and 3, the word book, stepping and
+//! action numbers. Nothing here leans on anything in `crates/`.
 
 pub mod answer;
+pub mod book;
 pub mod generate;
 pub mod pack;
 pub mod sheet;

@@ -1,7 +1,8 @@
-//! `oracle` answers one sheet as document 01's block program does, `oracle --strict` in strict mode, `oracle --contained` in
-//! contained mode, with both words in both; `oracle stream` answers a stream of questions.
+//! `oracle` answers one sheet as document 01's block program does, with an empty book; `oracle --strict` in strict mode,
+//! `oracle --contained` in contained mode, with both words in both; `oracle stream` answers a stream of questions.
 
 use oracle::answer::{Answer, Mode, Refusal, number, value};
+use oracle::book;
 use oracle::pack::pack;
 use oracle::stream::{Question, write_answer};
 use std::io::{self, BufReader, BufWriter, Read, Write};
@@ -39,7 +40,7 @@ fn one_sheet(mode: Mode) -> io::Result<()> {
     let answer = if sheet.len() == BUFFER {
         Err(Refusal::InputFull(BUFFER))
     } else {
-        pack(&sheet, mode, BUFFER)
+        pack(&sheet, &book::EMPTY, mode, BUFFER)
     };
     io::stdout().write_all(print(&answer).as_bytes())
 }
@@ -59,7 +60,10 @@ fn all_questions() -> io::Result<()> {
     let mut questions = BufReader::new(io::stdin().lock());
     let mut answers = BufWriter::new(io::stdout().lock());
     while let Some(question) = Question::read(&mut questions)? {
-        let answer = pack(&question.sheet, question.mode, question.room as usize);
+        let Question {
+            sheet, book, mode, ..
+        } = &question;
+        let answer = pack(sheet, book, *mode, question.room as usize);
         write_answer(&answer, &mut answers)?;
     }
     answers.flush()
@@ -75,7 +79,7 @@ mod tests {
             0x01, 0x00, 0x00, 0x00, 0x00, 0x00, 0x01, 0x00, 0x99, 0x00, 0x00, 0x0B, 0x00, 0x00,
             0x00, 0x01, 0x00, 0x41, 0x31,
         ];
-        let text = |sheet: &[u8], mode| print(&pack(sheet, mode, BUFFER));
+        let text = |sheet: &[u8], mode| print(&pack(sheet, &book::EMPTY, mode, BUFFER));
         assert_eq!(text(&sheet, Mode::PLAIN), "0 6\n99 02 00 FB FF 00\n");
         assert_eq!(text(&[], Mode::PLAIN), "2 0\n");
         // P7

@@ -1,21 +1,27 @@
-//! The oracle's reader of sheets, written from documents 01 and 02: answers 1 to 7, or the source's tree of actions.
+//! The oracle's reader of sheets, written from documents 01 and 02: answers 1 to 7 and 18, or the source's tree of actions.
 
 use crate::answer::{Fault, Refusal};
+use crate::book;
 use crate::internal::as2_pcode::{Action, Actions, CatchTarget, FunctionParam, PushValue};
+use std::ops::Range;
 
 pub const LONGEST_SHEET: usize = 1_048_576;
 pub const DEEPEST: u32 = 16;
 pub const TRAILER: usize = 8;
+/// The length of a string that is an entry of the book, where the edition has one.
+pub const NAMED: u16 = u16::MAX;
 
-/// The editions that a trailer may name. They differ in the label numbers that a sheet may name, and in nothing else.
+/// The editions that a trailer may name. They differ in the label numbers that a sheet may name and in whether a string may be an
+/// entry of the book, and in nothing else.
 #[derive(Clone, Copy, Debug, Eq, PartialEq)]
 pub enum Edition {
     One,
     Two,
+    Three,
 }
 
 impl Edition {
-    pub const ALL: [Edition; 2] = [Edition::One, Edition::Two];
+    pub const ALL: [Edition; 3] = [Edition::One, Edition::Two, Edition::Three];
 
     /// The edition of a trailer's number, unless there is none.
     pub fn from_number(number: u16) -> Option<Edition> {
@@ -28,6 +34,7 @@ impl Edition {
         match self {
             Edition::One => 1,
             Edition::Two => 2,
+            Edition::Three => 3,
         }
     }
 
@@ -35,8 +42,13 @@ impl Edition {
     pub const fn labels(self) -> u16 {
         match self {
             Edition::One => 1_024,
-            Edition::Two => 4_096,
+            Edition::Two | Edition::Three => 4_096,
         }
+    }
+
+    /// Whether a string may be an entry of the book. No other edition looks at the book.
+    pub const fn has_book(self) -> bool {
+        matches!(self, Edition::Three)
     }
 }
 
@@ -47,15 +59,51 @@ pub struct Whole {
     pub foreign: Vec<u8>,
 }
 
+/// A sheet that reads whole, with the lengths of its strings in place of them: a book can make more of a sheet's strings than
+/// memory holds.
+pub struct Measured {
+    /// The decimal digits of its length stand for each string.
+    pub actions: Actions,
+    /// Where each string stands in the sheet, in order: its length with its bytes or its entry number.
+    pub places: Vec<Range<usize>>,
+    /// How many bytes all strings have.
+    pub total: usize,
+}
+
 /// Reads a sheet. The source's strings are UTF-8; `letter`, an ASCII letter, stands for each byte of any other.
-pub fn read(sheet: &[u8], letter: u8) -> Result<Whole, Refusal> {
+pub fn read(sheet: &[u8], book: &[u8], letter: u8) -> Result<Whole, Refusal> {
+    let (actions, reader) = read_as(Text::Spelt(char::from(letter)), sheet, book)?;
+    Ok(Whole {
+        actions,
+        foreign: reader.foreign,
+    })
+}
+
+/// Reads a sheet and keeps of its strings their lengths.
+pub fn measure(sheet: &[u8], book: &[u8]) -> Result<Measured, Refusal> {
+    let (actions, reader) = read_as(Text::Measured, sheet, book)?;
+    Ok(Measured {
+        actions,
+        places: reader.places,
+        total: reader.total,
+    })
+}
+
+/// 1 and 2, then 18, then 3 to 7, or the tree.
+fn read_as<'a>(text: Text, sheet: &'a [u8], book: &'a [u8]) -> Read<(Actions, Reader<'a>)> {
     let (at, edition) = cut(sheet)?;
     let mut reader = Reader {
         bytes: &sheet[..sheet.len() - TRAILER],
         at,
         edition,
-        letter: char::from(letter),
+        entries: match edition.has_book() {
+            true => Some(book::entries(book)?),
+            false => None,
+        },
+        text,
         foreign: Vec::new(),
+        places: Vec::new(),
+        total: 0,
         begun: 0,
         now: 0,
     };
@@ -64,10 +112,7 @@ pub fn read(sheet: &[u8], letter: u8) -> Result<Whole, Refusal> {
         reader.now = reader.begun;
         return Err(reader.fault(Fault::LeftOver, reader.at));
     }
-    Ok(Whole {
-        actions,
-        foreign: reader.foreign,
-    })
+    Ok((actions, reader))
 }
 
 /// 1 and 2, or the place of the main body's first byte and the edition.
@@ -87,14 +132,27 @@ pub fn cut(sheet: &[u8]) -> Result<(usize, Edition), Refusal> {
     start.zip(edition).ok_or(Refusal::BadTrailer)
 }
 
+/// How a string stands in the tree.
+#[derive(Clone, Copy)]
+enum Text {
+    /// As it is; outside UTF-8 the letter stands for each byte.
+    Spelt(char),
+    /// As the decimal digits of its length.
+    Measured,
+}
+
 /// Stands at a place before the trailer. Each method reads one thing and moves on, or gives the first fault met.
 struct Reader<'a> {
     /// The sheet without its trailer.
     bytes: &'a [u8],
     at: usize,
     edition: Edition,
-    letter: char,
+    /// The book's, in an edition that has one.
+    entries: Option<Vec<&'a [u8]>>,
+    text: Text,
     foreign: Vec<u8>,
+    places: Vec<Range<usize>>,
+    total: usize,
     /// How many actions have begun, in all bodies: the opcode of each is read.
     begun: usize,
     /// The number of the action that a fault gives here.
@@ -103,7 +161,7 @@ struct Reader<'a> {
 
 type Read<T> = Result<T, Refusal>;
 
-impl Reader<'_> {
+impl<'a> Reader<'a> {
     fn fault(&self, fault: Fault, place: usize) -> Refusal {
         Refusal::Reading(fault, place, self.now)
     }
@@ -146,7 +204,24 @@ impl Reader<'_> {
     }
 
     fn string(&mut self) -> Read<String> {
-        let length = usize::from(self.u16()?);
+        let start = self.at;
+        let length = self.u16()?;
+        let bytes = match self.entries {
+            Some(_) if length == NAMED => self.entry()?,
+            _ => self.spelt(usize::from(length))?,
+        };
+        Ok(match self.text {
+            Text::Spelt(letter) => self.utf8(bytes, letter),
+            Text::Measured => {
+                self.places.push(start..self.at);
+                self.total += bytes.len();
+                bytes.len().to_string()
+            }
+        })
+    }
+
+    /// The bytes of a string behind its length.
+    fn spelt(&mut self, length: usize) -> Read<&'a [u8]> {
         let Some(bytes) = self.bytes[self.at..].get(..length) else {
             return Err(self.fault(Fault::CutShort, self.at));
         };
@@ -154,13 +229,24 @@ impl Reader<'_> {
             return Err(self.fault(Fault::BadField, self.at + nul));
         }
         self.at += length;
-        Ok(match str::from_utf8(bytes) {
+        Ok(bytes)
+    }
+
+    /// The entry of a u16 number, which stands in place of a string's bytes and is under the book's count.
+    fn entry(&mut self) -> Read<&'a [u8]> {
+        let count = self.entries.as_ref().map_or(0, Vec::len);
+        let number = self.tested(Self::u16, |number| usize::from(number) < count)?;
+        Ok(self.entries.as_ref().expect("an entry")[usize::from(number)])
+    }
+
+    fn utf8(&mut self, bytes: &[u8], letter: char) -> String {
+        match str::from_utf8(bytes) {
             Ok(string) => string.to_owned(),
             Err(_) => {
                 self.foreign.extend_from_slice(bytes);
-                self.letter.to_string().repeat(length)
+                letter.to_string().repeat(bytes.len())
             }
-        })
+        }
     }
 
     /// A u16 count, then as many.

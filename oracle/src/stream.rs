@@ -1,12 +1,13 @@
 //! Sheets and answers as streams of records; numbers are little-endian.
-//! A question: u32 length, the sheet, u32 room, u8 mode (bit 0 is strict, bit 1 contained). An answer: u8 number, i64 value,
-//! u32 action number, u32 length, the block (empty unless Done).
+//! A question: u32 length, the sheet, u32 length, the book, u32 room, u8 mode (bit 0 is strict, bit 1 contained). An answer: u8
+//! number, i64 value, u32 action number, u32 length, the block (empty unless Done).
 
 use crate::answer::{Answer, Mode, action, number, value};
 use std::io::{self, Read, Write};
 
 pub struct Question {
     pub sheet: Vec<u8>,
+    pub book: Vec<u8>,
     pub room: u32,
     pub mode: Mode,
 }
@@ -21,24 +22,41 @@ impl Question {
         let mut rest = [0; 3];
         from.read_exact(&mut rest)?;
         let length = u32::from_le_bytes([first[0], rest[0], rest[1], rest[2]]);
-        let mut sheet = vec![0; length as usize];
-        from.read_exact(&mut sheet)?;
-        let mut room = [0; 4];
-        from.read_exact(&mut room)?;
-        let room = u32::from_le_bytes(room);
+        let sheet = read_bytes(length, from)?;
+        let book = read_bytes(read_u32(from)?, from)?;
+        let room = read_u32(from)?;
         let mut mode = [0];
         from.read_exact(&mut mode)?;
         let mode = Mode::from_byte(mode[0])
             .ok_or_else(|| io::Error::new(io::ErrorKind::InvalidData, "unknown mode"))?;
-        Ok(Some(Self { sheet, room, mode }))
+        Ok(Some(Self {
+            sheet,
+            book,
+            room,
+            mode,
+        }))
     }
 
     pub fn write(&self, to: &mut impl Write) -> io::Result<()> {
         to.write_all(&length_of(&self.sheet))?;
         to.write_all(&self.sheet)?;
+        to.write_all(&length_of(&self.book))?;
+        to.write_all(&self.book)?;
         to.write_all(&self.room.to_le_bytes())?;
         to.write_all(&[self.mode.byte()])
     }
+}
+
+fn read_u32(from: &mut impl Read) -> io::Result<u32> {
+    let mut bytes = [0; 4];
+    from.read_exact(&mut bytes)?;
+    Ok(u32::from_le_bytes(bytes))
+}
+
+fn read_bytes(length: u32, from: &mut impl Read) -> io::Result<Vec<u8>> {
+    let mut bytes = vec![0; length as usize];
+    from.read_exact(&mut bytes)?;
+    Ok(bytes)
 }
 
 pub fn write_answer(answer: &Answer, to: &mut impl Write) -> io::Result<()> {
@@ -69,23 +87,31 @@ mod tests {
     fn questions_are_read_as_they_were_written() {
         let mut bytes = vec![];
         let asked = [
-            (vec![], 7, Mode::PLAIN),
-            (vec![1, 2, 3], u32::MAX, Mode::STRICT),
-            (vec![4], 0, Mode::CONTAINED),
-            (vec![], 1, Mode::STRICT_CONTAINED),
+            (vec![], vec![], 7, Mode::PLAIN),
+            (vec![1, 2, 3], vec![5], u32::MAX, Mode::STRICT),
+            (vec![4], vec![], 0, Mode::CONTAINED),
+            (vec![], vec![6, 7], 1, Mode::STRICT_CONTAINED),
         ];
-        for (sheet, room, mode) in asked.clone() {
-            let question = Question { sheet, room, mode };
+        for (sheet, book, room, mode) in asked.clone() {
+            let question = Question {
+                sheet,
+                book,
+                room,
+                mode,
+            };
             question.write(&mut bytes).expect("a Vec takes all");
         }
         let mut from = &bytes[..];
-        let mut next = || Question::read(&mut from).map(|q| q.map(|q| (q.sheet, q.room, q.mode)));
+        let mut next = || {
+            let question = Question::read(&mut from)?;
+            io::Result::Ok(question.map(|q| (q.sheet, q.book, q.room, q.mode)))
+        };
         for question in asked {
             assert_eq!(next().expect("whole"), Some(question));
         }
         assert_eq!(next().expect("the end"), None);
-        assert!(Question::read(&mut &bytes[..8]).is_err());
-        bytes[8] = 4;
+        assert!(Question::read(&mut &bytes[..12]).is_err());
+        bytes[12] = 4;
         assert!(Question::read(&mut &bytes[..]).is_err());
     }
 

@@ -29,6 +29,9 @@ pub use refusal::{Refusal, Unclean};
 /// The length of the value slice that the entries fill: 8 bytes of the value, then 8 of the action number.
 pub const VALUE_LEN: usize = 16;
 
+/// The book without an entry, which [`pack`] lends: distance 0, no entry, the mark 42 31.
+pub const EMPTY_BOOK: [u8; 8] = [0, 0, 0, 0, 0, 0, 0x42, 0x31];
+
 const DONE: u32 = 0;
 
 /// How branches are judged. What a mode does not refuse is as in plain mode, the bytes of a block too. More fields may come, so a
@@ -70,12 +73,14 @@ impl Mode {
     };
 }
 
-/// Packs a sheet into the front of `out` and returns the length of the block.
+/// Packs a sheet into the front of `out` and returns the length of the block. No book is lent: this is [`pack_with_book`] with the
+/// [`EMPTY_BOOK`].
 ///
-/// Bytes of `out` past that length keep their values; on a refusal all do. A block is never longer than three times the sheet.
+/// Bytes of `out` past that length keep their values; on a refusal all do. A block of edition 1 or 2 is never longer than three
+/// times the sheet.
 ///
-/// The sheet's trailer tells its edition, 1 or 2. Label numbers are 0 to 1,023 in edition 1 and 0 to 4,095 in edition 2; all else
-/// is the same in both.
+/// The sheet's trailer tells its edition, 1, 2 or 3. Label numbers are 0 to 1,023 in edition 1 and 0 to 4,095 in editions 2 and 3.
+/// In edition 3 a string may name an entry of a book, which [`pack_with_book`] takes. All else is the same in all three.
 ///
 /// ```
 /// use merinovault::{Mode, Refusal, pack};
@@ -83,15 +88,55 @@ impl Mode {
 /// // Label 4,095 before action 0; one action, Jump to label 4,095; the trailer, of edition 2.
 /// let mut sheet = *b"\x01\0\xFF\x0F\0\0\x01\0\x99\xFF\x0F\x0B\0\0\0\x02\0A1";
 /// assert_eq!(pack(&sheet, Mode::PLAIN, &mut [0; 64]), Ok(6));
-/// // In edition 1 the label's number is out of range, and there is no edition 3.
+/// // In edition 1 the label's number is out of range, and there is no edition 4.
 /// sheet[15] = 1;
 /// assert_eq!(pack(&sheet, Mode::PLAIN, &mut [0; 64]), Err(Refusal::BadField { place: 2, action: 0 }));
-/// sheet[15] = 3;
+/// sheet[15] = 4;
 /// assert_eq!(pack(&sheet, Mode::PLAIN, &mut [0; 64]), Err(Refusal::BadTrailer));
 /// ```
 pub fn pack(sheet: &[u8], mode: Mode, out: &mut [u8]) -> Result<usize, Refusal> {
+    pack_with_book(sheet, &EMPTY_BOOK, mode, out)
+}
+
+/// Packs a sheet whose strings may name entries of a book; all else is as for [`pack`].
+///
+/// A book is bytes that are passed over; then entries, each a u16 length and that many bytes, none of them zero; then a trailer of
+/// 8 bytes: u32 distance back from the trailer's first byte to the first entry, u16 number of entries, bytes 42 31. Numbers are
+/// little-endian. The entries fill the space from there to the trailer exactly.
+///
+/// In a sheet of edition 3 a string length of 65,535 is followed by a u16 entry number, from 0, in place of bytes. The string is
+/// packed as if the entry's bytes stood in the sheet. A block can then be far longer than three times the sheet; with an empty
+/// `out`, [`Refusal::NoRoom`] tells the length that it needs. A book that is not well formed is [`Refusal::BadBook`], also if no
+/// string names it. In editions 1 and 2 the length 65,535 is a length, and the book may hold any bytes, also none.
+///
+/// ```
+/// use merinovault::{Mode, Refusal, pack, pack_with_book};
+///
+/// // Two entries, "yes" and "no"; the trailer: they begin 9 bytes before it, and are 2.
+/// let book = *b"\x03\0yes\x02\0no\x09\0\0\0\x02\0B1";
+/// // No label; one action, SetTarget of entry 1; the trailer, of edition 3.
+/// let mut sheet = *b"\0\0\x01\0\x8B\xFF\xFF\x01\0\x09\0\0\0\x03\0A1";
+/// let mut out = [0; 64];
+/// let length = pack_with_book(&sheet, &book, Mode::PLAIN, &mut out)?;
+/// assert_eq!(out[..length], *b"\x8B\x03\0no\0\0");
+///
+/// // An entry number that the book does not have is refused at its place; the empty book has none.
+/// let refused = Err(Refusal::BadField { place: 7, action: 0 });
+/// assert_eq!(pack(&sheet, Mode::PLAIN, &mut out), refused);
+/// sheet[7] = 2;
+/// assert_eq!(pack_with_book(&sheet, &book, Mode::PLAIN, &mut out), refused);
+/// // Without its last byte the book is none.
+/// assert_eq!(pack_with_book(&sheet, &book[..16], Mode::PLAIN, &mut out), Err(Refusal::BadBook));
+/// # Ok::<(), Refusal>(())
+/// ```
+pub fn pack_with_book(
+    sheet: &[u8],
+    book: &[u8],
+    mode: Mode,
+    out: &mut [u8],
+) -> Result<usize, Refusal> {
     let mut value = [0; VALUE_LEN];
-    let number = raw::pack(sheet, mode.strict, mode.contained, out, &mut value);
+    let number = raw::pack(sheet, book, mode.strict, mode.contained, out, &mut value);
     let (value, action) = told(value);
     match number {
         DONE => Ok(length(value)),

@@ -9,6 +9,8 @@ mod entries {
         pub fn merinovault_pack(
             sheet: *const u8,
             sheet_len: usize,
+            book: *const u8,
+            book_len: usize,
             strict: bool,
             contained: bool,
             out: *mut u8,
@@ -27,15 +29,24 @@ mod entries {
 
 // SAFETY of both calls: an entry asks of its caller what the types of the slices say already. Each pointer and its length are one
 // slice, so they are at most isize::MAX bytes that may be read; `&mut` lets the entry write `out` and `value`, keeps them apart
-// from each other and from the rest, and keeps other threads off; `&` keeps writers off `sheet` and `block`. A `bool` is C's, true
-// or false. The entries have no other demand, always return, do not unwind and keep no pointer.
+// from each other and from the rest, and keeps other threads off; `&` keeps writers off `sheet`, `book` and `block`. A `bool` is
+// C's, true or false. The entries have no other demand, always return, do not unwind and keep no pointer.
 
-/// Packs a sheet into `out`, in the mode of the two flags.
-pub fn pack(sheet: &[u8], strict: bool, contained: bool, out: &mut [u8], value: &mut [u8]) -> u32 {
+/// Packs a sheet into `out`, in the mode of the two flags. The book follows the sheet; only a sheet of edition 3 looks at it.
+pub fn pack(
+    sheet: &[u8],
+    book: &[u8],
+    strict: bool,
+    contained: bool,
+    out: &mut [u8],
+    value: &mut [u8],
+) -> u32 {
     unsafe {
         entries::merinovault_pack(
             sheet.as_ptr(),
             sheet.len(),
+            book.as_ptr(),
+            book.len(),
             strict,
             contained,
             out.as_mut_ptr(),

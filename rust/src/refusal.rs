@@ -3,7 +3,7 @@ use crate::length;
 use std::error::Error;
 use std::fmt;
 
-/// Why a sheet was not packed: answers 1 to 11 of document 01, and 14 and 15 of document 02. A place counts bytes from 0, the
+/// Why a sheet was not packed: answers 1 to 11 of document 01, and 14, 15 and 18 of document 02. A place counts bytes from 0, the
 /// sheet's first. The number of an action is counted from 0 in sheet order through all bodies; an action comes before those in its
 /// bodies.
 #[derive(Clone, Copy, Debug, PartialEq, Eq, Hash)]
@@ -14,7 +14,7 @@ pub enum Refusal {
         /// The sheet's length.
         length: usize,
     },
-    /// 2: under 8 bytes, an edition that is not 1 or 2, a wrong mark, or a main body that would begin before the sheet.
+    /// 2: under 8 bytes, an edition that is not 1, 2 or 3, a wrong mark, or a main body that would begin before the sheet.
     BadTrailer,
     /// 3: a field would reach into the trailer.
     CutShort {
@@ -31,7 +31,8 @@ pub enum Refusal {
         /// The number of the action whose opcode or pushed value it is, counted from 0 in sheet order through all bodies.
         action: u64,
     },
-    /// 5: a field is outside its range or order, or a string holds a zero byte. The range of label numbers is the edition's.
+    /// 5: a field is outside its range or order, or a string holds a zero byte. The edition tells the range of label numbers, the
+    /// book that of entry numbers.
     BadField {
         /// Where the field begins; of a string, where its first zero byte stands.
         place: usize,
@@ -93,6 +94,9 @@ pub enum Refusal {
         /// The number of the branch among the actions, counted from 0 in sheet order through all bodies.
         action: u64,
     },
+    /// 18: the book that was lent is not well formed. Only a sheet of edition 3 is refused for this, also if no string names the
+    /// book. [`pack_with_book`](crate::pack_with_book) tells what a book is.
+    BadBook,
 }
 
 use Refusal::*;
@@ -148,7 +152,8 @@ impl Refusal {
                 operand: length(value),
                 action,
             },
-            _ => unreachable!("packing answers 0 to 11, 14 or 15, not {number}"),
+            18 => BadBook,
+            _ => unreachable!("packing answers 0 to 11, 14, 15 or 18, not {number}"),
         }
     }
 
@@ -168,6 +173,7 @@ impl Refusal {
             NoRoom { .. } => "NoRoom",
             NeverRecorded { .. } => "NeverRecorded",
             StrayBranch { .. } => "StrayBranch",
+            BadBook => "BadBook",
         }
     }
 
@@ -187,13 +193,14 @@ impl Refusal {
             NoRoom { .. } => 11,
             NeverRecorded { .. } => 14,
             StrayBranch { .. } => 15,
+            BadBook => 18,
         }
     }
 
     /// The answer's value.
     pub fn value(&self) -> i64 {
         match *self {
-            BadTrailer => 0,
+            BadTrailer | BadBook => 0,
             CutShort { place, .. }
             | UnknownCode { place, .. }
             | BadField { place, .. }
@@ -209,10 +216,10 @@ impl Refusal {
     }
 
     /// The number of the action that the refusal names, counted from 0 in sheet order through all bodies; each case tells which
-    /// action it is. `SheetTooLong`, `BadTrailer` and `NoRoom` name none: there the entry's action number is 0.
+    /// action it is. `SheetTooLong`, `BadTrailer`, `BadBook` and `NoRoom` name none: there the entry's action number is 0.
     pub fn action(&self) -> Option<u64> {
         match *self {
-            SheetTooLong { .. } | BadTrailer | NoRoom { .. } => None,
+            SheetTooLong { .. } | BadTrailer | BadBook | NoRoom { .. } => None,
             CutShort { action, .. }
             | UnknownCode { action, .. }
             | BadField { action, .. }
@@ -235,7 +242,7 @@ impl fmt::Display for Refusal {
             }
             BadTrailer => write!(
                 f,
-                "the sheet's last 8 bytes are no trailer: the distance back to the main body, edition 1 or 2 and the mark 41 31"
+                "the sheet's last 8 bytes are no trailer: the distance back to the main body, edition 1, 2 or 3 and the mark 41 31"
             ),
             // "At" is true of the action being read and of the one that would have come next.
             CutShort { place, action } => write!(
@@ -248,7 +255,7 @@ impl fmt::Display for Refusal {
             ),
             BadField { place, action } => write!(
                 f,
-                "at action {action}, byte {place} of the sheet: this field is outside its range or order, or is a zero byte in a string"
+                "at action {action}, byte {place} of the sheet: this field is outside its range or order, names no entry of the book, or is a zero byte in a string"
             ),
             TooDeep { place, action } => write!(
                 f,
@@ -284,6 +291,10 @@ impl fmt::Display for Refusal {
             StrayBranch { operand, action } => write!(
                 f,
                 "action {action}, operand at byte {operand} of the block: this branch goes to a label in another function body"
+            ),
+            BadBook => write!(
+                f,
+                "the book is not well formed: its last 8 bytes must be the distance back to its first entry, the number of entries and the mark 42 31, and the entries, each a length and that many bytes, none of them zero, must fill that distance exactly"
             ),
         }
     }

@@ -3,7 +3,7 @@ mod common;
 use common::*;
 use merinovault::Mode;
 
-/// A label entry whose number is out of range in both editions.
+/// A label entry whose number is out of range in every edition.
 const BAD: (usize, usize) = (4096, 0);
 
 /// A body of one Pop, in 5 bytes.
@@ -24,8 +24,10 @@ fn over() -> Vec<u8> {
 /// The sheet of this main body is refused so. A note before it moves the place, and neither it nor the edition the action.
 fn at(main: &[u8], number: u32, place: i64, action: u64) {
     refused(&sheet(main), number, place, action);
-    let noted = sheet_in(2, &[0x17; 10], main);
-    refused(&noted, number, place + 10, action);
+    for edition in [2, 3] {
+        let noted = sheet_in(edition, &[0x17; 10], main);
+        refused(&noted, number, place + 10, action);
+    }
 }
 
 #[test]

@@ -70,8 +70,8 @@ fn bad_trailer() {
     ] {
         assert_eq!(refused(&sheet, 2, 0, 0), Refusal::BadTrailer);
     }
-    // editions 0 and 3, and others that have the bytes of 1 or 2
-    for edition in [0, 3, 4, 255, 256, 257, 258, 512, 65_535] {
+    // editions 0 and 4, and others that have the bytes of 1, 2 or 3
+    for edition in [0, 4, 5, 255, 256, 257, 258, 259, 512, 768, 65_535] {
         for main in [body(&[], &[]), body(&[(4095, 0)], &[&jump(4095)])] {
             let sheet = sheet_in(edition, b"a note", &main);
             assert_eq!(refused(&sheet, 2, 0, 0), Refusal::BadTrailer);
@@ -136,7 +136,7 @@ fn bad_field() {
 
 #[test]
 fn label_numbers_go_by_the_edition() {
-    for (edition, last) in [(1, 1023), (2, 4095)] {
+    for (edition, last) in [(1, 1023), (2, 4095), (3, 4095)] {
         let of = |main: &[u8]| sheet_in(edition, &[], main);
         let to_itself = |label| of(&body(&[(label, 0)], &[&jump(label)]));
         for label in [0, 1023, last] {
@@ -156,14 +156,15 @@ fn label_numbers_go_by_the_edition() {
         let main = body(&[(label, 0)], &[&jump(label)]);
         refused(&sheet_in(1, &[], &main), 5, 2, 0);
         taken(&sheet_in(2, &[], &main));
+        taken(&sheet_in(3, &[], &main));
     }
 }
 
 #[test]
-fn small_label_numbers_give_the_same_block_in_both_editions() {
+fn small_label_numbers_give_the_same_block_in_every_edition() {
     for mode in MODES {
         for (main, block) in sums(mode) {
-            for edition in [1, 2] {
+            for edition in [1, 2, 3] {
                 for note in [&b""[..], b"a note"] {
                     let sheet = sheet_in(edition, note, &main);
                     assert_eq!(packed(&sheet, mode, ROOM), Ok(block.clone()));
@@ -512,7 +513,7 @@ fn several_threads_pack_at_once() {
 /// docs/LINKING.md: so much stack is enough for a call, in each edition and mode.
 #[test]
 fn a_thread_with_128_kib_packs_the_deepest_sheet() {
-    for (edition, label) in [(1, 1023), (2, 4095)] {
+    for (edition, label) in [(1, 1023), (2, 4095), (3, 4095)] {
         let innermost = body(&[(label, 0)], &[&jump(label)]);
         let deepest = (1..16).fold(innermost, |inside, _| body(&[], &[&with(&inside)]));
         for mode in MODES {

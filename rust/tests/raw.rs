@@ -1,10 +1,14 @@
 //! The entries as they are: the value slice, and slices without a byte.
 mod common;
 use common::*;
-use merinovault::{Mode, VALUE_LEN, raw};
+use merinovault::{EMPTY_BOOK, Mode, VALUE_LEN, raw};
 
 fn pack(sheet: &[u8], mode: Mode, out: &mut [u8], value: &mut [u8]) -> u32 {
-    raw::pack(sheet, mode.strict, mode.contained, out, value)
+    pack_with(&EMPTY_BOOK, sheet, mode, out, value)
+}
+
+fn pack_with(book: &[u8], sheet: &[u8], mode: Mode, out: &mut [u8], value: &mut [u8]) -> u32 {
+    raw::pack(sheet, book, mode.strict, mode.contained, out, value)
 }
 
 /// A value slice that holds these: the value comes first.
@@ -23,8 +27,10 @@ fn another_value_length_is_11_and_nothing_is_written() {
                 for (main, _) in sums(Mode::PLAIN) {
                     assert_eq!(pack(&sheet(&main), mode, &mut out, &mut value), 11);
                 }
-                // before what is wrong with the sheet
+                // before what is wrong with the sheet or the book
                 assert_eq!(pack(&[], mode, &mut out, &mut value), 11);
+                let third = sheet_in(3, &[], &body(&[], &[]));
+                assert_eq!(pack_with(&[], &third, mode, &mut out, &mut value), 11);
             }
             assert_eq!(raw::step(&[0], &mut value), 11);
             assert_eq!(raw::step(&[], &mut value), 11);
@@ -90,6 +96,10 @@ fn answers_without_an_action_give_0() {
         let length = long.len() as i64;
         assert_eq!(packing(&long, mode, &mut [0; 7]), (1, filled(length, 0)));
         assert_eq!(packing(&main, mode, &mut [0; 7]), (2, filled(0, 0)));
+        let mut value = [0xA5; VALUE_LEN];
+        let third = sheet_in(3, &[], &main);
+        let number = pack_with(b"no book", &third, mode, &mut [0; 7], &mut value);
+        assert_eq!((number, value), (18, filled(0, 0)));
     }
     assert_eq!(stepping(&[0x17, 0x17, 0]), (0, filled(3, 0)));
     assert_eq!(stepping(&[0x17, 0x17]), (13, filled(2, 0)));
@@ -107,6 +117,17 @@ fn empty_slices() {
         assert_eq!(packing(&[]), (2, filled(0, 0)));
         assert_eq!(packing(&empty), (11, filled(1, 0)));
         assert_eq!(pack(&[], mode, &mut [], &mut []), 11);
+        // a book without a byte, in each edition
+        for (edition, answer) in [
+            (1, (11, filled(1, 0))),
+            (2, (11, filled(1, 0))),
+            (3, (18, filled(0, 0))),
+        ] {
+            let empty = sheet_in(edition, &[], &body(&[], &[]));
+            let mut value = [0xA5; VALUE_LEN];
+            let number = pack_with(&[], &empty, mode, &mut [], &mut value);
+            assert_eq!((number, value), answer);
+        }
     }
     let mut value = [0xA5; VALUE_LEN];
     assert_eq!((raw::step(&[], &mut value), value), (13, filled(0, 0)));

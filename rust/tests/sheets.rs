@@ -1,6 +1,6 @@
 //! The list of crates/replay, packed from Rust: number, value, action number and block are what the oracle answered.
 mod common;
-use common::{MODES, packed};
+use common::{MODES, packed_with};
 use std::fs;
 use std::path::Path;
 
@@ -44,17 +44,17 @@ fn answers_are_the_oracles() {
     let records = fs::read(file).expect("crates/replay/stdin");
     let mut list = List(&records);
     let (mut record, mut by_mode) = (0, MODES.map(|_| 0));
-    let mut blocks_by_edition = [0, 0];
+    let mut blocks_by_edition = [0, 0, 0];
     while !list.0.is_empty() {
         record += 1;
-        let (sheet, block, room) = (list.u32(), list.u32(), list.u32());
+        let (sheet, book, block, room) = (list.u32(), list.u32(), list.u32(), list.u32());
         let [bits, number] = list.array();
         let bits = usize::from(bits);
         by_mode[bits] += 1;
         let value = i64::from_le_bytes(list.array());
         let action = list.u32() as u64;
-        let (sheet, block) = (unrolled(list.bytes(sheet)), unrolled(list.bytes(block)));
-        match packed(&sheet, MODES[bits], room) {
+        let [sheet, book, block] = [sheet, book, block].map(|n| unrolled(list.bytes(n)));
+        match packed_with(&book, &sheet, MODES[bits], room) {
             Ok(made) => {
                 let done = (0, made.len() as i64, 0);
                 assert_eq!((number, value, action), done, "record {record}");
@@ -73,6 +73,9 @@ fn answers_are_the_oracles() {
     }
     assert!(record > 3_000, "{record} records");
     assert_eq!(by_mode, MODES.map(|_| record / MODES.len()));
-    let [one, two] = blocks_by_edition;
-    assert!(one > 1_000 && two > 1_000, "{one} and {two} blocks");
+    let [one, two, three] = blocks_by_edition;
+    assert!(
+        one > 1_000 && two > 1_000 && three > 100,
+        "{one}, {two} and {three} blocks"
+    );
 }

@@ -11,7 +11,7 @@ fn refusals() {
         ),
         (
             Refusal::BadTrailer,
-            "the sheet's last 8 bytes are no trailer: the distance back to the main body, edition 1 or 2 and the mark 41 31",
+            "the sheet's last 8 bytes are no trailer: the distance back to the main body, edition 1, 2 or 3 and the mark 41 31",
         ),
         (
             Refusal::CutShort {
@@ -32,7 +32,7 @@ fn refusals() {
                 place: 17,
                 action: 2,
             },
-            "at action 2, byte 17 of the sheet: this field is outside its range or order, or is a zero byte in a string",
+            "at action 2, byte 17 of the sheet: this field is outside its range or order, names no entry of the book, or is a zero byte in a string",
         ),
         (
             Refusal::TooDeep {
@@ -108,6 +108,10 @@ fn refusals() {
             },
             "action 2, operand at byte 15 of the block: this branch goes to a label in another function body",
         ),
+        (
+            Refusal::BadBook,
+            "the book is not well formed: its last 8 bytes must be the distance back to its first entry, the number of entries and the mark 42 31, and the entries, each a length and that many bytes, none of them zero, must fill that distance exactly",
+        ),
     ];
     for (refusal, text) in texts {
         let error: &dyn Error = &refusal;
@@ -143,6 +147,7 @@ fn actions() {
     let others = [
         Refusal::SheetTooLong { length },
         Refusal::BadTrailer,
+        Refusal::BadBook,
         Refusal::NoRoom { needed: 6 },
     ];
     for refusal in others {

@@ -1,6 +1,7 @@
 // The fields of an opcode, as far as its bodies: read, checked and measured.
 // `pos` is the position in the block that writing would have reached after the header.
 ghost use mathlib.Core.Path.{_≡_};
+ghost use Prim.Native.Nat.{_+_, _-_, _≤_};
 ghost use Rattle.layout.specs.Read.{placed};
 ghost use Rattle.positions.specs.Scanned.{scanned, Roomy};
 ghost use Rattle.editions.specs.Allowed.{termsOf};
@@ -56,17 +57,32 @@ pub fn scan_get_url_2(b: &[u8], at: usize, pos: BytePosition) -> Scan
     }
 }
 
-// GetUrl: two strings.
-pub fn scan_get_url(b: &[u8], terms: Terms, at: usize, pos: BytePosition) -> Scan
-    requires { ⌜ Roomy (now b) at pos ⌝ }
-    ensures { λ r. ⌜ r ≡ scanned flatSize (pos .0) (readGetUrl (termsOf terms) (now (b .entry)) (placed at)) ⌝ }
+// The length of a string that is written from one position to another, its zero byte included.
+fn text_len(from: BytePosition, to: BytePosition) -> usize
+    requires { ⌜ from .0 + 1 ≤ to .0 ⌝ }
+    ensures { λ r. ⌜ r + 1 ≡ to .0 - from .0 ⌝ }
 {
-    match scan_string(b, terms, at, pos) {
+    to.0 - from.0 - OpCode::string_len(0)
+}
+
+// GetUrl: two strings.
+pub fn scan_get_url(
+    b: &[u8],
+    words: &[u8],
+    index: &[u32],
+    terms: Terms,
+    at: usize,
+    pos: BytePosition,
+) -> Scan
+    requires { ⌜ Roomy (now b) at pos ⌝ }
+    ensures { λ r. ⌜ r ≡ scanned flatSize (pos .0) (readGetUrl (termsOf terms (now (words .entry)) (now (index .entry))) (now (b .entry)) (placed at)) ⌝ }
+{
+    match scan_string(b, words, index, terms, at, pos) {
         Scan::Stops(f, p) => Scan::Stops(f, p),
-        Scan::Ends(p, w) => match scan_string(b, terms, p, w) {
+        Scan::Ends(p, w) => match scan_string(b, words, index, terms, p, w) {
             Scan::Stops(f, q) => Scan::Stops(f, q),
-            Scan::Ends(q, _) => {
-                let len = OpCode::get_url_len(u16_at(b, at), u16_at(b, p));
+            Scan::Ends(q, x) => {
+                let len = OpCode::get_url_len(text_len(pos, w), text_len(w, x));
                 Scan::Ends(q, BytePosition(pos.0 + len))
             }
         },
@@ -76,15 +92,22 @@ pub fn scan_get_url(b: &[u8], terms: Terms, at: usize, pos: BytePosition) -> Sca
 // ---- payloads before bodies
 
 // A function's name and parameters. These are measured from the end of a payload without any, here and below.
-pub fn scan_define_function(b: &[u8], terms: Terms, at: usize, pos: BytePosition) -> Scan
+pub fn scan_define_function(
+    b: &[u8],
+    words: &[u8],
+    index: &[u32],
+    terms: Terms,
+    at: usize,
+    pos: BytePosition,
+) -> Scan
     requires { ⌜ Roomy (now b) at pos ⌝ }
-    ensures { λ r. ⌜ r ≡ scanned ownerSize (pos .0) (readFunction (termsOf terms) (now (b .entry)) (placed at)) ⌝ }
+    ensures { λ r. ⌜ r ≡ scanned ownerSize (pos .0) (readFunction (termsOf terms (now (words .entry)) (now (index .entry))) (now (b .entry)) (placed at)) ⌝ }
 {
-    match scan_string(b, terms, at, pos) {
+    match scan_string(b, words, index, terms, at, pos) {
         Scan::Stops(f, p) => Scan::Stops(f, p),
-        Scan::Ends(p, _) => {
-            let len = OpCode::define_function_len(u16_at(b, at), 0);
-            scan_strings(b, terms, p, 0, BytePosition(pos.0 + len))
+        Scan::Ends(p, w) => {
+            let len = OpCode::define_function_len(text_len(pos, w), 0);
+            scan_strings(b, words, index, terms, p, 0, BytePosition(pos.0 + len))
         }
     }
 }
@@ -108,15 +131,22 @@ fn scan_registers(b: &[u8], at: usize, pos: BytePosition) -> Scan
 }
 
 // A function's name, its parameters after their registers, its register count and flags.
-pub fn scan_define_function_2(b: &[u8], terms: Terms, at: usize, pos: BytePosition) -> Scan
+pub fn scan_define_function_2(
+    b: &[u8],
+    words: &[u8],
+    index: &[u32],
+    terms: Terms,
+    at: usize,
+    pos: BytePosition,
+) -> Scan
     requires { ⌜ Roomy (now b) at pos ⌝ }
-    ensures { λ r. ⌜ r ≡ scanned ownerSize (pos .0) (readFunction2 (termsOf terms) (now (b .entry)) (placed at)) ⌝ }
+    ensures { λ r. ⌜ r ≡ scanned ownerSize (pos .0) (readFunction2 (termsOf terms (now (words .entry)) (now (index .entry))) (now (b .entry)) (placed at)) ⌝ }
 {
-    match scan_string(b, terms, at, pos) {
+    match scan_string(b, words, index, terms, at, pos) {
         Scan::Stops(f, p) => Scan::Stops(f, p),
-        Scan::Ends(p, _) => {
-            let len = OpCode::define_function_2_len(u16_at(b, at), 0);
-            match scan_strings(b, terms, p, 1, BytePosition(pos.0 + len)) {
+        Scan::Ends(p, w) => {
+            let len = OpCode::define_function_2_len(text_len(pos, w), 0);
+            match scan_strings(b, words, index, terms, p, 1, BytePosition(pos.0 + len)) {
                 Scan::Stops(f, q) => Scan::Stops(f, q),
                 Scan::Ends(q, x) => scan_registers(b, q, x),
             }
@@ -126,9 +156,16 @@ pub fn scan_define_function_2(b: &[u8], terms: Terms, at: usize, pos: BytePositi
 
 // A Try's shape and catch target. A name is measured from `target` on; a register, or the zero byte of a Try without a catch, ends
 // at `end`.
-pub fn scan_catch(b: &[u8], terms: Terms, at: usize, pos: BytePosition) -> Scan
+pub fn scan_catch(
+    b: &[u8],
+    words: &[u8],
+    index: &[u32],
+    terms: Terms,
+    at: usize,
+    pos: BytePosition,
+) -> Scan
     requires { ⌜ Roomy (now b) at pos ⌝ }
-    ensures { λ r. ⌜ r ≡ scanned caughtSize (pos .0) (readCaught (termsOf terms) (now (b .entry)) (placed at)) ⌝ }
+    ensures { λ r. ⌜ r ≡ scanned caughtSize (pos .0) (readCaught (termsOf terms (now (words .entry)) (now (index .entry))) (now (b .entry)) (placed at)) ⌝ }
 {
     if b.len() <= at {
         return Scan::Stops(Fault::CutShort, at);
@@ -138,9 +175,9 @@ pub fn scan_catch(b: &[u8], terms: Terms, at: usize, pos: BytePosition) -> Scan
     let end = BytePosition(pos.0 + OpCode::try_len(1));
     match b[at] {
         0 => Scan::Ends(p, end),
-        1 => scan_string(b, terms, p, target),
+        1 => scan_string(b, words, index, terms, p, target),
         2 => Scan::Ends(p, end),
-        3 => scan_string(b, terms, p, target),
+        3 => scan_string(b, words, index, terms, p, target),
         5 => scan_bytes(b, p, 1, end),
         7 => scan_bytes(b, p, 1, end),
         _ => Scan::Stops(Fault::BadField, at),

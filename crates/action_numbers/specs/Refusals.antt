@@ -1,5 +1,6 @@
 -- The action that a refusal names: of a sheet that reads whole, the one whose payload, body or branch is wrong. A fault's number is
--- at most that of the bytes read, and an i64 holds the number of every answer. Assumes nothing.
+-- at most that of the bytes read, 18 is answered only where the book of an edition 3 sheet is ill formed, and an i64 holds the
+-- number of every answer. Assumes nothing.
 use mathlib.Core.Path.{_≡_, refl, sym, ap, _∙_, subst}
 use mathlib.Core.Logic.{_⊎_, inl, inr, ⊎-elim}
 use Prim.Native.Nat.{ℕ, _+_, _-_, _≤_, _<_}
@@ -12,21 +13,23 @@ use lib.IntN.{ℤ, pos}
 use lib.Dec.{leb, eqb}
 use borrow.Author.Tests.{eqb-false, ne-eqb, not-true}
 use Rattle.layout.specs.Lists.{All}
-use Rattle.layout.specs.Answers.{Fault, CutShort, UnknownCode, BadField, TooDeep, LeftOver, Refusal, SheetTooLong, BadTrailer, ReadingFault, ActionLenOverflow, BlockLenOverflow, JumpOffsetOverflow, NoRoom, NeverRecorded, StrayBranch, Answer, Done, Refused, refusalAction, action}
+use Rattle.layout.specs.Answers.{Fault, CutShort, UnknownCode, BadField, TooDeep, LeftOver, Refusal, SheetTooLong, BadTrailer, ReadingFault, ActionLenOverflow, BlockLenOverflow, JumpOffsetOverflow, NoRoom, NeverRecorded, StrayBranch, BadBook, Answer, Done, Refused, refusalAction, action}
 use Rattle.layout.specs.Tree.{ActionOf, flat, branch, owner, Try, ActionListOf, empty, more, Actions, ActionsOf, body, CatchOf, noCatch, catch, FinallyOf, noFinally, finally, count, counts, bodyCount, catchCount, finallyCount}
-use Rattle.layout.specs.Read.{Text, Place, placed, Stop, Read, got, bad, ifNothingLeft, deepest, readBody, readMain}
+use Rattle.layout.specs.Read.{Text, Words, Terms, edition1, edition2, edition3, Place, placed, Stop, Read, got, bad, ifNothingLeft, deepest, readBody, readMain}
 use Rattle.layout.specs.Strings.{mapAction, mapActions, mapBody, mapCatch, mapFinally}
 use Rattle.layout.specs.Write.{Position, Event, labelAt, branchAt, payloadTooLong, bodyTooLong, lookup, events, blockBytes, blockSize}
 use Rattle.layout.specs.Judge.{tooLong, distance, isNear, farUnless, judged, orElse, Mode, refusalIf, barred, judgedIn, badBranch, judge}
-use Rattle.layout.specs.Cut.{Edition, Cut, main, uncut, sheetLimit, trailerDistance, trailerEdition, isMarked, cutIf, cutAt, cutIfTrailer, cutIfShort, cut}
-use Rattle.layout.specs.Pack.{unless, ifRoom, packTree, editionTerms, spelling, faultAction, packRead, packCut, pack, ReadsAs}
+use Rattle.layout.specs.Cut.{Edition, First, Second, Third, Cut, main, uncut, sheetLimit, trailerDistance, trailerEdition, isMarked, cutIf, cutAt, cutIfTrailer, cutIfShort, cut}
+use Rattle.layout.specs.Book.{bookOf}
+use Rattle.layout.specs.Pack.{unless, ifRoom, packTree, editionTerms, spelling, faultAction, packRead, packBy, packCut, pack, ReadsAs}
 use Rattle.layout.specs.Step.{step}
 use Rattle.layout.specs.Stepping.{AtMost, made, unclean, step-most}
 use Rattle.layout.specs.Order.{fault-next, tree-next, IsI64, zeroUp}
 use Rattle.laws.specs.Fits.{Bytes}
 use Rattle.laws.specs.Begun.{begins-got, begins-bad, main-begins}
 use Rattle.laws.specs.ReadFits.{good-got, good-bad, main-good}
-use Rattle.laws.specs.Packed.{IsMain, is-main, main-bytes, spells}
+use Rattle.laws.specs.Books.{words-clean, spells}
+use Rattle.laws.specs.Packed.{IsMain, is-main, main-bytes}
 use Rattle.laws.specs.Branches.{or-left, or-right, EachBranch, each-then, Decided, decided}
 use Rattle.laws.specs.Barred.{Stray, stray}
 use Rattle.action_numbers.specs.Numbered.{payloadSize, BranchTo, OwnsBody, bodyInOrder, length-order, Names, names-under, names-as, Named, events-named, event-named}
@@ -175,13 +178,13 @@ module _ (m : Mode) (t : Actions) where
 
 -- ---- of a sheet that reads whole
 
-module _ (m : Mode) (s : List ℕ) (t : Actions) (room : ℕ) (h : ReadsAs s t) where
+module _ (m : Mode) (s book : List ℕ) (t : Actions) (room : ℕ) (h : ReadsAs s book t) where
   -- it is refused for want of room, or else by an action of its tree, which the refusal names
-  pub whole-says : (r : Refusal) → pack m s room ≡ Refused r → (r ≡ NoRoom (blockSize t)) ⊎ Says m t r
-  whole-says r e = tree-says m t room r (sym (tree-next m s room t h) ∙ e)
+  pub whole-says : (r : Refusal) → pack m s book room ≡ Refused r → (r ≡ NoRoom (blockSize t)) ⊎ Says m t r
+  whole-says r e = tree-says m t room r (sym (tree-next m s book room t h) ∙ e)
 
   -- NoRoom apart, "the number of the action" is under the number of actions in the sheet
-  pub named-under : (r : Refusal) → pack m s room ≡ Refused r → ((n : ℕ) → r ≡ NoRoom n → ⊥) → refusalAction r < bodyCount t
+  pub named-under : (r : Refusal) → pack m s book room ≡ Refused r → ((n : ℕ) → r ≡ NoRoom n → ⊥) → refusalAction r < bodyCount t
   named-under r e f = ⊎-elim (λ i. absurd (f (blockSize t) i)) says-under (whole-says r e)
 
 -- ---- of a fault
@@ -213,21 +216,23 @@ cut-uncut s = short (leb (length s) sheetLimit)
     short true = trailer (leb 8 (length s))
     short false = too-long
 
--- reading the main body met the fault f, which is told by place p and action k
-pub record Meets (s : List ℕ) (f : Fault) (p k : ℕ) : Type 0 where
+-- reading the main body, with this book, met the fault f, which is told by place p and action k
+pub record Meets (s book : List ℕ) (f : Fault) (p k : ℕ) : Type 0 where
   pub edition : Edition
   pub start : ℕ
   pub bytes : List ℕ
+  pub terms : Terms
   pub met : Stop
   pub is-cut : cut s ≡ main edition start bytes
-  pub is-read : readMain (editionTerms edition) bytes deepest ≡ bad f met
+  pub is-lent : editionTerms edition (bookOf book) ≡ some terms
+  pub is-read : readMain terms bytes deepest ≡ bad f met
   pub is-place : start + met .at ≡ p
   pub is-action : faultAction f (met .begun) ≡ k
 
 -- 3 to 7 are answered where reading met that fault, and nowhere else
-pub fault-meets : (m : Mode) (s : List ℕ) (room : ℕ) (f : Fault) (p k : ℕ) → pack m s room ≡ Refused (ReadingFault f p k) → Meets s f p k
-unfolding pack packCut packRead
-fault-meets m s room f p k e = by-cut (cut s) refl (cut-uncut s) e
+pub fault-meets : (m : Mode) (s book : List ℕ) (room : ℕ) (f : Fault) (p k : ℕ) → pack m s book room ≡ Refused (ReadingFault f p k) → Meets s book f p k
+unfolding pack packCut packBy packRead
+fault-meets m s book room f p k e = by-cut (cut s) refl (cut-uncut s) e
   where
     not-whole : {t : Actions} → (ReadingFault f p k ≡ NoRoom (blockSize t)) ⊎ Says m t (ReadingFault f p k) → ⊥
     not-whole (inl i) =
@@ -235,15 +240,21 @@ fault-meets m s room f p k e = by-cut (cut s) refl (cut-uncut s) e
         omega arith
     not-whole (inr h) = elim h [ ]
 
-    by-reading : (i : Edition) (start : ℕ) (b : List ℕ) → cut s ≡ main i start b → (x : Read (ActionsOf Text ℕ)) → readMain (editionTerms i) b deepest ≡ x
-        → packRead m start x room ≡ Refused (ReadingFault f p k) → Meets s f p k
-    by-reading i start b c (got t q) x h = absurd (not-whole (tree-says m (mapBody spelling t) room (ReadingFault f p k) h))
-    by-reading i start b c (bad g u) x h =
+    by-reading : (i : Edition) (start : ℕ) (b : List ℕ) (j : Terms) → cut s ≡ main i start b → editionTerms i (bookOf book) ≡ some j → (x : Read (ActionsOf Text ℕ)) → readMain j b deepest ≡ x
+        → packRead m start x room ≡ Refused (ReadingFault f p k) → Meets s book f p k
+    by-reading i start b j c l (got t q) x h = absurd (not-whole (tree-says m (mapBody spelling t) room (ReadingFault f p k) h))
+    by-reading i start b j c l (bad g u) x h =
         let same : g ≡ f = cc in
-        record { edition = i; start = start; bytes = b; met = u; is-cut = c; is-read = x ∙ ap (λ (y : Fault). bad y u) same; is-place = cc; is-action = cc }
+        record { edition = i; start = start; bytes = b; terms = j; met = u; is-cut = c; is-lent = l; is-read = x ∙ ap (λ (y : Fault). bad y u) same; is-place = cc; is-action = cc }
 
-    by-cut : (c : Cut) → cut s ≡ c → UncutIf c → packCut m c room ≡ Refused (ReadingFault f p k) → Meets s f p k
-    by-cut (main i start b) c u h = by-reading i start b c (readMain (editionTerms i) b deepest) refl h
+    by-terms : (i : Edition) (start : ℕ) (b : List ℕ) → cut s ≡ main i start b → (o : Option Terms) → editionTerms i (bookOf book) ≡ o → packBy m o start b room ≡ Refused (ReadingFault f p k) → Meets s book f p k
+    by-terms i start b c (some j) l h = by-reading i start b j c l (readMain j b deepest) refl h
+    by-terms i start b c none l h =
+        let z : _≡_ {A = ℕ} 0 1 = cc in
+        absurd (omega arith)
+
+    by-cut : (c : Cut) → cut s ≡ c → UncutIf c → packCut m c (bookOf book) room ≡ Refused (ReadingFault f p k) → Meets s book f p k
+    by-cut (main i start b) c u h = by-terms i start b c (editionTerms i (bookOf book)) refl h
     by-cut (uncut r) c u h =
         let same : r ≡ ReadingFault f p k = cc in
         elim (subst Uncut same u) [ ]
@@ -258,22 +269,69 @@ fault-most TooDeep n = omega arith
 fault-most LeftOver n = omega arith
 
 -- its number is at most that of the main body's bytes before the fault's place, and that lies in the main body or at its end
-pub fault-within : {s : List ℕ} {f : Fault} {p k : ℕ} → Bytes s → (h : Meets s f p k) → (h .start + k ≤ p) × (p ≤ h .start + length (h .bytes))
-fault-within {s} {f} {p} {k} small h =
+pub fault-within : {s book : List ℕ} {f : Fault} {p k : ℕ} → Bytes s → Bytes book → (h : Meets s book f p k) → (h .start + k ≤ p) × (p ≤ h .start + length (h .bytes))
+fault-within {s} {book} {f} {p} {k} small lent h =
     let bytes : Bytes (h .bytes) = main-bytes s (h .edition) (h .start) (h .bytes) small (h .is-cut) in
-    let begun : h .met .begun + 0 ≤ h .met .at = begins-bad f (h .met) (main-begins (editionTerms (h .edition)) (h .bytes) deepest) (h .is-read) in
+    let clean = words-clean (h .edition) book (h .terms) lent (h .is-lent) in
+    let begun : h .met .begun + 0 ≤ h .met .at = begins-bad f (h .met) (main-begins (h .terms) (h .bytes) deepest) (h .is-read) in
     let within : h .met .at ≤ length (h .bytes) =
-    good-bad f (h .met) (main-good (editionTerms (h .edition)) (h .bytes) bytes spelling (Unit {0}) (spells (h .bytes) bytes (editionTerms (h .edition))) deepest) (h .is-read) in
+    good-bad f (h .met) (main-good (h .terms) (h .bytes) bytes spelling (h .terms .words ≡ none) (spells (h .bytes) bytes (h .terms) clean) deepest) (h .is-read) in
     (omega (arith, fault-most f (h .met .begun), h .is-place, h .is-action), omega (arith, h .is-place))
 
 -- "LeftOver gives the number of actions read": those of the body that was read
-pub left-over : (m : Mode) (s : List ℕ) (room : ℕ) (i : Edition) (start : ℕ) (b : List ℕ) (t : ActionsOf Text ℕ) (p : Place) → cut s ≡ main i start b
-    → readBody (editionTerms i) b deepest (placed 0) ≡ got t p → (p .at ≡ length b → ⊥) → pack m s room ≡ Refused (ReadingFault LeftOver (start + p .at) (bodyCount t))
+pub left-over : (m : Mode) (s book : List ℕ) (room : ℕ) (i : Edition) (start : ℕ) (b : List ℕ) (j : Terms) (t : ActionsOf Text ℕ) (p : Place) → cut s ≡ main i start b
+    → editionTerms i (bookOf book) ≡ some j → readBody j b deepest (placed 0) ≡ got t p → (p .at ≡ length b → ⊥) → pack m s book room ≡ Refused (ReadingFault LeftOver (start + p .at) (bodyCount t))
 unfolding readMain ifNothingLeft faultAction
-left-over m s room i start b t p c e f =
+left-over m s book room i start b j t p c l e f =
     let all : bodyCount t + 0 ≡ bodyCount t = omega arith in
-    let r : readMain (editionTerms i) b deepest ≡ bad LeftOver (record { at = p .at; begun = bodyCount t + 0 }) = rw (e, ne-eqb (p .at) (length b) f) in
-    fault-next m s room i start b LeftOver (record { at = p .at; begun = bodyCount t + 0 }) c r ∙ ap (λ (k : ℕ). Refused (ReadingFault LeftOver (start + p .at) k)) all
+    let r : readMain j b deepest ≡ bad LeftOver (record { at = p .at; begun = bodyCount t + 0 }) = rw (e, ne-eqb (p .at) (length b) f) in
+    fault-next m s book room i start b j LeftOver (record { at = p .at; begun = bodyCount t + 0 }) c l r ∙ ap (λ (k : ℕ). Refused (ReadingFault LeftOver (start + p .at) k)) all
+
+-- ---- of a book
+
+-- the sheet is of edition 3, and its book is ill formed
+pub record IllBook (s book : List ℕ) : Type 0 where
+  pub start : ℕ
+  pub bytes : List ℕ
+  pub is-cut : cut s ≡ main Third start bytes
+  pub is-ill : bookOf book ≡ none
+
+-- no terms are due to nothing else
+no-terms : (i : Edition) (o : Option Words) → editionTerms i o ≡ none → (i ≡ Third) × (o ≡ none)
+unfolding editionTerms
+no-terms First o e = absurd (Option·none-ne-some edition1 (sym e))
+no-terms Second o e = absurd (Option·none-ne-some edition2 (sym e))
+no-terms Third (some ws) e = absurd (Option·none-ne-some (edition3 ws) (sym e))
+no-terms Third none e = (refl, refl)
+
+-- "only for edition 3": 18 is answered there, where the book is ill formed, and nowhere else
+pub book-refused : (m : Mode) (s book : List ℕ) (room : ℕ) → pack m s book room ≡ Refused BadBook → IllBook s book
+unfolding pack packCut packBy packRead
+book-refused m s book room e = by-cut (cut s) refl (cut-uncut s) e
+  where
+    not-whole : {t : Actions} → (BadBook ≡ NoRoom (blockSize t)) ⊎ Says m t BadBook → ⊥
+    not-whole (inl i) =
+        let z : _≡_ {A = ℕ} 0 1 = cc in
+        omega arith
+    not-whole (inr h) = elim h [ ]
+
+    by-reading : (start : ℕ) (x : Read (ActionsOf Text ℕ)) → packRead m start x room ≡ Refused BadBook → ⊥
+    by-reading start (got t q) h = not-whole (tree-says m (mapBody spelling t) room BadBook h)
+    by-reading start (bad g u) h =
+        let z : _≡_ {A = ℕ} 0 1 = cc in
+        omega arith
+
+    by-terms : (i : Edition) (start : ℕ) (b : List ℕ) → cut s ≡ main i start b → (o : Option Terms) → editionTerms i (bookOf book) ≡ o → packBy m o start b room ≡ Refused BadBook → IllBook s book
+    by-terms i start b c (some j) l h = absurd (by-reading start (readMain j b deepest) h)
+    by-terms i start b c none l h =
+        let w = no-terms i (bookOf book) l in
+        record { start = start; bytes = b; is-cut = c ∙ ap (λ (y : Edition). main y start b) (w .0); is-ill = w .1 }
+
+    by-cut : (c : Cut) → cut s ≡ c → UncutIf c → packCut m c (bookOf book) room ≡ Refused BadBook → IllBook s book
+    by-cut (main i start b) c u h = by-terms i start b c (editionTerms i (bookOf book)) refl h
+    by-cut (uncut r) c u h =
+        let same : r ≡ BadBook = cc in
+        elim (subst Uncut same u) [ ]
 
 -- ---- how great it can be
 
@@ -312,34 +370,40 @@ tree-most m t room = go (packTree m t room) (tree-says m t room)
     go (Done q) f = omega arith
     go (Refused r) f = ⊎-elim (λ e. omega (arith, ap refusalAction e)) (λ h. omega (arith, says-under h)) (f r refl)
 
--- of any sheet of bytes, at most 1,048,576: a main body has no more actions than bytes
-pub action-most : (m : Mode) (s : List ℕ) (room : ℕ) → Bytes s → action (pack m s room) ≤ sheetLimit
-unfolding pack packCut packRead action
-action-most m s room small = by-cut (cut s) refl (cut-uncut s)
+-- of any sheet of bytes, with any book of bytes, at most 1,048,576: a main body has no more actions than bytes, and 18 names
+-- none
+pub action-most : (m : Mode) (s book : List ℕ) (room : ℕ) → Bytes s → Bytes book → action (pack m s book room) ≤ sheetLimit
+unfolding pack packCut packBy packRead action
+action-most m s book room small lent = by-cut (cut s) refl (cut-uncut s)
   where
     no-action : {r : Refusal} → Uncut r → refusalAction r ≡ 0
     no-action too-long = unfold refusalAction in refl
     no-action bad-trailer = unfold refusalAction in refl
 
-    by-reading : (i : Edition) (start : ℕ) (b : List ℕ) → cut s ≡ main i start b → (x : Read (ActionsOf Text ℕ)) → readMain (editionTerms i) b deepest ≡ x → action (packRead m start x room) ≤ sheetLimit
-    by-reading i start b c (got t q) x =
-        let l : IsMain s start b = is-main s i start b c in
+    by-reading : (i : Edition) (start : ℕ) (b : List ℕ) (j : Terms) → cut s ≡ main i start b → editionTerms i (bookOf book) ≡ some j → (x : Read (ActionsOf Text ℕ)) → readMain j b deepest ≡ x
+        → action (packRead m start x room) ≤ sheetLimit
+    by-reading i start b j c k (got t q) x =
+        let l : IsMain s i start b = is-main s i start b c in
         let bytes : Bytes b = main-bytes s i start b small c in
-        let within = good-got t q (main-good (editionTerms i) b bytes spelling (Unit {0}) (spells b bytes (editionTerms i)) deepest) x in
-        omega (arith, tree-most m (mapBody spelling t) room, same-bodyCount spelling t, begins-got t q (main-begins (editionTerms i) b deepest) x, within .1, l .is-long, l .is-limited)
-    by-reading i start b c (bad f u) x =
+        let within = good-got t q (main-good j b bytes spelling (j .words ≡ none) (spells b bytes j (words-clean i book j lent k)) deepest) x in
+        omega (arith, tree-most m (mapBody spelling t) room, same-bodyCount spelling t, begins-got t q (main-begins j b deepest) x, within .1, l .is-long, l .is-limited)
+    by-reading i start b j c k (bad f u) x =
         unfold refusalAction in
-        let l : IsMain s start b = is-main s i start b c in
-        let w = fault-within small (record { edition = i; start = start; bytes = b; met = u; is-cut = c; is-read = x; is-place = refl; is-action = refl }) in
+        let l : IsMain s i start b = is-main s i start b c in
+        let w = fault-within small lent (record { edition = i; start = start; bytes = b; terms = j; met = u; is-cut = c; is-lent = k; is-read = x; is-place = refl; is-action = refl }) in
         omega (arith, w .0, w .1, l .is-long, l .is-limited)
 
-    by-cut : (c : Cut) → cut s ≡ c → UncutIf c → action (packCut m c room) ≤ sheetLimit
-    by-cut (main i start b) c u = by-reading i start b c (readMain (editionTerms i) b deepest) refl
+    by-terms : (i : Edition) (start : ℕ) (b : List ℕ) → cut s ≡ main i start b → (o : Option Terms) → editionTerms i (bookOf book) ≡ o → action (packBy m o start b room) ≤ sheetLimit
+    by-terms i start b c (some j) k = by-reading i start b j c k (readMain j b deepest) refl
+    by-terms i start b c none k = unfold refusalAction in omega arith
+
+    by-cut : (c : Cut) → cut s ≡ c → UncutIf c → action (packCut m c (bookOf book) room) ≤ sheetLimit
+    by-cut (main i start b) c u = by-terms i start b c (editionTerms i (bookOf book)) refl
     by-cut (uncut r) c u = omega (arith, no-action u)
 
 -- so an i64 holds it
-pub action-i64 : (m : Mode) (s : List ℕ) (room : ℕ) → Bytes s → IsI64 (pos (action (pack m s room)))
-action-i64 m s room small = zeroUp {n = action (pack m s room)} (omega (arith, action-most m s room small))
+pub action-i64 : (m : Mode) (s book : List ℕ) (room : ℕ) → Bytes s → Bytes book → IsI64 (pos (action (pack m s book room)))
+action-i64 m s book room small lent = zeroUp {n = action (pack m s book room)} (omega (arith, action-most m s book room small lent))
 
 -- "Other answers give 0": all of the stepping check's
 pub step-action : (s : List ℕ) → action (step s) ≡ 0

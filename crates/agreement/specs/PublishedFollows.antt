@@ -833,21 +833,22 @@ pub end-written : (r : List ℕ) → FlatRecord asWritten (Small SmallOpCode.End
 end-written r (ActionSimple {ActionCode = n} m a) = absurd (end-not-simple n m)
 end-written r (EndAmongActions byteZero) = refl
 
--- ---- the theorems, for a sheet s of bytes that reads whole as a tree t and is packed, in whatever mode, to a block q
+-- ---- the theorems, for a sheet s of bytes that reads whole, with a book of bytes, as a tree t, in any edition, and is packed, in
+-- whatever mode, to a block q
 
 -- Demand 2, its second half: the block is a sequence of published records with the contents of the tree, then ActionEndFlag.
 -- Each Length is the length of the record's fields, each code size that of the body that follows, each branch offset the
 -- signed distance from the end of its record to the last place of its label, or 0 without one. GetUrl2's bits, a double's
 -- words and an End among the actions are as `asWritten` says
-pub follows-published : (m : Mode) (s : List ℕ) (t : Actions) (room : ℕ) (q : List ℕ) → Bytes s → ReadsAs s t → pack m s room ≡ Done q → Block asWritten t q
-follows-published m s t room q small h e =
-    let k : Written t room q = is-written m s room q t h e in
-    subst (λ (b : List ℕ). Block asWritten t b) (k .is-block) (tree-follows t (tree-fits s t small h (k .is-short)) (k .is-near))
+pub follows-published : (m : Mode) (s book : List ℕ) (t : Actions) (room : ℕ) (q : List ℕ) → Bytes s → Bytes book → ReadsAs s book t → pack m s book room ≡ Done q → Block asWritten t q
+follows-published m s book t room q small lent h e =
+    let k : Written t room q = is-written m s book room q t h e in
+    subst (λ (b : List ℕ). Block asWritten t b) (k .is-block) (tree-follows t (tree-fits s book t small lent h (k .is-short)) (k .is-near))
 
 -- for a tree without GetUrl2, without a pushed double and without End it is as published, so there is no other difference
-pub no-other-difference : (m : Mode) (s : List ℕ) (t : Actions) (room : ℕ) (q : List ℕ) → Bytes s → ReadsAs s t → pack m s room ≡ Done q → BodyUndisputed t
+pub no-other-difference : (m : Mode) (s book : List ℕ) (t : Actions) (room : ℕ) (q : List ℕ) → Bytes s → Bytes book → ReadsAs s book t → pack m s book room ≡ Done q → BodyUndisputed t
     → Block asPublished t q
-no-other-difference m s t room q small h e u = block-published (follows-published m s t room q small h e) u
+no-other-difference m s book t room q small lent h e u = block-published (follows-published m s book t room q small lent h e) u
 
 -- and in any such block a label stands only where a record starts or a body ends
 pub label-starts : (order : Order) (t : Actions) (q : List ℕ) (b : Block order t q) (l at : ℕ) → lastPlace (b .labels) l ≡ some at

@@ -167,17 +167,17 @@ returned (in-room h) = tt
 returned (no-room h) = tt
 returned (overflowed n v) = tt
 
--- ---- the theorems, for a sheet s of bytes that reads whole as a tree t
+-- ---- the theorems, for a sheet s of bytes that reads whole, with a book of bytes, as a tree t, in any edition
 
 -- Demand 2, its first half, which "speaks of plain mode": at any room, the answer agrees with what the source gives for the tree.
 -- Done has the source's bytes; an overflow has its number and value; NoRoom is answered only where the source's output is longer
 -- than the room
-pub same-as-source : (s : List ℕ) (t : Actions) (room : ℕ) → Bytes s → ReadsAs s t → Agrees room (encode t) (pack plainMode s room)
-same-as-source s t room small h = rw (tree-next plainMode s room t h) (tree-same t (tree-good s t small h .0) room)
+pub same-as-source : (s book : List ℕ) (t : Actions) (room : ℕ) → Bytes s → Bytes book → ReadsAs s book t → Agrees room (encode t) (pack plainMode s book room)
+same-as-source s book t room small lent h = rw (tree-next plainMode s book room t h) (tree-same t (tree-good s book t small lent h .0) room)
 
 -- the source's asserts hold, and its slice indexes and differences are in range
-pub never-panics : (s : List ℕ) (t : Actions) → Bytes s → ReadsAs s t → encode t ≡ panicked → ⊥
-never-panics s t small h e = subst Returned e (returned (same-as-source s t 0 small h))
+pub never-panics : (s book : List ℕ) (t : Actions) → Bytes s → Bytes book → ReadsAs s book t → encode t ≡ panicked → ⊥
+never-panics s book t small lent h e = subst Returned e (returned (same-as-source s book t 0 small lent h))
 
 -- two answers with one number, one value and the same bytes in whatever output; the source says nothing of the action number
 pub record Alike (a a′ : Answer (List ℕ)) : Type 0 where

@@ -13,7 +13,7 @@ use Rattle.layout.specs.Pack.{output}
 use Rattle.answer.specs.declared.Answer.{Answer}
 use Rattle.answer.specs.declared.Answer.the-variants as answer
 
--- the column "No." of document 01's table, and document 02's 14 and 15
+-- the column "No." of document 01's table, and document 02's 14, 15 and 18
 unfoldable pub number : Answer → ℕ
 number (answer.Done n) = 0
 number (answer.SheetTooLong n) = 1
@@ -29,6 +29,7 @@ number (answer.JumpOffsetOverflow bits k) = 10
 number (answer.NoRoom n) = 11
 number (answer.NeverRecorded p k) = 14
 number (answer.StrayBranch p k) = 15
+number answer.BadBook = 18
 
 -- the column "Value, and when"; 10 carries the 64 bits of a signed distance
 unfoldable pub value : Answer → ℤ
@@ -46,6 +47,7 @@ value (answer.JumpOffsetOverflow bits k) = signed64 bits
 value (answer.NoRoom n) = pos n
 value (answer.NeverRecorded p k) = pos (p .0)
 value (answer.StrayBranch p k) = pos (p .0)
+value answer.BadBook = pos 0
 
 -- the value that an answer's number and 64 bits tell: only the bits of 10 are signed
 unfoldable pub valueBy : ℕ → ℕ → ℤ
@@ -67,6 +69,7 @@ action (answer.JumpOffsetOverflow bits k) = k .0
 action (answer.NoRoom n) = 0
 action (answer.NeverRecorded p k) = k .0
 action (answer.StrayBranch p k) = k .0
+action answer.BadBook = 0
 
 -- r tells the answer a, and an output that held o holds what a leaves there
 pub record Answered (a : answers.Answer (List ℕ)) (o : List ℕ) (r : Answer) (after : List ℕ) : Type 0 where

@@ -5,7 +5,7 @@ ghost use Rattle.answer.specs.Answered.{number, value, valueBy, action};
 use positions::ActionNumber;
 use positions::BytePosition;
 
-// Documents 01 and 02's answers to a packer, each with its value, and from 3 on but for 11 with the number of an action; a distance
+// The answers of documents 01 and 02 to a packer, each with its value, and 3 to 10, 14 and 15 with the number of an action; a distance
 // as its 64 bits.
 pub enum Answer {
     Done(usize),
@@ -22,6 +22,7 @@ pub enum Answer {
     NoRoom(usize),
     NeverRecorded(BytePosition, ActionNumber),
     StrayBranch(BytePosition, ActionNumber),
+    BadBook,
 }
 
 // The answer's number.
@@ -43,6 +44,7 @@ pub fn number_of(a: Answer) -> u32
         Answer::NoRoom(_) => 11,
         Answer::NeverRecorded(_, _) => 14,
         Answer::StrayBranch(_, _) => 15,
+        Answer::BadBook => 18,
     }
 }
 
@@ -65,6 +67,7 @@ pub fn value_of(a: Answer) -> u64
         Answer::NoRoom(n) => n as u64,
         Answer::NeverRecorded(p, _) => p.0 as u64,
         Answer::StrayBranch(p, _) => p.0 as u64,
+        Answer::BadBook => 0,
     }
 }
 
@@ -87,5 +90,6 @@ pub fn action_of(a: Answer) -> u64
         Answer::NoRoom(_) => 0,
         Answer::NeverRecorded(_, k) => k.0 as u64,
         Answer::StrayBranch(_, k) => k.0 as u64,
+        Answer::BadBook => 0,
     }
 }

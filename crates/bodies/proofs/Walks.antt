@@ -23,8 +23,9 @@ use Rattle.layout.specs.Payload.{opcode, payload, headed, framed}
 use Rattle.layout.specs.Write.{size, sizes, bodySize, Position, position, moved, Event, eventIf, labelAt, payloadTest, bodyTest, labelsAt, trace, traces, traceBody}
 use Rattle.layout.specs.Lengths.{total}
 use Rattle.layout.specs.Pack.{spelling}
-use Rattle.laws.specs.ReadFits.{good-got, good-behind, action-good, body-good}
-use Rattle.laws.specs.Packed.{spells}
+use Rattle.laws.specs.ReadFits.{good-got}
+use Rattle.laws.specs.Books.{WordsShort}
+use Rattle.laws.specs.Shares.{action-most, body-most}
 use Rattle.laws.specs.Begun.{begins-got, body-begins, owner-begins}
 use Rattle.labels.proofs.Labels.{slots-kept, any-number}
 use Rattle.labels.specs.Table.{entriesAt, due, Rising, Slots, Tables, recordAll, recorded, positionOf}
@@ -391,17 +392,17 @@ module _ (terms : Terms) (b : List ℕ) (at d : ℕ) (pos home : BytePosition) (
       pub going-bad : (k : Fault) (v : ℕ) (j : ActionNumber) → r ≡ walked.Stops k v j → Ran (outcome bodyLength bodyCount bodyEvents (standing pos home first) (state tab₀ over₀) (readBody terms b (d + 1) (placed at))) (walked.Stops k v j) (state tab₂ over₂)
       going-bad k v j e = ran-fault _ (sym (g .same) ∙ step-fault terms b (behind 1 (readBody terms b d)) (entriesAt b n (at + 2)) i (standing w home action) (state tab over) (many - i) p k v (j .0) (omega arith) (rw marked at (ran-bad o e)))
 
-      pub going-more : (q : ℕ) (x : BytePosition) (j : ActionNumber) (next′ : ℕ) → r ≡ walked.Ends q x j → next′ ≡ due (entriesAt b n (at + 2)) (65536 * (i + 1)) → length (tab₂ .positions) ≡ length (tab .positions) → length (tab₂ .homes) ≡ length (tab .homes) → length over₂ ≡ 3
+      pub going-more : WordsShort terms → (q : ℕ) (x : BytePosition) (j : ActionNumber) (next′ : ℕ) → r ≡ walked.Ends q x j → next′ ≡ due (entriesAt b n (at + 2)) (65536 * (i + 1)) → length (tab₂ .positions) ≡ length (tab .positions) → length (tab₂ .homes) ≡ length (tab .homes) → length over₂ ≡ 3
           → Going terms b at d pos home first (state tab₀ over₀) n many next′ (i + 1) q x j tab₂ over₂
-      going-more q x j next′ e a c v t =
+      going-more short q x j next′ e a c v t =
           let o′ = rw marked at (ran-is o e) in
           let z = outcome-is actionSize count actionTrace (standing w home action) _ (theAction terms b d p) o′ in
-          let y = good-got (z .0) (placed q) (action-good terms b (g .roomy .bytes) spelling (Unit {0}) (spells b (g .roomy .bytes) terms) (behind 1 (readBody terms b d)) (λ q h. good-behind 1 (body-good terms b (g .roomy .bytes) spelling (Unit {0}) (spells b (g .roomy .bytes) terms) d q h)) (placed p) (g .roomy .inside)) (z .1) in
+          let y = good-got (z .0) (placed q) (action-most terms b (g .roomy .bytes) short d (placed p) (g .roomy .inside)) (z .1) in
           let c′ = begins-got (z .0) (placed q) (owner-begins terms b d (placed p)) (z .1) in
           let l : many - (i + 1) ≡ many - i - 1 = omega arith in
           record {
             same = rw l (sym (step-done terms b (behind 1 (readBody terms b d)) (entriesAt b n (at + 2)) i (standing w home action) (state tab over) (many - i) p q (x .0) (j .0) (state tab₂ over₂) (omega arith) o′) ∙ g .same);
-            roomy = record { bytes = g .roomy .bytes; inside = y .1; room = omega (arith, y .0 .1 tt, y .0 .2, y .1, z .2, g .roomy .room, g .roomy .inside) };
+            roomy = record { bytes = g .roomy .bytes; inside = y .1; room = omega (arith, y .0 .0, y .0 .1, y .1, z .2, g .roomy .room, g .roomy .inside) };
             before = omega (arith, z .3, c′, g .before);
             counted = omega arith;
             is-due = a;
@@ -477,10 +478,10 @@ module _ (terms : Terms) (d : ℕ) (b : List ℕ) (n at : ℕ) (pos home : ByteP
           → Ran (outcome (total bodyLength) (total bodyCount) (bodiesEvents (action .0)) (position (pos .0) (home .0) (action .0 + 1)) (state tab₀ over₀) (inTurn (readBody terms b d) n (placed at))) (walked.Stops k v j) (state tab₂ over₂)
       bodying-bad k v j e = ran-fault _ (sym (g .same) ∙ rw (turn-more (readBody terms b d) left p h) (fault-then bodyLength bodyCount bodyEvents (standing w home number) (state tab over) _ _ _ (state tab over) (readBody terms b d (placed p)) _ (ran-bad o e)))
 
-      pub bodying-more : (q : ℕ) (x : BytePosition) (j : ActionNumber) (kept′ : ℕ) → r ≡ walked.Ends q x j → kept′ ≡ firstLong kept (x .0 - w .0) → length (tab₂ .positions) ≡ length (tab .positions) → length (tab₂ .homes) ≡ length (tab .homes) → length over₂ ≡ 3
+      pub bodying-more : WordsShort terms → (q : ℕ) (x : BytePosition) (j : ActionNumber) (kept′ : ℕ) → r ≡ walked.Ends q x j → kept′ ≡ firstLong kept (x .0 - w .0) → length (tab₂ .positions) ≡ length (tab .positions) → length (tab₂ .homes) ≡ length (tab .homes) → length over₂ ≡ 3
           → Bodying terms (readBody terms b d) b n at pos home action (state tab₀ over₀) (left - 1) q x j kept′ tab₂ over₂
       unfolding outcome total inBodies bodyTests moved
-      bodying-more q x j kept′ e k a u c =
+      bodying-more short q x j kept′ e k a u c =
           let z = outcome-is bodyLength bodyCount bodyEvents (standing w home number) _ (readBody terms b d (placed p)) (ran-is o e) in
           go (z .0) (z .1) (z .2) (z .3) (z .4)
         where
@@ -501,7 +502,7 @@ module _ (terms : Terms) (d : ℕ) (b : List ℕ) (n at : ℕ) (pos home : ByteP
           go : (t : ActionsOf Text ℕ) → readBody terms b d (placed p) ≡ got t (placed q) → x .0 ≡ w .0 + bodyLength t → j .0 ≡ number .0 + bodyCount t → state tab₂ over₂ ≡ run (bodyEvents t (standing w home number)) (state tab over)
               → Bodying terms (readBody terms b d) b n at pos home action (state tab₀ over₀) (left - 1) q x j kept′ tab₂ over₂
           go t f i o₁ j₁ =
-              let y = good-got t (placed q) (body-good terms b (g .roomy .bytes) spelling (Unit {0}) (spells b (g .roomy .bytes) terms) d (placed p) (g .roomy .inside)) f in
+              let y = good-got t (placed q) (body-most terms b (g .roomy .bytes) short d (placed p) (g .roomy .inside)) f in
               let m : x .0 - w .0 ≡ bodyLength t = omega arith in
               let c′ = begins-got t (placed q) (body-begins terms b d (placed p)) f in
               let k′ : kept′ ≡ firstLong kept (bodyLength t) = rw m at k in
@@ -510,7 +511,7 @@ module _ (terms : Terms) (d : ℕ) (b : List ℕ) (n at : ℕ) (pos home : ByteP
                 same = next-same t f i o₁ j₁ (inTurn (readBody terms b d) (left - 1) (placed q)) refl ∙ g .same;
                 notes = λ tab over l. run-append (g .waiting) (bodyTest (bodyLength t) (standing pos home action)) (state tab over) ∙ ap (run (bodyTest (bodyLength t) (standing pos home action))) (g .notes tab over l) ∙ run-body (bodyLength t) (standing pos home action) tab (notedIf 9 kept (action .0) over) ∙ ap (state tab) (noted-twice kept (bodyLength t) (action .0) over l (g .is-apt) ∙ ap (λ v. notedIf 9 v (action .0) over) (sym k′));
                 is-apt = rw k′ (first-apt kept (bodyLength t) (g .is-apt));
-                roomy = record { bytes = g .roomy .bytes; inside = y .1; room = omega (arith, y .0 .1 tt, y .0 .2, y .1, i, g .roomy .room, g .roomy .inside) };
+                roomy = record { bytes = g .roomy .bytes; inside = y .1; room = omega (arith, y .0 .0, y .0 .1, y .1, i, g .roomy .room, g .roomy .inside) };
                 before = omega (arith, o₁, c′, g .before);
                 slots = slots-kept (g .slots) a;
                 full = a ∙ g .full;

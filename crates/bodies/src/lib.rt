@@ -32,6 +32,8 @@ use positions::Walked;
 // A body; as many as `depth` may stand one in another, itself included.
 pub fn scan_body(
     b: &[u8],
+    words: &[u8],
+    index: &[u32],
     terms: Terms,
     at: usize,
     depth: usize,
@@ -42,8 +44,8 @@ pub fn scan_body(
     homes: &mut [usize],
     over: &mut [usize],
 ) -> Walked
-    requires { ⌜ Ready (termsOf terms) (now b) at pos (number .0) (now tab) (now over) ⌝ }
-    ensures { λ r. ⌜ Ran (outcome bodyLength bodyCount bodyEvents (standing pos home number) (state (tables (now (tab .entry)) (now (homes .entry))) (now (over .entry))) (readBody (termsOf terms) (now (b .entry)) depth (placed at))) r (state (tables (now (tab .exit)) (now (homes .exit))) (now (over .exit))) ⌝ }
+    requires { ⌜ Ready (termsOf terms (now words) (now index)) (now b) at pos (number .0) (now tab) (now over) ⌝ }
+    ensures { λ r. ⌜ Ran (outcome bodyLength bodyCount bodyEvents (standing pos home number) (state (tables (now (tab .entry)) (now (homes .entry))) (now (over .entry))) (readBody (termsOf terms (now (words .entry)) (now (index .entry))) (now (b .entry)) depth (placed at))) r (state (tables (now (tab .exit)) (now (homes .exit))) (now (over .exit))) ⌝ }
 {
     if depth == 0 {
         return Walked::Stops(Fault::TooDeep, at, number);
@@ -52,6 +54,8 @@ pub fn scan_body(
         Scan::Stops(f, p) => Walked::Stops(f, p, number),
         Scan::Ends(front, _) => scan_actions(
             b,
+            words,
+            index,
             terms,
             at,
             front,
@@ -69,6 +73,8 @@ pub fn scan_body(
 // The actions of the body at a place, whose front ends at `front`; bodies of `depth` may stand in them.
 fn scan_actions(
     b: &[u8],
+    words: &[u8],
+    index: &[u32],
     terms: Terms,
     at: usize,
     front: usize,
@@ -80,8 +86,8 @@ fn scan_actions(
     homes: &mut [usize],
     over: &mut [usize],
 ) -> Walked
-    requires { ⌜ Ready (termsOf terms) (now b) at pos (number .0) (now tab) (now over) × Fronted (termsOf terms) (now b) at front ⌝ }
-    ensures { λ r. ⌜ Ran (outcome bodyLength bodyCount bodyEvents (standing pos home number) (state (tables (now (tab .entry)) (now (homes .entry))) (now (over .entry))) (readBody (termsOf terms) (now (b .entry)) (depth + 1) (placed at))) r (state (tables (now (tab .exit)) (now (homes .exit))) (now (over .exit))) ⌝ }
+    requires { ⌜ Ready (termsOf terms (now words) (now index)) (now b) at pos (number .0) (now tab) (now over) × Fronted (termsOf terms (now words) (now index)) (now b) at front ⌝ }
+    ensures { λ r. ⌜ Ran (outcome bodyLength bodyCount bodyEvents (standing pos home number) (state (tables (now (tab .entry)) (now (homes .entry))) (now (over .entry))) (readBody (termsOf terms (now (words .entry)) (now (index .entry))) (now (b .entry)) (depth + 1) (placed at))) r (state (tables (now (tab .exit)) (now (homes .exit))) (now (over .exit))) ⌝ }
 {
     let n = u16_at(b, at);
     let list = at + 2;
@@ -93,7 +99,20 @@ fn scan_actions(
     let mut action = number;
     while i < count {
         next = record_labels(b, list, n, next, ActionIndex(i), w, home, tab, homes);
-        match scan_action(b, terms, p, depth, w, home, action, tab, homes, over) {
+        match scan_action(
+            b,
+            words,
+            index,
+            terms,
+            p,
+            depth,
+            w,
+            home,
+            action,
+            tab,
+            homes,
+            over,
+        ) {
             Walked::Stops(f, q, k) => {
                 return Walked::Stops(f, q, k);
             }
@@ -112,6 +131,8 @@ fn scan_actions(
 // The n bodies after the payload of an action; their lengths are tested when all are measured.
 fn scan_bodies(
     b: &[u8],
+    words: &[u8],
+    index: &[u32],
     terms: Terms,
     at: usize,
     depth: usize,
@@ -123,8 +144,8 @@ fn scan_bodies(
     homes: &mut [usize],
     over: &mut [usize],
 ) -> Walked
-    requires { ⌜ Ready (termsOf terms) (now b) at pos (action .0 + 1) (now tab) (now over) ⌝ }
-    ensures { λ r. ⌜ Ran (outcome (total bodyLength) (total bodyCount) (bodiesEvents (action .0)) (position (pos .0) (home .0) (action .0 + 1)) (state (tables (now (tab .entry)) (now (homes .entry))) (now (over .entry))) (inTurn (readBody (termsOf terms) (now (b .entry)) depth) n (placed at))) r (state (tables (now (tab .exit)) (now (homes .exit))) (now (over .exit))) ⌝ }
+    requires { ⌜ Ready (termsOf terms (now words) (now index)) (now b) at pos (action .0 + 1) (now tab) (now over) ⌝ }
+    ensures { λ r. ⌜ Ran (outcome (total bodyLength) (total bodyCount) (bodiesEvents (action .0)) (position (pos .0) (home .0) (action .0 + 1)) (state (tables (now (tab .entry)) (now (homes .entry))) (now (over .entry))) (inTurn (readBody (termsOf terms (now (words .entry)) (now (index .entry))) (now (b .entry)) depth) n (placed at))) r (state (tables (now (tab .exit)) (now (homes .exit))) (now (over .exit))) ⌝ }
 {
     let mut left = n;
     let mut p = at;
@@ -132,7 +153,20 @@ fn scan_bodies(
     let mut number = ActionNumber(action.0 + 1);
     let mut long = 0;
     while 0 < left {
-        match scan_body(b, terms, p, depth, w, home, number, tab, homes, over) {
+        match scan_body(
+            b,
+            words,
+            index,
+            terms,
+            p,
+            depth,
+            w,
+            home,
+            number,
+            tab,
+            homes,
+            over,
+        ) {
             Walked::Stops(f, q, k) => {
                 return Walked::Stops(f, q, k);
             }
@@ -152,6 +186,8 @@ fn scan_bodies(
 // An action; bodies of `depth` may stand in it.
 fn scan_action(
     b: &[u8],
+    words: &[u8],
+    index: &[u32],
     terms: Terms,
     at: usize,
     depth: usize,
@@ -162,8 +198,8 @@ fn scan_action(
     homes: &mut [usize],
     over: &mut [usize],
 ) -> Walked
-    requires { ⌜ Ready (termsOf terms) (now b) at pos (number .0) (now tab) (now over) ⌝ }
-    ensures { λ r. ⌜ Ran (outcome actionSize count actionTrace (standing pos home number) (state (tables (now (tab .entry)) (now (homes .entry))) (now (over .entry))) (readAction (termsOf terms) (now (b .entry)) (behind 1 (readBody (termsOf terms) (now (b .entry)) depth)) (placed at))) r (state (tables (now (tab .exit)) (now (homes .exit))) (now (over .exit))) ⌝ }
+    requires { ⌜ Ready (termsOf terms (now words) (now index)) (now b) at pos (number .0) (now tab) (now over) ⌝ }
+    ensures { λ r. ⌜ Ran (outcome actionSize count actionTrace (standing pos home number) (state (tables (now (tab .entry)) (now (homes .entry))) (now (over .entry))) (readAction (termsOf terms (now (words .entry)) (now (index .entry))) (now (b .entry)) (behind 1 (readBody (termsOf terms (now (words .entry)) (now (index .entry))) (now (b .entry)) depth)) (placed at))) r (state (tables (now (tab .exit)) (now (homes .exit))) (now (over .exit))) ⌝ }
 {
     if b.len() <= at {
         return Walked::Stops(Fault::CutShort, at, number);
@@ -177,15 +213,39 @@ fn scan_action(
         }
         return Walked::Stops(Fault::UnknownCode, at, number);
     }
-    match scan_payload(b, terms, op, at, pos, number, over) {
+    match scan_payload(b, words, index, terms, op, at, pos, number, over) {
         Laid::Stops(f, p) => Walked::Stops(f, p, number),
         Laid::Flat(p, w) => Walked::Ends(p, w, ActionNumber(next)),
         Laid::Branch(p, w, _) => Walked::Ends(p, w, ActionNumber(next)),
-        Laid::Bodies(p, w, n) => {
-            scan_bodies(b, terms, p, depth, w, home, number, n, tab, homes, over)
-        },
-        Laid::Function(p, w) => {
-            scan_bodies(b, terms, p, depth, w, w, number, 1, tab, homes, over)
-        },
+        Laid::Bodies(p, w, n) => scan_bodies(
+            b,
+            words,
+            index,
+            terms,
+            p,
+            depth,
+            w,
+            home,
+            number,
+            n,
+            tab,
+            homes,
+            over,
+        ),
+        Laid::Function(p, w) => scan_bodies(
+            b,
+            words,
+            index,
+            terms,
+            p,
+            depth,
+            w,
+            w,
+            number,
+            1,
+            tab,
+            homes,
+            over,
+        ),
     }
 }

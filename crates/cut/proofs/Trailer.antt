@@ -11,29 +11,34 @@ use lib.Dec.{leb, eqb}
 use lib.Seq.{getD-drop}
 use borrow.Author.Tests.{le-leb, lt-leb, ne-eqb}
 use Rattle.layout.specs.Answers.{BadTrailer}
-use Rattle.layout.specs.Cut.{Edition, First, Second, editionNumber, editions, editionOf, main, uncut, sheetLimit, cut, cutIfShort, cutIfTrailer, cutAt, cutIf, isMarked, trailerDistance, trailerEdition}
+use Rattle.layout.specs.Cut.{Edition, First, Second, Third, editionNumber, editions, editionOf, main, uncut, sheetLimit, cut, cutIfShort, cutIfTrailer, cutAt, cutIf, isMarked, trailerDistance, trailerEdition}
 use Rattle.layout.specs.Lists.{pick, firstWith}
 use Rattle.layout.specs.Numbers.{u16At, u32At}
 
 -- The u16 at place i after the first n bytes stands at place n + i.
-u16-after : (n : ℕ) (s : List ℕ) (i : ℕ) → u16At (drop n s) i ≡ u16At s (n + i)
+pub u16-after : (n : ℕ) (s : List ℕ) (i : ℕ) → u16At (drop n s) i ≡ u16At s (n + i)
 u16-after n s i = rw (getD-drop n s i 0, getD-drop n s (i + 1) 0, add-assoc)
+
+-- The u32 after the first n bytes stands at place n.
+pub u32-after : (n : ℕ) (s : List ℕ) → u32At (drop n s) 0 ≡ u32At s n
+u32-after n s = rw (u16-after n s 0, u16-after n s 2, add-zero)
 
 -- The distance of a trailer that stands after n bytes is the u32 at place n.
 distance-after : (n : ℕ) (s : List ℕ) → trailerDistance (drop n s) ≡ u32At s n
 unfolding trailerDistance
-distance-after n s = rw (u16-after n s 0, u16-after n s 2, add-zero)
+distance-after n s = u32-after n s
 
 -- An edition is told by its number.
 edition-of : (i : Edition) → editionOf (editionNumber i) ≡ some i
 unfolding editionOf editions editionNumber firstWith pick
 edition-of First = refl
 edition-of Second = refl
+edition-of Third = refl
 
 -- No other number is one's.
-no-edition : (n : ℕ) → (n ≡ 1 → ⊥) → (n ≡ 2 → ⊥) → editionOf n ≡ none
+no-edition : (n : ℕ) → (n ≡ 1 → ⊥) → (n ≡ 2 → ⊥) → (n ≡ 3 → ⊥) → editionOf n ≡ none
 unfolding editionOf editions editionNumber firstWith pick
-no-edition n h k = rw (ne-eqb 1 n (λ e. h (sym e)), ne-eqb 2 n (λ e. k (sym e)))
+no-edition n h k l = rw (ne-eqb 1 n (λ e. h (sym e)), ne-eqb 2 n (λ e. k (sym e)), ne-eqb 3 n (λ e. l (sym e)))
 
 -- Without an edition there is no main body, whatever else stands in the trailer.
 cut-none : (z : Bool) (s : List ℕ) (n d : ℕ) → cutIf z none s n d ≡ uncut BadTrailer
@@ -71,9 +76,9 @@ module _ (s : List ℕ) (short : length s ≤ sheetLimit) (room : 8 ≤ length s
   unfolding cutIf
   bad-distance h = rw (cut-by, lt-leb (u32At s (trailerAt s)) (trailerAt s) h, and-false)
 
-  -- It is refused where the edition is neither 1 nor 2.
-  pub bad-edition : (n : ℕ) → n ≡ u16At s (trailerAt s + 4) → (n ≡ 1 → ⊥) → (n ≡ 2 → ⊥) → uncut BadTrailer ≡ cut s
-  bad-edition n e h k = rw (cut-by, ← e, no-edition n h k, cut-none)
+  -- It is refused where the edition is none of 1, 2 and 3.
+  pub bad-edition : (n : ℕ) → n ≡ u16At s (trailerAt s + 4) → (n ≡ 1 → ⊥) → (n ≡ 2 → ⊥) → (n ≡ 3 → ⊥) → uncut BadTrailer ≡ cut s
+  bad-edition n e h k l = rw (cut-by, ← e, no-edition n h k l, cut-none)
 
   -- Else its main body is the d bytes before the trailer, d being the distance.
   pub main-body : (i : Edition) (d : ℕ) → d ≡ u32At s (trailerAt s) → u16At s (trailerAt s + 4) ≡ editionNumber i → getD s (trailerAt s + 6) 0 ≡ 0x41 → getD s (trailerAt s + 7) 0 ≡ 0x31 → d ≤ trailerAt s

@@ -39,6 +39,7 @@ pub fn cut_main(sheet: &[u8]) -> CutMain
     match u16_at(sheet, end + 4) {
         1 => CutMain::Main(Edition::First, start, end),
         2 => CutMain::Main(Edition::Second, start, end),
+        3 => CutMain::Main(Edition::Third, start, end),
         _ => CutMain::BadTrailer,
     }
 }

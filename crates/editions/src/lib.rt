@@ -1,36 +1,71 @@
 // The editions of a sheet, and what each allows.
 ghost use mathlib.Core.Path.{_≡_};
-ghost use Rattle.layout.specs.Pack.{editionTerms};
-ghost use Rattle.editions.specs.Allowed.{meant, termsOf};
+ghost use mathlib.Core.Bool.{_&&_};
+ghost use lib.Dec.{eqb};
+ghost use Rattle.layout.specs.Read.{edition1, edition2};
+ghost use Rattle.editions.specs.Allowed.{wordless, booked};
 
 // The edition that a trailer names.
 pub enum Edition {
     First,
     Second,
+    Third,
 }
 
-// What an edition allows: label numbers under a bound. The walks are handed it by value.
+// What a sheet is read by: label numbers under a bound, and whether its strings may name the words of a book, and how many there are.
+// The walks are handed it by value.
 pub struct Terms {
     pub label_bound: usize,
+    pub names_words: bool,
+    pub word_count: usize,
 }
 
-// How many label numbers each edition has: 0 to 1,023, and 0 to 4,095.
+// How many label numbers each edition has: 0 to 1,023, and 0 to 4,095 from edition 2 on.
 impl Terms {
     pub const FIRST_LABELS: usize = 1024;
 
     pub const SECOND_LABELS: usize = 4096;
 }
 
-// The terms of an edition.
-pub fn terms_of(edition: Edition) -> Terms
-    ensures { λ r. ⌜ termsOf r ≡ editionTerms (meant edition) ⌝ }
+// The terms of edition 1, which knows no book.
+pub fn first_terms() -> Terms
+    ensures { λ r. ⌜ wordless r edition1 ⌝ }
 {
-    match edition {
-        Edition::First => Terms {
-            label_bound: Terms::FIRST_LABELS,
-        },
-        Edition::Second => Terms {
-            label_bound: Terms::SECOND_LABELS,
-        },
+    Terms {
+        label_bound: Terms::FIRST_LABELS,
+        names_words: false,
+        word_count: 0,
     }
+}
+
+// The terms of edition 2, which knows no book either.
+pub fn second_terms() -> Terms
+    ensures { λ r. ⌜ wordless r edition2 ⌝ }
+{
+    Terms {
+        label_bound: Terms::SECOND_LABELS,
+        names_words: false,
+        word_count: 0,
+    }
+}
+
+// The terms of edition 3, where the book has so many words.
+pub fn third_terms(count: usize) -> Terms
+    ensures { λ r. ⌜ booked r count ⌝ }
+{
+    Terms {
+        label_bound: Terms::SECOND_LABELS,
+        names_words: true,
+        word_count: count,
+    }
+}
+
+// Whether a word's number stands in place of the bytes of a string of this length.
+pub fn names_word(terms: Terms, len: usize) -> bool
+    ensures { λ r. ⌜ r ≡ (terms .«names_words» && eqb len 65535) ⌝ }
+{
+    if terms.names_words {
+        return len == 65535;
+    }
+    false
 }

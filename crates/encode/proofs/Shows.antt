@@ -23,10 +23,10 @@ use Rattle.labels.specs.Table.{recordAt}
 use Rattle.pcode.specs.declared.CatchTarget.{CatchTarget}
 use Rattle.pcode.specs.declared.Action.{Action}
 use Rattle.pcode.specs.declared.Action.the-variants as code
-use Rattle.pcode.specs.Shown.{after, isText, ShownTarget, nothing, variable, register, Shown, small, gotoFrame, getUrl, storeRegister, constantPool, waitForFrame, setTarget, gotoLabel, waitForFrame2, defineFunction2, try, with, push, jump, getUrl2, defineFunction, if, gotoFrame2}
+use Rattle.pcode.specs.Shown.{spanOf, Held, ShownTarget, nothing, variable, register, Shown, small, gotoFrame, getUrl, storeRegister, constantPool, waitForFrame, setTarget, gotoLabel, waitForFrame2, defineFunction2, try, with, push, jump, getUrl2, defineFunction, if, gotoFrame2}
 use Rattle.positions.specs.declared.Ends.{Ends}
 use Rattle.encode.specs.Heads.{headBytes, headOf, CatchFrom, FinallyFrom, BodiesFrom, NotFar, Writable, WroteHead}
-use Rattle.encode_values.specs.Pieces.{Piece, piece, action, written, nextOf, spanOf, stringBytes, paramBytes, valueBytes, joined, stringsAt, valuesAt, Room, Put}
+use Rattle.encode_values.specs.Pieces.{Piece, piece, action, written, nextOf, stringBytes, paramBytes, valueBytes, joined, stringsAt, valuesAt, Room, Put}
 use Rattle.encode_values.specs.Pieces.{flatPiece}
 use Rattle.encode_flat.specs.Branches.{tableBits}
 use Rattle.encode_owners.specs.Payloads.{targetBytes, TargetWithin, functionPayload, function2Payload, function, function2}
@@ -119,22 +119,22 @@ module _ (terms : Terms) (b : List ℕ) (inner : Reader (ActionsOf Text ℕ)) wh
   uncaught x r s c e = (cc, cc)
 
   -- the catch's body, its name and its bits
-  catch-shown : {shape : ℕ} {t : CatchTarget} {x : CatchTargetOf Text} (r s : Place) (c : CatchOf Text ℕ) → isShape shape ≡ true → ShownTarget b shape t x
+  catch-shown : (e : List ℕ) {shape : ℕ} {t : CatchTarget} {x : CatchTargetOf Text} (r s : Place) (c : CatchOf Text ℕ) → isShape shape ≡ true → ShownTarget b e shape t x
       → readCatch terms b inner (hasCatch shape) x r ≡ got c s
-      → CatchFrom inner r c s × (catchName (mapCatch spelling c) ≡ targetBytes b t) × (catchShape (mapCatch spelling c) ≡ shape % 2 + 4 * (shape / 4 % 2))
-  unfolding catchName catchShape mapCatch mapTarget targetBytes spelling bit
-  catch-shown {shape} r s c i (nothing {t} h) e =
-      let k = uncaught t r s c (rw h at e) in
+      → CatchFrom inner r c s × (catchName (mapCatch spelling c) ≡ targetBytes b e t) × (catchShape (mapCatch spelling c) ≡ shape % 2 + 4 * (shape / 4 % 2))
+  unfolding catchName catchShape mapCatch mapTarget targetBytes bit
+  catch-shown e {shape} r s c i (nothing {t} h) g =
+      let k = uncaught t r s c (rw h at g) in
       let m = catch-bit shape false h in
       let n = register-bit shape false (shape-bits shape i .1 h) in
       rw (k .1) (k .0, refl, omega arith)
-  catch-shown {shape} r s c i (variable {t = t} h j (isText l)) e =
-      let k = caught (Variable t) r s c (rw h at e) in
+  catch-shown e {shape} r s c i (variable {t = t} h j l) g =
+      let k = caught (Variable t) r s c (rw h at g) in
       let m = catch-bit shape true h in
       let n = register-bit shape false j in
-      rw (k .2) (k .1, refl, omega arith)
-  catch-shown {shape} r s c i (register {r = n} h j) e =
-      let k = caught (Register n) r s c (rw h at e) in
+      rw (k .2) (k .1, ap (λ (x : List ℕ). zeroEnded x) (l .is), omega arith)
+  catch-shown e {shape} r s c i (register {r = n} h j) g =
+      let k = caught (Register n) r s c (rw h at g) in
       let m = catch-bit shape true h in
       let o = register-bit shape true j in
       rw (k .2) (k .1, refl, omega arith)
@@ -158,25 +158,25 @@ module _ (terms : Terms) (b : List ℕ) (inner : Reader (ActionsOf Text ℕ)) wh
 
 -- ---- the cases
 
-module _ (terms : Terms) (b tab : List ℕ) (at pos : ℕ) where
+module _ (terms : Terms) (b e tab : List ℕ) (at pos : ℕ) where
   -- what the code writes for a case, and where it reads on
   abbrev coded : Action → Piece
   coded (code.Small n) = piece (headed (ltb n 128) n []) (at + 1)
   coded (code.GotoFrame n) = action 0x81 (le16 n) (at + 1 + 2)
-  coded (code.GetUrl u t) = flatPiece (GetUrl (spanOf b u) (spanOf b t)) (after t)
+  coded (code.GetUrl u t) = flatPiece (GetUrl (spanOf b e u) (spanOf b e t)) (t .next)
   coded (code.StoreRegister r) = action 0x87 (r ∷ []) (at + 1 + 1)
   coded (code.ConstantPool n i) = written (λ q. headed false 0x88 (le16 n ++ q)) (stringsAt terms b n i)
   coded (code.WaitForFrame n k) = flatPiece (WaitForFrame n k) (at + 1 + 3)
-  coded (code.SetTarget s) = action 0x8B (zeroEnded (spanOf b s)) (after s)
-  coded (code.GotoLabel s) = action 0x8C (zeroEnded (spanOf b s)) (after s)
+  coded (code.SetTarget s) = action 0x8B (zeroEnded (spanOf b e s)) (s .next)
+  coded (code.GotoLabel s) = action 0x8C (zeroEnded (spanOf b e s)) (s .next)
   coded (code.WaitForFrame2 k) = action 0x8D (k ∷ []) (at + 1 + 1)
-  coded (code.DefineFunction2 f) = function2 terms b f
-  coded (code.Try shape t i) = action 0x8F (tryPayload shape 0 0 0 (targetBytes b t)) i
+  coded (code.DefineFunction2 f) = function2 terms b e f
+  coded (code.Try shape t i) = action 0x8F (tryPayload shape 0 0 0 (targetBytes b e t)) i
   coded (code.With i) = action 0x94 (le16 0) i
   coded (code.Push n i) = written (λ q. headed false 0x96 q) (valuesAt terms b n i)
   coded (code.Jump l) = action 0x99 (le16 (tableBits tab l (pos + 5))) (at + 1 + 2)
   coded (code.GetUrl2 v t m) = flatPiece (GetUrl2 (eqb v 1) (eqb t 1) m) (at + 1 + 3)
-  coded (code.DefineFunction f) = function terms b f
+  coded (code.DefineFunction f) = function terms b e f
   coded (code.If l) = action 0x9D (le16 (tableBits tab l (pos + 5))) (at + 1 + 2)
   coded (code.GotoFrame2 n k) = flatPiece (GotoFrame2 n (eqb k 1)) (at + 1 + 3)
 
@@ -188,44 +188,44 @@ module _ (terms : Terms) (b tab : List ℕ) (at pos : ℕ) where
   abbrev Within : Action → Type 0
   Within (code.Small n) = Unit {0}
   Within (code.GotoFrame n) = Unit {0}
-  Within (code.GetUrl u t) = (after u ≤ length b) × (after t ≤ length b)
+  Within (code.GetUrl u t) = Held b e u × Held b e t
   Within (code.StoreRegister r) = Unit {0}
   Within (code.ConstantPool n i) = Unit {0}
   Within (code.WaitForFrame n k) = Unit {0}
-  Within (code.SetTarget s) = after s ≤ length b
-  Within (code.GotoLabel s) = after s ≤ length b
+  Within (code.SetTarget s) = Held b e s
+  Within (code.GotoLabel s) = Held b e s
   Within (code.WaitForFrame2 k) = Unit {0}
-  Within (code.DefineFunction2 f) = (after (f .name) ≤ length b) × (nextOf (function2 terms b f) ≤ length b)
-  Within (code.Try shape t i) = TargetWithin b t
+  Within (code.DefineFunction2 f) = Held b e (f .name) × (nextOf (function2 terms b e f) ≤ length b)
+  Within (code.Try shape t i) = TargetWithin b e t
   Within (code.With i) = Unit {0}
   Within (code.Push n i) = Unit {0}
   Within (code.Jump l) = Reaches l
   Within (code.GetUrl2 v t m) = (v < 2) × (t < 2)
-  Within (code.DefineFunction f) = after (f .name) ≤ length b
+  Within (code.DefineFunction f) = Held b e (f .name)
   Within (code.If l) = Reaches l
   Within (code.GotoFrame2 n k) = k < 2
 
   -- it holds of a case that shows an action
-  is-within : {inner : Reader (ActionsOf Text ℕ)} {a : Action} {x : ActionOf Text ℕ} {q : Place} → Shown terms b inner (at + 1) a x q → terms .labelBound ≤ length tab → NotFar tab x pos → Within a
+  is-within : {inner : Reader (ActionsOf Text ℕ)} {a : Action} {x : ActionOf Text ℕ} {q : Place} → Shown terms b e inner (at + 1) a x q → terms .labelBound ≤ length tab → NotFar tab x pos → Within a
   unfolding TargetWithin
   is-within (small e) k n = tt
   is-within gotoFrame k n = tt
-  is-within (getUrl (isText h) (isText i)) k n = (h, i)
+  is-within (getUrl h i) k n = (h .within, i .within)
   is-within storeRegister k n = tt
   is-within (constantPool e) k n = tt
   is-within waitForFrame k n = tt
-  is-within (setTarget (isText h)) k n = h
-  is-within (gotoLabel (isText h)) k n = h
+  is-within (setTarget h) k n = h .within
+  is-within (gotoLabel h) k n = h .within
   is-within waitForFrame2 k n = tt
-  is-within (defineFunction2 (isText h) e i j f) k n = (h, rw e i)
+  is-within (defineFunction2 h g i j f) k n = (h .within, rw g i)
   is-within (try i (nothing h) e f g) k n = tt
-  is-within (try i (variable h j (isText l)) e f g) k n = l
+  is-within (try i (variable h j l) e f g) k n = l .within
   is-within (try i (register h j) e f g) k n = tt
   is-within (with e) k n = tt
   is-within (push e) k n = tt
   is-within (jump h) k n = (omega arith, n)
   is-within (getUrl2 h i) k n = (h, i)
-  is-within (defineFunction (isText h) e f) k n = h
+  is-within (defineFunction h g f) k n = h .within
   is-within (if h) k n = (omega arith, n)
   is-within (gotoFrame2 h) k n = h
 
@@ -234,45 +234,45 @@ module _ (terms : Terms) (b tab : List ℕ) (at pos : ℕ) where
   Heads inner a x q = (n : ℕ) × (coded a ≡ got (headOf tab x pos) (placed n)) × BodiesFrom inner n x q
 
   -- it holds of a case that shows an action
-  is-head : {inner : Reader (ActionsOf Text ℕ)} {a : Action} {x : ActionOf Text ℕ} {q : Place} → Shown terms b inner (at + 1) a x q → Heads inner a x q
-  unfolding headOf headBytes mapAction mapFlat mapOwner opcode payload framed byte branchOpCode ownerOpCode ownerFields ownerPayload functionPayload function2Payload spelling
-  is-head (small e) = (at + 1, ap (λ (k : ℕ). piece (headed (ltb k 128) k []) (at + 1)) (sym e), refl)
+  is-head : {inner : Reader (ActionsOf Text ℕ)} {a : Action} {x : ActionOf Text ℕ} {q : Place} → Shown terms b e inner (at + 1) a x q → Heads inner a x q
+  unfolding headOf headBytes mapAction mapFlat mapOwner opcode payload framed byte branchOpCode ownerOpCode ownerFields ownerPayload functionPayload function2Payload
+  is-head (small g) = (at + 1, ap (λ (k : ℕ). piece (headed (ltb k 128) k []) (at + 1)) (sym g), refl)
   is-head gotoFrame = (at + 1 + 2, refl, refl)
-  is-head (getUrl {t = t} (isText h) (isText i)) = (after t, refl, refl)
+  is-head (getUrl {t = t} h i) = (t .next, rw (h .is, i .is), refl)
   is-head storeRegister = (at + 1 + 1, refl, refl)
-  is-head (constantPool {n} {i} {xs} {q} e) =
-      (q .at, rw (e, strings-joined xs, length-each spelling xs, count-is (readString terms b) n (placed i) q xs e), refl)
+  is-head (constantPool {n} {i} {xs} {q} g) =
+      (q .at, rw (g, strings-joined xs, length-each spelling xs, count-is (readString terms b) n (placed i) q xs g), refl)
   is-head waitForFrame = (at + 1 + 3, refl, refl)
-  is-head (setTarget {s} (isText h)) = (after s, refl, refl)
-  is-head (gotoLabel {s} (isText h)) = (after s, refl, refl)
+  is-head (setTarget {s} h) = (s .next, rw (h .is), refl)
+  is-head (gotoLabel {s} h) = (s .next, rw (h .is), refl)
   is-head waitForFrame2 = (at + 1 + 1, refl, refl)
-  is-head (defineFunction2 {f} {ps = ps} {r = r} (isText h) e i j g) =
-      (r .at + 3, rw (e, params-joined ps, length-each (mapParam spelling) ps, count-is (readParam terms b) (f .count) (placed (f .at)) r ps e), g)
-  is-head {inner} (try {shape} {i} {t} {c = c} {f = f} {r = r} {s = s} {q = q} h target e g k) =
-      let l = catch-shown terms b inner r s c h target g in
+  is-head (defineFunction2 {f} {ps = ps} {r = r} h d i j g) =
+      (r .at + 3, rw (d, params-joined ps, length-each (mapParam spelling) ps, count-is (readParam terms b) (f .count) (placed (f .at)) r ps d, h .is), g)
+  is-head {inner} (try {shape} {i} {t} {c = c} {f = f} {r = r} {s = s} {q = q} h target d g k) =
+      let l = catch-shown terms b inner e r s c h target g in
       let m = finally-shown terms b inner shape s q f k in
       let n : shape ≡ catchShape (mapCatch spelling c) + finallyShape (mapFinally spelling f) = shape-sum shape (shape-bits shape h .0) ∙ ap₂ (λ (i j : ℕ). i + j) (sym (l .2)) (sym (m .1)) in
-      (i, rw (← n, l .1), (r, s, e, l .0, m .0))
-  is-head (with {i} e) = (i, refl, e)
-  is-head (push {n} {i} {xs} {q} e) = (q .at, rw (e, values-joined xs), refl)
+      (i, rw (← n, l .1), (r, s, d, l .0, m .0))
+  is-head (with {i} g) = (i, refl, g)
+  is-head (push {n} {i} {xs} {q} g) = (q .at, rw (g, values-joined xs), refl)
   is-head (jump h) = (at + 1 + 2, refl, refl)
   is-head (getUrl2 h i) = (at + 1 + 3, refl, refl)
-  is-head (defineFunction {f} {ps = ps} {r = r} (isText h) e g) =
-      (r .at, rw (e, strings-joined ps, length-each spelling ps, count-is (readString terms b) (f .count) (placed (f .at)) r ps e), g)
+  is-head (defineFunction {f} {ps = ps} {r = r} h d g) =
+      (r .at, rw (d, strings-joined ps, length-each spelling ps, count-is (readString terms b) (f .count) (placed (f .at)) r ps d, h .is), g)
   is-head (if h) = (at + 1 + 2, refl, refl)
   is-head (gotoFrame2 h) = (at + 1 + 3, refl, refl)
 
   module _ {a a′ : Action} {out : List ℕ} where
     -- what a case asks, where the action may be written
-    pub case-room : Writable terms b at a pos tab out → a ≡ a′ → Within a′ × Room (coded a′) pos out
-    case-room w e =
+    pub case-room : Writable terms b e at a pos tab out → a ≡ a′ → Within a′ × Room (coded a′) pos out
+    case-room w g =
         let h = is-head (w .shown) in
         let r : Room (coded a) pos out = rw (h .1) (record { known = tt; room = w .room; sums = w .sums }) in
-        (rw e at (is-within (w .shown) (w .slots) (w .near)), rw e at r)
+        (rw g at (is-within (w .shown) (w .slots) (w .near)), rw g at r)
 
     -- what it leaves
-    pub case-put : {out′ : List ℕ} {r : Ends} → a ≡ a′ → Put (coded a′) pos out out′ r → WroteHead terms b at a pos tab out out′ (r .next) (r .pos .0)
-    case-put {out′} {r} e p = record { wrote = λ inner x q s. go inner x q (is-head s) (rw (← e) at p) }
+    pub case-put : {out′ : List ℕ} {r : Ends} → a ≡ a′ → Put (coded a′) pos out out′ r → WroteHead terms b e at a pos tab out out′ (r .next) (r .pos .0)
+    case-put {out′} {r} d p = record { wrote = λ inner x q s. go inner x q (is-head s) (rw (← d) at p) }
       where
         go : (inner : Reader (ActionsOf Text ℕ)) (x : ActionOf Text ℕ) (q : Place) → Heads inner a x q → Put (coded a) pos out out′ r
             → (out′ ≡ sets out pos (headOf tab x pos)) × (r .pos .0 ≡ pos + length (headOf tab x pos)) × BodiesFrom inner (r .next) x q

@@ -55,12 +55,12 @@ NotFar tab (Try a c f) p = Unit {0}
 
 -- What the writing of a head asks: the case a shows the action that the definitions read at a place, its branch is not too far,
 -- its head has room, and the sums fit
-pub record Writable (terms : Terms) (b : List ℕ) (at : ℕ) (a : code.Action) (pos : ℕ) (tab out : List ℕ) : Type 0 where
+pub record Writable (terms : Terms) (b e : List ℕ) (at : ℕ) (a : code.Action) (pos : ℕ) (tab out : List ℕ) : Type 0 where
   pub bytes : Bytes b
   pub inner : Reader (ActionsOf Text ℕ)
   pub action : ActionOf Text ℕ
   pub next : Place
-  pub shown : Shown terms b inner (at + 1) a action next
+  pub shown : Shown terms b e inner (at + 1) a action next
   pub slots : terms .labelBound ≤ length tab
   pub near : NotFar tab action pos
   pub room : pos + length (headOf tab action pos) ≤ length out
@@ -69,6 +69,6 @@ pub record Writable (terms : Terms) (b : List ℕ) (at : ℕ) (a : code.Action) 
 
 -- What it leaves, for every action that the case shows: that action's head from the position on, the position after it, and the
 -- place where its bodies stand
-pub record WroteHead (terms : Terms) (b : List ℕ) (at : ℕ) (a : code.Action) (pos : ℕ) (tab out out′ : List ℕ) (next end : ℕ) : Type 0 where
-  pub wrote : (inner : Reader (ActionsOf Text ℕ)) (x : ActionOf Text ℕ) (q : Place) → Shown terms b inner (at + 1) a x q
+pub record WroteHead (terms : Terms) (b e : List ℕ) (at : ℕ) (a : code.Action) (pos : ℕ) (tab out out′ : List ℕ) (next end : ℕ) : Type 0 where
+  pub wrote : (inner : Reader (ActionsOf Text ℕ)) (x : ActionOf Text ℕ) (q : Place) → Shown terms b e inner (at + 1) a x q
       → (out′ ≡ sets out pos (headOf tab x pos)) × (end ≡ pos + length (headOf tab x pos)) × BodiesFrom inner next x q

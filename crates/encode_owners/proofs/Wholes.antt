@@ -11,9 +11,9 @@ use Rattle.layout.specs.Read.{Terms, got, bad}
 use Rattle.layout.specs.Payload.{zeroEnded, tryPayload, headed}
 use Rattle.layout.specs.Lengths.{length-le16, length-tryPayload}
 use Rattle.pcode.specs.declared.Function.{Function}
-use Rattle.pcode.specs.Shown.{after}
+use Rattle.pcode.specs.Shown.{spanOf, Held}
 use Rattle.positions.specs.declared.Ends.{Ends}
-use Rattle.encode_values.specs.Pieces.{Piece, piece, action, bytesOf, nextOf, Reads, spanOf, stringsAt, paramsAt, Room, Put}
+use Rattle.encode_values.specs.Pieces.{Piece, piece, action, bytesOf, nextOf, Reads, stringsAt, paramsAt, Room, Put}
 use Rattle.encode_values.proofs.Headers.{run-then, before-then, length-action, action-last, list-known, list-space, list-put, list-room}
 use Rattle.encode_values.proofs.Puts.{length-span}
 use Rattle.encode_owners.specs.Payloads.{functionPayload, function2Payload, function, function2, function2Of}
@@ -56,51 +56,51 @@ module _ (l : List ℕ) (i w : ℕ) (name : List ℕ) (count : ℕ) (h : w ≡ i
 
 -- ---- a DefineFunction
 
-module _ (terms : Terms) (b : List ℕ) (f : Function) {pos : ℕ} {out : List ℕ} (n : after (f .name) ≤ length b) where
+module _ (terms : Terms) (b e : List ℕ) (f : Function) {pos : ℕ} {out : List ℕ} (n : Held b e (f .name)) where
   -- the name, the count, the parameters and the body's length have room
-  pub function-space : Room (function terms b f) pos out → pos + 3 + (f .name .len + 1) + 4 + length (bytesOf (stringsAt terms b (f .count) (f .at))) ≤ length out
+  pub function-space : Room (function terms b e f) pos out → pos + 3 + (f .name .len + 1) + 4 + length (bytesOf (stringsAt terms b (f .count) (f .at))) ≤ length out
   function-space h =
       let x : Piece = stringsAt terms b (f .count) (f .at) in
       omega (
         arith,
-        list-space 0x9B (λ q. functionPayload (spanOf b (f .name)) (f .count) q) x h,
-        length-function (spanOf b (f .name)) (f .count) (bytesOf x),
-        length-span b (f .name) n,
+        list-space 0x9B (λ q. functionPayload (spanOf b e (f .name)) (f .count) q) x h,
+        length-function (spanOf b e (f .name)) (f .count) (bytesOf x),
+        length-span b e (f .name) n,
       )
 
   -- so the parameters may be written behind the count, which stands at w
-  pub function-room : {w : ℕ} {m : List ℕ} → Room (function terms b f) pos out → w ≡ pos + 3 + (f .name .len + 1) → length m ≡ length out → Room (stringsAt terms b (f .count) (f .at)) (w + 2) m
-  function-room {w} {m} h i e =
+  pub function-room : {w : ℕ} {m : List ℕ} → Room (function terms b e f) pos out → w ≡ pos + 3 + (f .name .len + 1) → length m ≡ length out → Room (stringsAt terms b (f .count) (f .at)) (w + 2) m
+  function-room {w} {m} h i g =
       let x : Piece = stringsAt terms b (f .count) (f .at) in
-      list-room x (w + 2) m (list-known 0x9B (λ q. functionPayload (spanOf b (f .name)) (f .count) q) x h) (omega (arith, function-space h)) (omega (arith, h .sums))
+      list-room x (w + 2) m (list-known 0x9B (λ q. functionPayload (spanOf b e (f .name)) (f .count) q) x h) (omega (arith, function-space h)) (omega (arith, h .sums))
 
   -- the name, the count, the parameters, the body's length, and then the header
-  pub function-put : {w len : ℕ} {m o p s out′ : List ℕ} {r : Ends} → Room (function terms b f) pos out → w ≡ pos + 3 + (f .name .len + 1) → m ≡ sets out (pos + 3) (zeroEnded (spanOf b (f .name)))
+  pub function-put : {w len : ℕ} {m o p s out′ : List ℕ} {r : Ends} → Room (function terms b e f) pos out → w ≡ pos + 3 + (f .name .len + 1) → m ≡ sets out (pos + 3) (zeroEnded (spanOf b e (f .name)))
       → o ≡ sets m w (le16 (f .count)) → Put (stringsAt terms b (f .count) (f .at)) (w + 2) o p r → s ≡ sets p (r .pos .0) (le16 0) → len ≡ f .name .len + 5 + (r .pos .0 - (w + 2))
-      → out′ ≡ sets s pos (0x9B ∷ le16 len) → Put (function terms b f) pos out out′ (record { next = r .next; pos = record { 0 = pos + 3 + len } })
-  function-put {w} {len} {r = r} h i e g x y j z =
-      let k = length-span b (f .name) n in
-      let l = length-function (spanOf b (f .name)) (f .count) (bytesOf (stringsAt terms b (f .count) (f .at))) in
-      list-put 0x9B (λ q. functionPayload (spanOf b (f .name)) (f .count) q) (stringsAt terms b (f .count) (f .at)) h len (omega (arith, x .end))
-      (function-runs out (pos + 3) w (spanOf b (f .name)) (f .count) (omega arith) e g (bytesOf (stringsAt terms b (f .count) (f .at))) (r .pos .0) (x .wrote) (x .end) y)
+      → out′ ≡ sets s pos (0x9B ∷ le16 len) → Put (function terms b e f) pos out out′ (record { next = r .next; pos = record { 0 = pos + 3 + len } })
+  function-put {w} {len} {r = r} h i d g x y j z =
+      let k = length-span b e (f .name) n in
+      let l = length-function (spanOf b e (f .name)) (f .count) (bytesOf (stringsAt terms b (f .count) (f .at))) in
+      list-put 0x9B (λ q. functionPayload (spanOf b e (f .name)) (f .count) q) (stringsAt terms b (f .count) (f .at)) h len (omega (arith, x .end))
+      (function-runs out (pos + 3) w (spanOf b e (f .name)) (f .count) (omega arith) d g (bytesOf (stringsAt terms b (f .count) (f .at))) (r .pos .0) (x .wrote) (x .end) y)
       z (omega (arith, x .end)) (x .next)
 
 -- ---- a DefineFunction2
 
-module _ (b : List ℕ) (f : Function) where
+module _ (b e : List ℕ) (f : Function) where
   -- its payload where its parameters read
   abbrev fields2 : Piece → List ℕ
-  fields2 x = function2Payload (spanOf b (f .name)) (f .count) (getD b (nextOf x) 0) (u16At b (nextOf x + 1)) (bytesOf x)
+  fields2 x = function2Payload (spanOf b e (f .name)) (f .count) (getD b (nextOf x) 0) (u16At b (nextOf x + 1)) (bytesOf x)
 
   -- its bytes and the place where reading goes on
-  made : (x : Piece) → Reads (function2Of b f x) → Reads x × (bytesOf (function2Of b f x) ≡ headed false 0x8E (fields2 x)) × (nextOf (function2Of b f x) ≡ nextOf x + 3)
+  made : (x : Piece) → Reads (function2Of b e f x) → Reads x × (bytesOf (function2Of b e f x) ≡ headed false 0x8E (fields2 x)) × (nextOf (function2Of b e f x) ≡ nextOf x + 3)
   made (got q r) k = (tt, refl, refl)
-  made (bad e r) k = absurd k
+  made (bad g r) k = absurd k
 
-module _ (terms : Terms) (b : List ℕ) (f : Function) {pos : ℕ} {out : List ℕ} (n : after (f .name) ≤ length b) (h : Room (function2 terms b f) pos out) where
+module _ (terms : Terms) (b e : List ℕ) (f : Function) {pos : ℕ} {out : List ℕ} (n : Held b e (f .name)) (h : Room (function2 terms b e f) pos out) where
   -- the byte and the u16 behind the parameters lie within b
-  pub function2-inside : nextOf (function2 terms b f) ≤ length b → nextOf (paramsAt terms b (f .count) (f .at)) + 3 ≤ length b
-  function2-inside k = omega (arith, made b f (paramsAt terms b (f .count) (f .at)) (h .known) .2)
+  pub function2-inside : nextOf (function2 terms b e f) ≤ length b → nextOf (paramsAt terms b (f .count) (f .at)) + 3 ≤ length b
+  function2-inside k = omega (arith, made b e f (paramsAt terms b (f .count) (f .at)) (h .known) .2)
 
   -- the name, the fields, the parameters and the body's length have room
   pub function2-space : pos + 3 + (f .name .len + 1) + 7 + length (bytesOf (paramsAt terms b (f .count) (f .at))) ≤ length out
@@ -108,31 +108,31 @@ module _ (terms : Terms) (b : List ℕ) (f : Function) {pos : ℕ} {out : List �
       let x : Piece = paramsAt terms b (f .count) (f .at) in
       omega (
         arith,
-        rw (made b f x (h .known) .1) at (h .room),
-        length-action 0x8E (fields2 b f x),
-        length-function2 (spanOf b (f .name)) (f .count) (getD b (nextOf x) 0) (u16At b (nextOf x + 1)) (bytesOf x),
-        length-span b (f .name) n,
+        rw (made b e f x (h .known) .1) at (h .room),
+        length-action 0x8E (fields2 b e f x),
+        length-function2 (spanOf b e (f .name)) (f .count) (getD b (nextOf x) 0) (u16At b (nextOf x + 1)) (bytesOf x),
+        length-span b e (f .name) n,
       )
 
   -- so the parameters may be written behind the fields, the first of which stands at w
   pub function2-room : {w : ℕ} {m : List ℕ} → w ≡ pos + 3 + (f .name .len + 1) → length m ≡ length out → Room (paramsAt terms b (f .count) (f .at)) (w + 5) m
-  function2-room {w} {m} i e =
+  function2-room {w} {m} i g =
       let x : Piece = paramsAt terms b (f .count) (f .at) in
-      list-room x (w + 5) m (made b f x (h .known) .0) (omega (arith, function2-space)) (omega (arith, h .sums))
+      list-room x (w + 5) m (made b e f x (h .known) .0) (omega (arith, function2-space)) (omega (arith, h .sums))
 
   -- the name, the count, the parameters, the fields before them, the body's length, and then the header
-  pub function2-put : {w len : ℕ} {m o p s t u out′ : List ℕ} {r : Ends} {flags : ℕ} → w ≡ pos + 3 + (f .name .len + 1) → m ≡ sets out (pos + 3) (zeroEnded (spanOf b (f .name)))
+  pub function2-put : {w len : ℕ} {m o p s t u out′ : List ℕ} {r : Ends} {flags : ℕ} → w ≡ pos + 3 + (f .name .len + 1) → m ≡ sets out (pos + 3) (zeroEnded (spanOf b e (f .name)))
       → o ≡ sets m w (le16 (f .count)) → Put (paramsAt terms b (f .count) (f .at)) (w + 5) o p r → s ≡ sets p (w + 2) (getD b (r .next) 0 ∷ []) → flags ≡ u16At b (r .next + 1)
       → t ≡ sets s (w + 3) (le16 flags) → u ≡ sets t (r .pos .0) (le16 0) → len ≡ f .name .len + 8 + (r .pos .0 - (w + 5)) → out′ ≡ sets u pos (0x8E ∷ le16 len)
-      → Put (function2 terms b f) pos out out′ (record { next = r .next + 3; pos = record { 0 = pos + 3 + len } })
-  function2-put {w} {len} {out′ = out′} {r = r} d e g x y k z v c o =
+      → Put (function2 terms b e f) pos out out′ (record { next = r .next + 3; pos = record { 0 = pos + 3 + len } })
+  function2-put {w} {len} {out′ = out′} {r = r} d u g x y k z v c o =
       let a : Piece = paramsAt terms b (f .count) (f .at) in
-      let i = made b f a (h .known) in
-      let j = length-span b (f .name) n in
-      let l = length-function2 (spanOf b (f .name)) (f .count) (getD b (nextOf a) 0) (u16At b (nextOf a + 1)) (bytesOf a) in
-      let q : Put (action 0x8E (fields2 b f a) (r .next + 3)) pos out out′ (record { next = r .next + 3; pos = record { 0 = pos + 3 + len } }) =
-      action-last 0x8E (fields2 b f a) len (omega (arith, x .end))
-      (function2-runs out (pos + 3) w (spanOf b (f .name)) (f .count) (omega arith) e g (bytesOf a) (getD b (nextOf a) 0) (u16At b (nextOf a + 1)) (r .pos .0)
+      let i = made b e f a (h .known) in
+      let j = length-span b e (f .name) n in
+      let l = length-function2 (spanOf b e (f .name)) (f .count) (getD b (nextOf a) 0) (u16At b (nextOf a + 1)) (bytesOf a) in
+      let q : Put (action 0x8E (fields2 b e f a) (r .next + 3)) pos out out′ (record { next = r .next + 3; pos = record { 0 = pos + 3 + len } }) =
+      action-last 0x8E (fields2 b e f a) len (omega (arith, x .end))
+      (function2-runs out (pos + 3) w (spanOf b e (f .name)) (f .count) (omega arith) u g (bytesOf a) (getD b (nextOf a) 0) (u16At b (nextOf a + 1)) (r .pos .0)
       (x .wrote) (rw (x .next) at y) (rw (k, x .next) at z) (x .end) v) o (omega (arith, x .end)) in
       record { wrote = rw (i .1) (q .wrote); end = rw (i .1) (q .end); next = omega (arith, i .2, x .next) }
 

@@ -1,48 +1,55 @@
 -- What the strings and parameters at a place are written as. Assumes nothing.
-use mathlib.Core.Path.{_≡_, refl, sym, _∙_}
+use mathlib.Core.Path.{_≡_, refl, sym, ap, _∙_}
 use Prim.Native.Nat.{ℕ, _+_, _≤_}
 use native.Mathlib.Omega.{arith}
 use mathlib.Core.List.{List, [], _∷_}
 use lib.ListN.{length, getD}
 use lib.Seq.{sets}
-use Rattle.layout.specs.Numbers.{u16At}
 use Rattle.layout.specs.Tree.{functionParam}
-use Rattle.layout.specs.Read.{Text, Terms, placed, Read, got, bad, plain, chain, readU8, readString, readParam}
+use Rattle.layout.specs.Read.{Text, Terms, placed, Read, got, bad, chain, readU8, readString, readParam}
 use Rattle.layout.specs.Payload.{zeroEnded}
-use Rattle.layout.specs.Pack.{spelling}
-use Rattle.fields.specs.Runs.{part}
 use Rattle.stores.proofs.Stores.{sets-then}
-use Rattle.pcode.specs.Shown.{spanAt, after}
+use Rattle.editions.specs.Allowed.{termsOf}
+use Rattle.editions.specs.declared.Terms as code-terms
+use Rattle.pcode.specs.declared.Span.{Span}
+use Rattle.pcode.specs.Shown.{spanAt, spanOf, Held, IsText}
 use Rattle.pcode.proofs.Readings as reading
-use Rattle.pcode.proofs.Readings.{Gives, gives, Exactly, exactly}
+use Rattle.pcode.proofs.Readings.{Gives, gives, Exactly, exactly, Behind, behind-it}
 use Rattle.positions.specs.declared.Ends.{Ends}
-use Rattle.encode_values.specs.Pieces.{Piece, piece, written, bytesOf, nextOf, Reads, stringBytes, paramBytes, stringAt, paramAt, spanOf, Room, Put}
+use Rattle.encode_values.specs.Pieces.{Piece, piece, written, bytesOf, nextOf, Reads, stringBytes, paramBytes, stringAt, paramAt, Room, Put}
 use Rattle.encode_values.proofs.Puts.{length-span}
 
-module _ (terms : Terms) (b : List ℕ) (p : ℕ) where
+module _ (t : code-terms.Terms) (e index b : List ℕ) (p : ℕ) where
   -- a string that reads is the span at p
-  is-span : Reads (stringAt terms b p) → (after (spanAt b p) ≤ length b) × (stringAt terms b p ≡ piece (zeroEnded (spanOf b (spanAt b p))) (after (spanAt b p)))
-  unfolding stringBytes spelling
-  is-span k = go (readString terms b (placed p)) (reading.string terms b p) k
+  is-span : Reads (stringAt (termsOf t e index) b p)
+      → Held b e (spanAt t e index b p) × (spanAt t e index b p .next ≤ length b) × (stringAt (termsOf t e index) b p ≡ piece (zeroEnded (spanOf b e (spanAt t e index b p))) (spanAt t e index b p .next))
+  unfolding stringBytes
+  is-span k = go (readString (termsOf t e index) b (placed p)) (reading.string t e index b p) k
     where
-      go : (x : Read Text) → Gives (Exactly (after (spanAt b p) ≤ length b) (plain (spanOf b (spanAt b p))) (placed (after (spanAt b p)))) x → Reads (written stringBytes x)
-          → (after (spanAt b p) ≤ length b) × (written stringBytes x ≡ piece (zeroEnded (spanOf b (spanAt b p))) (after (spanAt b p)))
-      go (got a q) (gives (exactly h)) k = (h, refl)
+      go : (x : Read Text) → Gives (Behind (IsText b e (spanAt t e index b p)) (placed (spanAt t e index b p .next))) x → Reads (written stringBytes x)
+          → Held b e (spanAt t e index b p) × (spanAt t e index b p .next ≤ length b) × (written stringBytes x ≡ piece (zeroEnded (spanOf b e (spanAt t e index b p))) (spanAt t e index b p .next))
+      go (got a q) (gives (behind-it h)) k = (h .within, h .ends, ap (λ (x : List ℕ). piece (zeroEnded x) (spanAt t e index b p .next)) (h .is))
       go (bad f q) h k = absurd k
 
-  module _ {pos : ℕ} {out : List ℕ} (h : Room (stringAt terms b p) pos out) where
-    -- it lies within b, and there is room for its bytes and a zero byte
-    pub string-room : (after (spanAt b p) ≤ length b) × (pos + u16At b p + 1 ≤ length out)
-    string-room =
-        let s = is-span (h .known) in
-        (s .0, omega (arith, length-span b (spanAt b p) (s .0), rw (s .1) at (h .room)))
+  module _ {pos : ℕ} {out : List ℕ} (h : Room (stringAt (termsOf t e index) b p) pos out) where
+    -- it ends within b
+    pub string-ends : spanAt t e index b p .next ≤ length b
+    string-ends = is-span (h .known) .1
 
-    -- it is written
-    pub string-put : {out′ : List ℕ} (n l : ℕ) → n ≡ u16At b p → l ≡ n + 1 → out′ ≡ sets out pos (zeroEnded (part b (p + 2) n)) → Put (stringAt terms b p) pos out out′ (record { next = p + 2 + n; pos = record { 0 = pos + l } })
-    string-put n l e k f =
-        let s = is-span (h .known) in
-        rw (s .1) (record { wrote = rw e at f; end = omega (arith, length-span b (spanAt b p) (s .0)); next = omega arith })
+    module _ (s : Span) (k : s ≡ spanAt t e index b p) where
+      -- it is held, and there is room for its bytes and a zero byte
+      pub string-room : Held b e s × (pos + s .len + 1 ≤ length out)
+      string-room =
+          let i = is-span (h .known) in
+          rw k (i .0, omega (arith, length-span b e (spanAt t e index b p) (i .0), rw (i .2) at (h .room)))
 
+      -- it is written
+      pub string-put : {out′ : List ℕ} (l : ℕ) → l ≡ s .len + 1 → out′ ≡ sets out pos (zeroEnded (spanOf b e s)) → Put (stringAt (termsOf t e index) b p) pos out out′ (record { next = s .next; pos = record { 0 = pos + l } })
+      string-put l m f =
+          let i = is-span (h .known) in
+          rw (i .2) (record { wrote = rw k at f; end = omega (arith, length-span b e (spanAt t e index b p) (i .0), ap (λ (x : Span). x .len) k); next = ap (λ (x : Span). x .next) k })
+
+module _ (terms : Terms) (b : List ℕ) (p : ℕ) where
   -- a parameter that reads is a byte and the string behind it
   is-param : Reads (paramAt terms b p) → (p + 1 ≤ length b) × Reads (stringAt terms b (p + 1)) × (paramAt terms b p ≡ written (λ t. getD b p 0 ∷ t) (stringAt terms b (p + 1)))
   unfolding readParam paramBytes stringBytes

@@ -10,8 +10,6 @@ use Rattle.layout.specs.Read.{Text, Terms, placed, Read, got, bad, repeat, read
 use Rattle.layout.specs.Payload.{opcode, payload, zeroEnded, pushBytes, headed, framed}
 use Rattle.layout.specs.Strings.{mapValue}
 use Rattle.layout.specs.Pack.{spelling}
-use Rattle.fields.specs.Runs.{part}
-use Rattle.pcode.specs.declared.Span.{Span}
 use Rattle.positions.specs.declared.Ends.{Ends}
 
 -- ---- what is to be written
@@ -102,7 +100,3 @@ module _ (terms : Terms) (b : List ℕ) where
 
   abbrev pub valuesAt : ℕ → ℕ → Piece
   valuesAt n p = written (joined valueBytes) (repeat (readValue terms b) n (placed p))
-
--- a span's bytes
-abbrev pub spanOf : List ℕ → Span → List ℕ
-spanOf b s = part b (s .at) (s .len)

@@ -1,20 +1,22 @@
-// Strings, lists and push values, written into a lent output. `b` is the main body, `pos` a position in the block and `next` the
-// place in the main body after what is written.
+// Strings, lists and push values, written into a lent output. `b` is the main body, `words` and `index` are of the book, `pos` is a
+// position in the block and `next` the place in the main body after what is written.
+ghost use mathlib.Core.Path.{_≡_};
 ghost use mathlib.Core.List.{[], _∷_};
-ghost use Prim.Native.Nat.{_≤_};
+ghost use Prim.Native.Nat.{_+_, _≤_};
 ghost use lib.ListN.{length};
+ghost use lib.Seq.{sets};
 ghost use lib.Dec.{ltb};
 ghost use Rattle.layout.specs.Numbers.{le32};
 ghost use Rattle.layout.specs.Payload.{zeroEnded, constantBytes, doubleBytes};
-ghost use Rattle.pcode.specs.Shown.{after};
+ghost use Rattle.pcode.specs.Shown.{spanOf, Held};
 ghost use Rattle.editions.specs.Allowed.{termsOf};
-ghost use Rattle.encode_values.specs.Pieces.{piece, spanOf, stringAt, paramAt, valueAt, stringsAt, paramsAt, valuesAt, Room, Put};
+ghost use Rattle.encode_values.specs.Pieces.{piece, stringAt, paramAt, valueAt, stringsAt, paramsAt, valuesAt, Room, Put};
 use editions::Terms;
-use fields::u16_at;
 use opcode::OpCode;
 use pcode::PushValue;
 use pcode::Span;
 use pcode::push_value_at;
+use pcode::span_at;
 use positions::BytePosition;
 use positions::Ends;
 use stores::write_f64_me;
@@ -22,48 +24,76 @@ use stores::write_string;
 use stores::write_u8;
 use stores::write_u16;
 use stores::write_u32;
+use words::text_of;
 
 // ---- strings and lists
 
-// The string at a place, with its zero byte.
-fn write_string_at(out: &mut [u8], pos: BytePosition, b: &[u8], terms: Terms, at: usize) -> Ends
-    requires { ⌜ Room (stringAt (termsOf terms) (now b) at) (pos .0) (now out) ⌝ }
-    ensures { λ r. ⌜ Put (stringAt (termsOf terms) (now (b .entry)) at) (pos .0) (now (out .entry)) (now (out .exit)) r ⌝ }
+// A string with its zero byte, from the part of the main body or of the words that holds it.
+pub fn write_text<'a>(out: &mut [u8], pos: usize, b: &'a [u8], words: &'a [u8], s: Span)
+    requires { ⌜ Held (now b) (now words) s × (pos + s .len + 1 ≤ length (now out)) ⌝ }
+    ensures { λ _. ⌜ now (out .exit) ≡ sets (now (out .entry)) pos (zeroEnded (spanOf (now (b .entry)) (now (words .entry)) s)) ⌝ }
 {
-    let n = u16_at(b, at);
-    write_string(out, pos.0, b, at + 2, n);
+    let text = text_of(b, words, s.from_book, s.at, s.len);
+    write_string(out, pos, text, 0, text.len());
+}
+
+// The string at a place, with its zero byte.
+fn write_string_at<'a>(
+    out: &mut [u8],
+    pos: BytePosition,
+    b: &'a [u8],
+    words: &'a [u8],
+    index: &[u32],
+    terms: Terms,
+    at: usize,
+) -> Ends
+    requires { ⌜ Room (stringAt (termsOf terms (now words) (now index)) (now b) at) (pos .0) (now out) ⌝ }
+    ensures { λ r. ⌜ Put (stringAt (termsOf terms (now (words .entry)) (now (index .entry))) (now (b .entry)) at) (pos .0) (now (out .entry)) (now (out .exit)) r ⌝ }
+{
+    let s = span_at(b, words, index, terms, at);
+    write_text(out, pos.0, b, words, s);
     Ends {
-        next: at + 2 + n,
-        pos: BytePosition(pos.0 + OpCode::string_len(n)),
+        next: s.next,
+        pos: BytePosition(pos.0 + OpCode::string_len(s.len)),
     }
 }
 
 // The parameter of a DefineFunction2 at a place: its register, then its name.
-fn write_param_at(out: &mut [u8], pos: BytePosition, b: &[u8], terms: Terms, at: usize) -> Ends
-    requires { ⌜ Room (paramAt (termsOf terms) (now b) at) (pos .0) (now out) ⌝ }
-    ensures { λ r. ⌜ Put (paramAt (termsOf terms) (now (b .entry)) at) (pos .0) (now (out .entry)) (now (out .exit)) r ⌝ }
+fn write_param_at<'a>(
+    out: &mut [u8],
+    pos: BytePosition,
+    b: &'a [u8],
+    words: &'a [u8],
+    index: &[u32],
+    terms: Terms,
+    at: usize,
+) -> Ends
+    requires { ⌜ Room (paramAt (termsOf terms (now words) (now index)) (now b) at) (pos .0) (now out) ⌝ }
+    ensures { λ r. ⌜ Put (paramAt (termsOf terms (now (words .entry)) (now (index .entry))) (now (b .entry)) at) (pos .0) (now (out .entry)) (now (out .exit)) r ⌝ }
 {
     write_u8(out, pos.0, b[at]);
-    write_string_at(out, BytePosition(pos.0 + 1), b, terms, at + 1)
+    write_string_at(out, BytePosition(pos.0 + 1), b, words, index, terms, at + 1)
 }
 
 // n strings.
-pub fn write_strings(
+pub fn write_strings<'a>(
     out: &mut [u8],
     pos: BytePosition,
-    b: &[u8],
+    b: &'a [u8],
+    words: &'a [u8],
+    index: &[u32],
     terms: Terms,
     n: usize,
     at: usize,
 ) -> Ends
-    requires { ⌜ Room (stringsAt (termsOf terms) (now b) n at) (pos .0) (now out) ⌝ }
-    ensures { λ r. ⌜ Put (stringsAt (termsOf terms) (now (b .entry)) n at) (pos .0) (now (out .entry)) (now (out .exit)) r ⌝ }
+    requires { ⌜ Room (stringsAt (termsOf terms (now words) (now index)) (now b) n at) (pos .0) (now out) ⌝ }
+    ensures { λ r. ⌜ Put (stringsAt (termsOf terms (now (words .entry)) (now (index .entry))) (now (b .entry)) n at) (pos .0) (now (out .entry)) (now (out .exit)) r ⌝ }
 {
     let mut left = n;
     let mut p = at;
     let mut w = pos;
     while 0 < left {
-        let e = write_string_at(out, w, b, terms, p);
+        let e = write_string_at(out, w, b, words, index, terms, p);
         p = e.next;
         w = e.pos;
         left -= 1;
@@ -72,22 +102,24 @@ pub fn write_strings(
 }
 
 // n parameters of a DefineFunction2.
-pub fn write_params(
+pub fn write_params<'a>(
     out: &mut [u8],
     pos: BytePosition,
-    b: &[u8],
+    b: &'a [u8],
+    words: &'a [u8],
+    index: &[u32],
     terms: Terms,
     n: usize,
     at: usize,
 ) -> Ends
-    requires { ⌜ Room (paramsAt (termsOf terms) (now b) n at) (pos .0) (now out) ⌝ }
-    ensures { λ r. ⌜ Put (paramsAt (termsOf terms) (now (b .entry)) n at) (pos .0) (now (out .entry)) (now (out .exit)) r ⌝ }
+    requires { ⌜ Room (paramsAt (termsOf terms (now words) (now index)) (now b) n at) (pos .0) (now out) ⌝ }
+    ensures { λ r. ⌜ Put (paramsAt (termsOf terms (now (words .entry)) (now (index .entry))) (now (b .entry)) n at) (pos .0) (now (out .entry)) (now (out .exit)) r ⌝ }
 {
     let mut left = n;
     let mut p = at;
     let mut w = pos;
     while 0 < left {
-        let e = write_param_at(out, w, b, terms, p);
+        let e = write_param_at(out, w, b, words, index, terms, p);
         p = e.next;
         w = e.pos;
         left -= 1;
@@ -123,13 +155,20 @@ fn write_kind_u8(out: &mut [u8], pos: BytePosition, kind: u8, v: u8, next: usize
 }
 
 // A string behind its kind.
-fn write_push_string(out: &mut [u8], pos: BytePosition, b: &[u8], s: Span, next: usize) -> Ends
-    requires { ⌜ (after s ≤ length (now b)) × Room (piece (0 ∷ zeroEnded (spanOf (now b) s)) next) (pos .0) (now out) ⌝ }
-    ensures { λ r. ⌜ Put (piece (0 ∷ zeroEnded (spanOf (now (b .entry)) s)) next) (pos .0) (now (out .entry)) (now (out .exit)) r ⌝ }
+fn write_push_string<'a>(
+    out: &mut [u8],
+    pos: BytePosition,
+    b: &'a [u8],
+    words: &'a [u8],
+    s: Span,
+    next: usize,
+) -> Ends
+    requires { ⌜ Held (now b) (now words) s × Room (piece (0 ∷ zeroEnded (spanOf (now b) (now words) s)) next) (pos .0) (now out) ⌝ }
+    ensures { λ r. ⌜ Put (piece (0 ∷ zeroEnded (spanOf (now (b .entry)) (now (words .entry)) s)) next) (pos .0) (now (out .entry)) (now (out .exit)) r ⌝ }
 {
     write_u8(out, pos.0, 0);
     let w = pos.0 + OpCode::PUSH_KIND_LEN;
-    write_string(out, w, b, s.at, s.len);
+    write_text(out, w, b, words, s);
     Ends {
         next,
         pos: BytePosition(w + OpCode::string_len(s.len)),
@@ -179,14 +218,22 @@ fn write_push_constant(out: &mut [u8], pos: BytePosition, n: usize, next: usize)
 }
 
 // The push value at a place.
-fn write_push_value(out: &mut [u8], pos: BytePosition, b: &[u8], terms: Terms, at: usize) -> Ends
-    requires { ⌜ Room (valueAt (termsOf terms) (now b) at) (pos .0) (now out) ⌝ }
-    ensures { λ r. ⌜ Put (valueAt (termsOf terms) (now (b .entry)) at) (pos .0) (now (out .entry)) (now (out .exit)) r ⌝ }
+fn write_push_value<'a>(
+    out: &mut [u8],
+    pos: BytePosition,
+    b: &'a [u8],
+    words: &'a [u8],
+    index: &[u32],
+    terms: Terms,
+    at: usize,
+) -> Ends
+    requires { ⌜ Room (valueAt (termsOf terms (now words) (now index)) (now b) at) (pos .0) (now out) ⌝ }
+    ensures { λ r. ⌜ Put (valueAt (termsOf terms (now (words .entry)) (now (index .entry))) (now (b .entry)) at) (pos .0) (now (out .entry)) (now (out .exit)) r ⌝ }
 {
-    let v = push_value_at(b, at);
+    let v = push_value_at(b, words, index, terms, at);
     let value = v.value;
     match value {
-        PushValue::String(s) => write_push_string(out, pos, b, s, v.next),
+        PushValue::String(s) => write_push_string(out, pos, b, words, s, v.next),
         PushValue::Null => write_byte(out, pos, 2, v.next),
         PushValue::Undefined => write_byte(out, pos, 3, v.next),
         PushValue::Register(r) => write_kind_u8(out, pos, 4, r, v.next),
@@ -198,22 +245,24 @@ fn write_push_value(out: &mut [u8], pos: BytePosition, b: &[u8], terms: Terms, a
 }
 
 // n push values.
-pub fn write_push_values(
+pub fn write_push_values<'a>(
     out: &mut [u8],
     pos: BytePosition,
-    b: &[u8],
+    b: &'a [u8],
+    words: &'a [u8],
+    index: &[u32],
     terms: Terms,
     n: usize,
     at: usize,
 ) -> Ends
-    requires { ⌜ Room (valuesAt (termsOf terms) (now b) n at) (pos .0) (now out) ⌝ }
-    ensures { λ r. ⌜ Put (valuesAt (termsOf terms) (now (b .entry)) n at) (pos .0) (now (out .entry)) (now (out .exit)) r ⌝ }
+    requires { ⌜ Room (valuesAt (termsOf terms (now words) (now index)) (now b) n at) (pos .0) (now out) ⌝ }
+    ensures { λ r. ⌜ Put (valuesAt (termsOf terms (now (words .entry)) (now (index .entry))) (now (b .entry)) n at) (pos .0) (now (out .entry)) (now (out .exit)) r ⌝ }
 {
     let mut left = n;
     let mut p = at;
     let mut w = pos;
     while 0 < left {
-        let e = write_push_value(out, w, b, terms, p);
+        let e = write_push_value(out, w, b, words, index, terms, p);
         p = e.next;
         w = e.pos;
         left -= 1;

@@ -11,11 +11,13 @@ use Rattle.layout.specs.Tree.{Actions}
 use Rattle.layout.specs.Read.{Terms, deepest}
 use Rattle.layout.specs.Write.{bodySize, blockBytes, blockSize}
 use Rattle.layout.specs.Lengths.{length-block}
-use Rattle.layout.specs.Pack.{spelling, blockIn, output}
+use Rattle.layout.specs.Pack.{blockIn, output}
 use Rattle.layout.specs.Order.{no-room, has-room}
 use Rattle.laws.specs.Fits.{Bytes}
-use Rattle.laws.specs.ReadFits.{good-got, main-good}
-use Rattle.laws.specs.Packed.{ReadsMain, spells, same-tree}
+use Rattle.laws.specs.ReadFits.{good-got}
+use Rattle.laws.specs.Books.{WordsShort}
+use Rattle.laws.specs.Shares.{main-most}
+use Rattle.laws.specs.Packed.{ReadsMain, same-tree}
 use Rattle.positions.specs.declared.BytePosition.{BytePosition}
 use Rattle.stores.proofs.Stores.{filled}
 use Rattle.write.specs.Bodies.{MainWritable, WroteBlock}
@@ -40,11 +42,9 @@ answered-by {terms} {answer} {b} {old} {new} {r} t h a =
 
 -- ---- a main body that reads whole
 
--- It is written in at most three bytes for each of its own, less twelve.
-tree-small : (terms : Terms) (b : List ℕ) (t : Actions) → Bytes b → ReadsMain terms b t → bodySize t + 12 ≤ 3 * length b
-tree-small terms b t small r =
-    let g = (good-got (r .read) (r .next) (main-good terms b small spelling (Unit {0}) (spells b small terms) deepest) (r .is-read)) .0 in
-    subst (λ (x : Actions). bodySize x + 12 ≤ 3 * length b) (r .is-tree) (g .1 tt)
+-- What it is written in, for each of its own bytes: a word of the book may stand for four.
+tree-small : (terms : Terms) (b : List ℕ) (t : Actions) → Bytes b → WordsShort terms → ReadsMain terms b t → bodySize t ≤ 196608 * length b
+tree-small terms b t small short r = subst (λ (x : Actions). bodySize x ≤ 196608 * length b) (r .is-tree) (good-got (r .read) (r .next) (main-most terms b small short deepest) (r .is-read) .0)
 
 module _ (terms : Terms) (b tab : List ℕ) (end : BytePosition) (m : MainNear terms b end tab) where
   abbrev t : Actions
@@ -59,8 +59,8 @@ module _ (terms : Terms) (b tab : List ℕ) (end : BytePosition) (m : MainNear t
   block-long = len-is ∙ sym (length-block t)
 
   -- It is short of every limit.
-  pub len-small : end .0 + 1 ≤ 3145728
-  len-small = omega (arith, m .measured .is-end, m .measured .limited, tree-small terms b t (m .measured .bytes) (m .measured .reads))
+  pub len-small : WordsShort terms → end .0 + 1 ≤ 206158430209
+  len-small short = omega (arith, m .measured .is-end, m .measured .limited, tree-small terms b t (m .measured .bytes) short (m .measured .reads))
 
   module _ (o : List ℕ) where
     -- An output that is shorter is left as it was.
@@ -74,8 +74,8 @@ module _ (terms : Terms) (b tab : List ℕ) (end : BytePosition) (m : MainNear t
       pub front-long : length (take (end .0 + 1) o) ≡ end .0 + 1
       front-long = simp length-take (omega arith)
 
-      pub near-writable : MainWritable terms b tab (take (end .0 + 1) o)
-      near-writable =
+      pub near-writable : WordsShort terms → MainWritable terms b tab (take (end .0 + 1) o)
+      near-writable short =
           let j = m .measured in
           record {
             bytes = j .bytes;
@@ -85,7 +85,7 @@ module _ (terms : Terms) (b tab : List ℕ) (end : BytePosition) (m : MainNear t
             slots = j .slots;
             is-near = m .is-near;
             room = omega (arith, front-long, len-is);
-            sums = omega (arith, front-long, len-small);
+            sums = omega (arith, front-long, len-small short);
             places = omega (arith, j .limited);
           }
 

@@ -10,14 +10,22 @@ use write::write_main;
 
 // A main body in which no branch goes too far, and whose actions end at position `end`: 11 or 0. The writer is lent the front of
 // the output that the block fills, its End with it, and nothing past it.
-pub fn pack_near(b: &[u8], terms: Terms, end: BytePosition, tab: &[usize], out: &mut [u8]) -> Answer
-    requires { ⌜ MainNear (termsOf terms) (now b) end (now tab) ⌝ }
-    ensures { λ r. ⌜ MainAnswered (termsOf terms) blockIn (now (b .entry)) (now (out .entry)) r (now (out .exit)) ⌝ }
+pub fn pack_near<'a>(
+    b: &'a [u8],
+    words: &'a [u8],
+    index: &[u32],
+    terms: Terms,
+    end: BytePosition,
+    tab: &[usize],
+    out: &mut [u8],
+) -> Answer
+    requires { ⌜ MainNear (termsOf terms (now words) (now index)) (now b) end (now tab) ⌝ }
+    ensures { λ r. ⌜ MainAnswered (termsOf terms (now (words .entry)) (now (index .entry))) blockIn (now (b .entry)) (now (out .entry)) r (now (out .exit)) ⌝ }
 {
     let len = end.0 + OpCode::SMALL_LEN;
     if out.len() < len {
         return Answer::NoRoom(len);
     }
-    let reached = write_main(b, terms, tab, &mut out[..len]);
+    let reached = write_main(b, words, index, terms, tab, &mut out[..len]);
     Answer::Done(reached.0)
 }

@@ -20,9 +20,10 @@ use Rattle.layout.specs.Write.{size, sizes, bodySize, Position, position, moved
 use Rattle.layout.specs.Judge.{Mode, orElse, judgedIn, firstRefused, badBy}
 use Rattle.layout.specs.Lengths.{total}
 use Rattle.layout.specs.Pack.{spelling}
-use Rattle.laws.specs.ReadFits.{good-got, good-behind, action-good, body-good}
+use Rattle.laws.specs.ReadFits.{good-got}
+use Rattle.laws.specs.Books.{WordsShort}
+use Rattle.laws.specs.Shares.{action-most, body-most}
 use Rattle.laws.specs.Begun.{begins-got, body-begins, owner-begins}
-use Rattle.laws.specs.Packed.{spells}
 use Rattle.labels.specs.Table.{tables, recordIn}
 use Rattle.positions.specs.declared.ActionNumber.{ActionNumber}
 use Rattle.positions.specs.declared.BytePosition.{BytePosition}
@@ -48,17 +49,17 @@ no-reading e g =
     let z : _≡_ {A = ℕ} 0 1 = cc in
     absurd (omega arith)
 
--- ---- every byte read is written in at most 65,536
+-- ---- every byte read is written in at most 196,608
 
-pub action-onward : (terms : Terms) (b : List ℕ) (d p : ℕ) (w x : BytePosition) (a : ActionOf Text ℕ) (q : Place) → Roomy b p w → readAction terms b (behind 1 (readBody terms b d)) (placed p) ≡ got a q → x .0 ≡ w .0 + actionSize a → Roomy b (q .at) x
-action-onward terms b d p w x a q r e f =
-    let y = good-got a q (action-good terms b (r .bytes) spelling (Unit {0}) (spells b (r .bytes) terms) (behind 1 (readBody terms b d)) (λ q h. good-behind 1 (body-good terms b (r .bytes) spelling (Unit {0}) (spells b (r .bytes) terms) d q h)) (placed p) (r .inside)) e in
-    record { bytes = r .bytes; inside = y .1; room = omega (arith, y .0 .1 tt, y .0 .2, y .1, f, r .room, r .inside) }
+pub action-onward : (terms : Terms) → WordsShort terms → (b : List ℕ) (d p : ℕ) (w x : BytePosition) (a : ActionOf Text ℕ) (q : Place) → Roomy b p w → readAction terms b (behind 1 (readBody terms b d)) (placed p) ≡ got a q → x .0 ≡ w .0 + actionSize a → Roomy b (q .at) x
+action-onward terms short b d p w x a q r e f =
+    let y = good-got a q (action-most terms b (r .bytes) short d (placed p) (r .inside)) e in
+    record { bytes = r .bytes; inside = y .1; room = omega (arith, y .0 .0, y .0 .1, y .1, f, r .room, r .inside) }
 
-pub body-onward : (terms : Terms) (b : List ℕ) (d p : ℕ) (w x : BytePosition) (a : ActionsOf Text ℕ) (q : Place) → Roomy b p w → readBody terms b d (placed p) ≡ got a q → x .0 ≡ w .0 + bodyLength a → Roomy b (q .at) x
-body-onward terms b d p w x a q r e f =
-    let y = good-got a q (body-good terms b (r .bytes) spelling (Unit {0}) (spells b (r .bytes) terms) d (placed p) (r .inside)) e in
-    record { bytes = r .bytes; inside = y .1; room = omega (arith, y .0 .1 tt, y .0 .2, y .1, f, r .room, r .inside) }
+pub body-onward : (terms : Terms) → WordsShort terms → (b : List ℕ) (d p : ℕ) (w x : BytePosition) (a : ActionsOf Text ℕ) (q : Place) → Roomy b p w → readBody terms b d (placed p) ≡ got a q → x .0 ≡ w .0 + bodyLength a → Roomy b (q .at) x
+body-onward terms short b d p w x a q r e f =
+    let y = good-got a q (body-most terms b (r .bytes) short d (placed p) (r .inside)) e in
+    record { bytes = r .bytes; inside = y .1; room = omega (arith, y .0 .0, y .0 .1, y .1, f, r .room, r .inside) }
 
 -- ---- and holds at most one action
 
@@ -147,8 +148,8 @@ module _ (terms : Terms) (b : List ℕ) (d : ℕ) where
   abbrev pub One : Reader (ActionOf Text ℕ)
   One = readAction terms b (behind 1 (readBody terms b d))
 
-  abbrev pub Acting : (home : BytePosition) (mode : Mode) (tab homes : List ℕ) → (Judged → Type 0) → ℕ → ℕ → BytePosition → ActionNumber → Type 0
-  Acting home mode tab homes = Looping terms One actionSize count actionTrace b home mode tab homes (action-onward terms b d) (action-passes terms b d)
+  abbrev pub Acting : WordsShort terms → (home : BytePosition) (mode : Mode) (tab homes : List ℕ) → (Judged → Type 0) → ℕ → ℕ → BytePosition → ActionNumber → Type 0
+  Acting short home mode tab homes = Looping terms One actionSize count actionTrace b home mode tab homes (action-onward terms short b d) (action-passes terms b d)
 
   list-each : (es : List Entry) (pos : Position) (x : Read (ActionListOf Text ℕ)) (y : Read (List (ActionOf Text ℕ))) → uncounted x ≡ uncounted (chain y (λ xs q. got (listOf xs) q))
       → measured bodyLength bodyCount bodyEvents pos (chain x (λ xs r. got (body es xs) r)) ≡ measured (total actionSize) (total count) (inEach actionSize count actionTrace) pos y
@@ -225,9 +226,9 @@ module _ (terms : Terms) (b : List ℕ) (d at : ℕ) (pos : BytePosition) (numbe
   pub front-inside : at + 4 + 4 * u16At b at ≤ length b
   front-inside = opened .inside
 
-  pub body-start : (home : BytePosition) (n front many p : ℕ) → n ≡ u16At b at → front ≡ at + 2 + 4 * n → many ≡ u16At b front → p ≡ front + 2
-      → Acting terms b (d - 1) home mode tab homes (λ r. Judging mode tab homes (measured bodyLength bodyCount bodyEvents (standing pos home number) (readBody terms b d (placed at))) r) many p pos number
-  body-start home n front many p e f g h =
+  pub body-start : (short : WordsShort terms) (home : BytePosition) (n front many p : ℕ) → n ≡ u16At b at → front ≡ at + 2 + 4 * n → many ≡ u16At b front → p ≡ front + 2
+      → Acting terms b (d - 1) short home mode tab homes (λ r. Judging mode tab homes (measured bodyLength bodyCount bodyEvents (standing pos home number) (readBody terms b d (placed at))) r) many p pos number
+  body-start short home n front many p e f g h =
       let k : front ≡ at + 2 + 4 * u16At b at = omega (arith, e, f) in
       let c : u16At b (at + 2 + 4 * u16At b at) ≡ many = sym (g ∙ ap (u16At b) k) in
       let m : at + 2 + 4 * u16At b at + 2 ≡ p = omega (arith, h, k) in
@@ -274,12 +275,12 @@ turn-as one (suc n) p = go (one p) (λ q. turn-as one n q)
     go (bad f q) h = refl
 
 module _ (terms : Terms) (b : List ℕ) (d : ℕ) where
-  abbrev pub Inner : (home : BytePosition) (mode : Mode) (tab homes : List ℕ) → (Judged → Type 0) → ℕ → ℕ → BytePosition → ActionNumber → Type 0
-  Inner home mode tab homes = Looping terms (readBody terms b d) bodyLength bodyCount bodyEvents b home mode tab homes (body-onward terms b d) (body-passes terms b d)
+  abbrev pub Inner : WordsShort terms → (home : BytePosition) (mode : Mode) (tab homes : List ℕ) → (Judged → Type 0) → ℕ → ℕ → BytePosition → ActionNumber → Type 0
+  Inner short home mode tab homes = Looping terms (readBody terms b d) bodyLength bodyCount bodyEvents b home mode tab homes (body-onward terms short b d) (body-passes terms b d)
 
-  pub bodies-start : (n at : ℕ) (pos home : BytePosition) (number : ActionNumber) (mode : Mode) (tab homes : List ℕ) → Judgeable terms (inTurn (readBody terms b d) n (placed at)) b at pos (number .0) mode tab homes
-      → Inner home mode tab homes (λ r. Judging mode tab homes (measured (total bodyLength) (total bodyCount) inBodies (standing pos home number) (inTurn (readBody terms b d) n (placed at))) r) n at pos number
-  bodies-start n at pos home number mode tab homes j = record {
+  pub bodies-start : (short : WordsShort terms) (n at : ℕ) (pos home : BytePosition) (number : ActionNumber) (mode : Mode) (tab homes : List ℕ) → Judgeable terms (inTurn (readBody terms b d) n (placed at)) b at pos (number .0) mode tab homes
+      → Inner short home mode tab homes (λ r. Judging mode tab homes (measured (total bodyLength) (total bodyCount) inBodies (standing pos home number) (inTurn (readBody terms b d) n (placed at))) r) n at pos number
+  bodies-start short n at pos home number mode tab homes j = record {
     rest = λ r v. rw (same (inTurn (readBody terms b d) n (placed at)) ∙ alike) v;
     judgeable = record {
       roomy = j .roomy;

@@ -14,11 +14,12 @@ use Rattle.layout.specs.Read.{Terms, placed, got, readBody}
 use Rattle.layout.specs.Write.{bodySize, Position, blockStart, Event, labelAt, branchAt, payloadTooLong, bodyTooLong, traceBody, events, lookup}
 use Rattle.layout.specs.Judge.{distance, isNear, farUnless, judged, orElse, Mode, plainMode, refusalIf, barred, judgedIn, firstRefused, tooFar, badBy, badBranch}
 use Rattle.layout.specs.Answers.{Refusal}
-use Rattle.layout.specs.Pack.{spelling}
 use Rattle.laws.specs.Branches.{each-then, refused-same}
 use Rattle.laws.specs.Modes.{plain-if, plain-far}
-use Rattle.laws.specs.ReadFits.{good-got, body-good}
-use Rattle.laws.specs.Packed.{spells, same-tree}
+use Rattle.laws.specs.ReadFits.{good-got}
+use Rattle.laws.specs.Books.{WordsShort}
+use Rattle.laws.specs.Shares.{body-most}
+use Rattle.laws.specs.Packed.{same-tree}
 use Rattle.laws.specs.Within.{AllWithin, body-within, Recorded, lookup-within}
 use Rattle.labels.specs.Table.{slotOf, kept, homed, unnumbered, recordIn, TableHolds}
 use Rattle.positions.specs.declared.ActionNumber.{ActionNumber}
@@ -114,18 +115,18 @@ module _ (terms : Terms) (b : List ℕ) (end : BytePosition) (mode : Mode) (tab 
   unfolding events
   under = labels.body-under (terms .labelBound) (m .tree) blockStart (subst (UnderBody (terms .labelBound)) (m .reads .is-tree) (given (body-under terms b 16 (placed 0)) is-body))
 
-  -- it is written in at most three bytes for each byte read
-  end-small : end .0 ≤ 1099511627776
-  end-small =
-      let g = good-got (m .reads .read) (m .reads .next) (body-good terms b (m .bytes) spelling (Unit {0}) (spells b (m .bytes) terms) 16 (placed 0) (omega arith)) is-body in
-      omega (arith, m .is-end, ap bodySize (m .reads .is-tree), g .0 .1 tt, g .1, m .limited)
+  -- it is written in at most 196,608 bytes for each byte read
+  end-small : WordsShort terms → end .0 ≤ 1099511627776
+  end-small short =
+      let g = good-got (m .reads .read) (m .reads .next) (body-most terms b (m .bytes) short 16 (placed 0) (omega arith)) is-body in
+      omega (arith, m .is-end, ap bodySize (m .reads .is-tree), g .0 .0, g .1, m .limited)
 
-  pub main-asks : Judgeable terms (readBody terms b 16 (placed 0)) b 0 (record { 0 = 0 }) 0 mode tab homes
-  main-asks = record {
+  pub main-asks : WordsShort terms → Judgeable terms (readBody terms b 16 (placed 0)) b 0 (record { 0 = 0 }) 0 mode tab homes
+  main-asks short = record {
     roomy = record { bytes = m .bytes; inside = omega arith; room = omega (arith, m .limited) };
     before = omega arith;
     slots = m .slots;
-    small = slots-small (end .0) tab all end-small (m .holds) within;
+    small = slots-small (end .0) tab all (end-small short) (m .holds) within;
     lent = g .lent;
     value = m .reads .read;
     next = m .reads .next;

@@ -108,6 +108,8 @@ fn judge_branch(
 // A body with `depth` levels allowed, itself included. Its label entries are stepped over.
 fn judge_body(
     b: &[u8],
+    words: &[u8],
+    index: &[u32],
     terms: Terms,
     at: usize,
     depth: usize,
@@ -118,8 +120,8 @@ fn judge_body(
     tab: &[usize],
     homes: &[usize],
 ) -> Judged
-    requires { ⌜ Judgeable (termsOf terms) (readBody (termsOf terms) (now b) depth (placed at)) (now b) at pos (number .0) (modeOf mode) (now tab) (now homes) ⌝ }
-    ensures { λ r. ⌜ Judging (modeOf mode) (now (tab .entry)) (now (homes .entry)) (measured bodyLength bodyCount bodyEvents (standing pos home number) (readBody (termsOf terms) (now (b .entry)) depth (placed at))) r ⌝ }
+    requires { ⌜ Judgeable (termsOf terms (now words) (now index)) (readBody (termsOf terms (now words) (now index)) (now b) depth (placed at)) (now b) at pos (number .0) (modeOf mode) (now tab) (now homes) ⌝ }
+    ensures { λ r. ⌜ Judging (modeOf mode) (now (tab .entry)) (now (homes .entry)) (measured bodyLength bodyCount bodyEvents (standing pos home number) (readBody (termsOf terms (now (words .entry)) (now (index .entry))) (now (b .entry)) depth (placed at))) r ⌝ }
 {
     let front = at + 2 + 4 * u16_at(b, at);
     let mut left = u16_at(b, front);
@@ -127,7 +129,20 @@ fn judge_body(
     let mut w = pos;
     let mut action = number;
     while 0 < left {
-        match judge_action(b, terms, p, depth - 1, w, home, action, mode, tab, homes) {
+        match judge_action(
+            b,
+            words,
+            index,
+            terms,
+            p,
+            depth - 1,
+            w,
+            home,
+            action,
+            mode,
+            tab,
+            homes,
+        ) {
             Judged::Refused(bad, k) => {
                 return Judged::Refused(bad, k);
             }
@@ -145,6 +160,8 @@ fn judge_body(
 // The n bodies after a payload.
 fn judge_bodies(
     b: &[u8],
+    words: &[u8],
+    index: &[u32],
     terms: Terms,
     at: usize,
     depth: usize,
@@ -156,15 +173,28 @@ fn judge_bodies(
     tab: &[usize],
     homes: &[usize],
 ) -> Judged
-    requires { ⌜ Judgeable (termsOf terms) (inTurn (readBody (termsOf terms) (now b) depth) n (placed at)) (now b) at pos (number .0) (modeOf mode) (now tab) (now homes) ⌝ }
-    ensures { λ r. ⌜ Judging (modeOf mode) (now (tab .entry)) (now (homes .entry)) (measured (total bodyLength) (total bodyCount) inBodies (standing pos home number) (inTurn (readBody (termsOf terms) (now (b .entry)) depth) n (placed at))) r ⌝ }
+    requires { ⌜ Judgeable (termsOf terms (now words) (now index)) (inTurn (readBody (termsOf terms (now words) (now index)) (now b) depth) n (placed at)) (now b) at pos (number .0) (modeOf mode) (now tab) (now homes) ⌝ }
+    ensures { λ r. ⌜ Judging (modeOf mode) (now (tab .entry)) (now (homes .entry)) (measured (total bodyLength) (total bodyCount) inBodies (standing pos home number) (inTurn (readBody (termsOf terms (now (words .entry)) (now (index .entry))) (now (b .entry)) depth) n (placed at))) r ⌝ }
 {
     let mut left = n;
     let mut p = at;
     let mut w = pos;
     let mut action = number;
     while 0 < left {
-        match judge_body(b, terms, p, depth, w, home, action, mode, tab, homes) {
+        match judge_body(
+            b,
+            words,
+            index,
+            terms,
+            p,
+            depth,
+            w,
+            home,
+            action,
+            mode,
+            tab,
+            homes,
+        ) {
             Judged::Refused(bad, k) => {
                 return Judged::Refused(bad, k);
             }
@@ -183,6 +213,8 @@ fn judge_bodies(
 // length was known before.
 fn judge_action(
     b: &[u8],
+    words: &[u8],
+    index: &[u32],
     terms: Terms,
     at: usize,
     depth: usize,
@@ -193,8 +225,8 @@ fn judge_action(
     tab: &[usize],
     homes: &[usize],
 ) -> Judged
-    requires { ⌜ Judgeable (termsOf terms) (readAction (termsOf terms) (now b) (behind 1 (readBody (termsOf terms) (now b) depth)) (placed at)) (now b) at pos (number .0) (modeOf mode) (now tab) (now homes) ⌝ }
-    ensures { λ r. ⌜ Judging (modeOf mode) (now (tab .entry)) (now (homes .entry)) (measured actionSize count actionTrace (standing pos home number) (readAction (termsOf terms) (now (b .entry)) (behind 1 (readBody (termsOf terms) (now (b .entry)) depth)) (placed at))) r ⌝ }
+    requires { ⌜ Judgeable (termsOf terms (now words) (now index)) (readAction (termsOf terms (now words) (now index)) (now b) (behind 1 (readBody (termsOf terms (now words) (now index)) (now b) depth)) (placed at)) (now b) at pos (number .0) (modeOf mode) (now tab) (now homes) ⌝ }
+    ensures { λ r. ⌜ Judging (modeOf mode) (now (tab .entry)) (now (homes .entry)) (measured actionSize count actionTrace (standing pos home number) (readAction (termsOf terms (now (words .entry)) (now (index .entry))) (now (b .entry)) (behind 1 (readBody (termsOf terms (now (words .entry)) (now (index .entry))) (now (b .entry)) depth)) (placed at))) r ⌝ }
 {
     let op = b[at];
     let later = number.0 + 1;
@@ -205,7 +237,7 @@ fn judge_action(
         return Judged::Ends(next, BytePosition(after), k);
     }
     let mut over = [0; 3];
-    match scan_payload(b, terms, op, at, pos, number, &mut over) {
+    match scan_payload(b, words, index, terms, op, at, pos, number, &mut over) {
         Laid::Stops(_, p) => Judged::Ends(p, pos, number),
         Laid::Flat(p, w) => Judged::Ends(p, w, k),
         Laid::Branch(p, _, label) => {
@@ -213,8 +245,36 @@ fn judge_action(
             let at = BytePosition(operand);
             judge_branch(label, p, at, home, number, mode, tab, homes)
         }
-        Laid::Bodies(p, w, n) => judge_bodies(b, terms, p, depth, w, home, k, n, mode, tab, homes),
-        Laid::Function(p, w) => judge_bodies(b, terms, p, depth, w, w, k, 1, mode, tab, homes),
+        Laid::Bodies(p, w, n) => judge_bodies(
+            b,
+            words,
+            index,
+            terms,
+            p,
+            depth,
+            w,
+            home,
+            k,
+            n,
+            mode,
+            tab,
+            homes,
+        ),
+        Laid::Function(p, w) => judge_bodies(
+            b,
+            words,
+            index,
+            terms,
+            p,
+            depth,
+            w,
+            w,
+            k,
+            1,
+            mode,
+            tab,
+            homes,
+        ),
     }
 }
 
@@ -235,20 +295,24 @@ fn is_clear(mode: Mode, end: BytePosition) -> bool
 // A main body that is written as far as position `end`.
 pub fn judge_main(
     b: &[u8],
+    words: &[u8],
+    index: &[u32],
     terms: Terms,
     end: BytePosition,
     mode: Mode,
     tab: &[usize],
     homes: &[usize],
 ) -> Verdict
-    requires { ⌜ MainJudgeable (termsOf terms) (now b) end (modeOf mode) (now tab) (now homes) ⌝ }
-    ensures { λ r. ⌜ MainJudged (termsOf terms) (modeOf mode) (now (b .entry)) r ⌝ }
+    requires { ⌜ MainJudgeable (termsOf terms (now words) (now index)) (now b) end (modeOf mode) (now tab) (now homes) ⌝ }
+    ensures { λ r. ⌜ MainJudged (termsOf terms (now (words .entry)) (now (index .entry))) (modeOf mode) (now (b .entry)) r ⌝ }
 {
     if is_clear(mode, end) {
         return Verdict::Passed;
     }
     match judge_body(
         b,
+        words,
+        index,
         terms,
         0,
         16,

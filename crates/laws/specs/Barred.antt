@@ -74,25 +74,25 @@ TreeContained t = EachBranch (λ l s. AtHome (lookup l (events t)) s) (events t)
 
 module _ (m : Mode) where
   -- where both are so, every mode answers as plain mode
-  pub recorded-plain : (s : List ℕ) (t : Actions) (room : ℕ) → ReadsAs s t → TreeRecorded t → TreeContained t → pack m s room ≡ pack plainMode s room
-  recorded-plain s t room h r c =
-      unbarred-plain m s t room h
+  pub recorded-plain : (s book : List ℕ) (t : Actions) (room : ℕ) → ReadsAs s book t → TreeRecorded t → TreeContained t → pack m s book room ≡ pack plainMode s book room
+  recorded-plain s book t room h r c =
+      unbarred-plain m s book t room h
       (each-then _ _ (λ l s k. allowed-unbarred m (lookup l (events t)) s (record { is-recorded = λ e. k .0; is-home = λ e. k .1 })) (events t) (each-both _ _ (events t) r c))
 
   -- a mode that is not contained asks for the first alone
-  pub recorded-uncontained : m .contained ≡ false → (s : List ℕ) (t : Actions) (room : ℕ) → ReadsAs s t → TreeRecorded t → pack m s room ≡ pack plainMode s room
-  recorded-uncontained off s t room h r =
-      unbarred-plain m s t room h
+  pub recorded-uncontained : m .contained ≡ false → (s book : List ℕ) (t : Actions) (room : ℕ) → ReadsAs s book t → TreeRecorded t → pack m s book room ≡ pack plainMode s book room
+  recorded-uncontained off s book t room h r =
+      unbarred-plain m s book t room h
       (each-then _ _ (λ l s k. allowed-unbarred m (lookup l (events t)) s (record { is-recorded = λ e. k; is-home = λ e. absurd (false≢true (sym off ∙ e)) })) (events t) r)
 
-  done-allowed : (s : List ℕ) (t : Actions) (room : ℕ) (q : List ℕ) → ReadsAs s t → pack m s room ≡ Done q
+  done-allowed : (s book : List ℕ) (t : Actions) (room : ℕ) (q : List ℕ) → ReadsAs s book t → pack m s book room ≡ Done q
       → EachBranch (λ l s. Allowed m (lookup l (events t)) s) (events t)
-  done-allowed s t room q h e = each-then _ _ (λ l s k. unbarred-allowed m (lookup l (events t)) s k) (events t) (done-unbarred m s t room q h e)
+  done-allowed s book t room q h e = each-then _ _ (λ l s k. unbarred-allowed m (lookup l (events t)) s k) (events t) (done-unbarred m s book t room q h e)
 
   -- "a branch whose label has no record stops the build": a strict Done has none
-  pub done-recorded : m .strict ≡ true → (s : List ℕ) (t : Actions) (room : ℕ) (q : List ℕ) → ReadsAs s t → pack m s room ≡ Done q → TreeRecorded t
-  done-recorded strict s t room q h e = each-then _ _ (λ l s k. k .is-recorded strict) (events t) (done-allowed s t room q h e)
+  pub done-recorded : m .strict ≡ true → (s book : List ℕ) (t : Actions) (room : ℕ) (q : List ℕ) → ReadsAs s book t → pack m s book room ≡ Done q → TreeRecorded t
+  done-recorded strict s book t room q h e = each-then _ _ (λ l s k. k .is-recorded strict) (events t) (done-allowed s book t room q h e)
 
   -- "refuses a branch whose final label record is in another function body": a contained Done has none
-  pub done-contained : m .contained ≡ true → (s : List ℕ) (t : Actions) (room : ℕ) (q : List ℕ) → ReadsAs s t → pack m s room ≡ Done q → TreeContained t
-  done-contained contained s t room q h e = each-then _ _ (λ l s k. k .is-home contained) (events t) (done-allowed s t room q h e)
+  pub done-contained : m .contained ≡ true → (s book : List ℕ) (t : Actions) (room : ℕ) (q : List ℕ) → ReadsAs s book t → pack m s book room ≡ Done q → TreeContained t
+  done-contained contained s book t room q h e = each-then _ _ (λ l s k. k .is-home contained) (events t) (done-allowed s book t room q h e)

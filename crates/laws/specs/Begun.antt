@@ -12,7 +12,7 @@ use Rattle.layout.specs.Answers.{Fault}
 use Rattle.layout.specs.OpCode.{OpCode, opcodeOf}
 use Rattle.layout.specs.PushKind.{PushKind, kindOf}
 use Rattle.layout.specs.Tree.{FlatOf, With, DefineFunction, DefineFunction2, Branch, CatchTargetOf, ActionOf, flat, branch, owner, Try, ActionListOf, empty, more, ActionsOf, body, noCatch, catch, noFinally, finally, count, counts, bodyCount, catchCount, finallyCount}
-use Rattle.layout.specs.Read.{Text, Terms, Place, placed, Stop, stop, Read, got, bad, Reader, chain, moreBegun, behind, ifWhole, ifWithin, tested, repeat, firstZero, ifNoZero, ifNothingLeft, readU8, readU16, readU32, readU64, readBytes, readFlag, readSpelling, readCounted, hasCatch, hasFinally, hasRegister, isShape, readString, readValueOf, readValueIf, readValue, readParam, readLabel, readEntries, readCatchTarget, readCatch, readFinally, readTry, readFields, readFieldsIf, readAction, readActions, readBodyWith, readBody, readMain}
+use Rattle.layout.specs.Read.{Text, Words, Terms, readPlain, readWord, readText, Place, placed, Stop, stop, Read, got, bad, Reader, chain, moreBegun, behind, ifWhole, ifWithin, tested, repeat, firstZero, ifNoZero, ifNothingLeft, readU8, readU16, readU32, readU64, readBytes, readFlag, readSpelling, readCounted, hasCatch, hasFinally, hasRegister, isShape, readString, readValueOf, readValueIf, readValue, readParam, readLabel, readEntries, readCatchTarget, readCatch, readFinally, readTry, readFields, readFieldsIf, readAction, readActions, readBodyWith, readBody, readMain}
 
 -- ---- fields
 
@@ -98,7 +98,15 @@ module _ (b : List ℕ) where
 module _ (k : Terms) (b : List ℕ) where
   pub string-fields : OfFields (readString k b)
   unfolding readString
-  string-fields p = fields-next (u16-fields b p) (λ n q. fields-next (spelling-fields b n q) (λ s o. fields-here _ o))
+  string-fields p = fields-next (u16-fields b p) (λ n q. go (k .words) (eqb n 65535) n q)
+    where
+      plainly : (n : ℕ) (q : Place) → Fields q (readPlain b n q)
+      plainly n q = unfold readPlain in fields-next (spelling-fields b n q) (λ s o. fields-here _ o)
+
+      go : (o : Option Words) (t : Bool) (n : ℕ) (q : Place) → Fields q (readText b o t n q)
+      go (some ws) true n q = unfold readText readWord in fields-next (tested-fields _ (readU16 b) (u16-fields b) q) (λ i o. fields-here _ o)
+      go (some ws) false n q = unfold readText in plainly n q
+      go none t n q = unfold readText in plainly n q
 
   valueOf-fields : (j : PushKind) → OfFields (readValueOf k b j)
   unfolding readValueOf

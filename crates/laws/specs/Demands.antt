@@ -16,14 +16,16 @@ use Rattle.layout.specs.Tree.{ActionOf, ActionListOf, ActionsOf, CatchOf, Final
 use Rattle.layout.specs.Payload.{ownerFields, catchName}
 use Rattle.layout.specs.Write.{bodySize, catchSize, finallySize, Position, blockStart, Event, moved, toBody, toTry, toCatch, toFinally, past, payloadTest, bodyTest, labelsAt, trace, traces, traceBody, traceCatch, traceFinally, events, lookup, distanceBits, branchBits, bodyBytes, blockBytes, blockSize}
 use Rattle.layout.specs.Judge.{distance, isNear, judged, tooFar, Mode}
-use Rattle.layout.specs.Cut.{Edition, Cut, main, uncut, sheetLimit, trailerDistance, trailerEdition, isMarked, cutIf, cutAt, cutIfTrailer, cutIfShort, cut}
-use Rattle.layout.specs.Pack.{packCut, pack, output, ReadsAs}
+use Rattle.layout.specs.Read.{Words, Terms, edition1, edition2}
+use Rattle.layout.specs.Cut.{Edition, First, Second, Third, Cut, main, uncut, sheetLimit, trailerDistance, trailerEdition, isMarked, cutIf, cutAt, cutIfTrailer, cutIfShort, cut}
+use Rattle.layout.specs.Book.{bookOf}
+use Rattle.layout.specs.Pack.{editionTerms, packCut, pack, output, ReadsAs}
 use Rattle.layout.specs.Lengths.{length-block}
 use Rattle.laws.specs.Meaning.{told, toldActions, toldBody, toldCatch, toldFinally, branchDistance, meaning}
 use Rattle.laws.specs.Fits.{Bytes}
 use Rattle.laws.specs.Nears.{near-both, near-of, bits-small, NoneFar, near-left, near-right, branch-near}
 use Rattle.laws.specs.RoundTrip.{same-told}
-use Rattle.laws.specs.Packed.{Written, Packed, is-packed, is-written, sheetDistance, is-main, tree-good, tree-fits}
+use Rattle.laws.specs.Packed.{Written, Packed, is-packed, is-written, sheetDistance, sheetEdition, IsMain, is-main, tree-good, tree-fits}
 
 -- ---- the sixteen bits of a near branch say its distance
 
@@ -165,30 +167,43 @@ body-same t t′ e = snoc-same (bodyBytes (branchBits t) t 0) (bodyBytes (branch
 
 -- Demand 3: two accepted sheets that give the same bytes hold the same actions, order, nesting and operands, floats by their
 -- bits, each branch with the same distance. Only label numbers, label entries, notes and the upper six bits of a GetUrl2
--- method may differ, and the mode and the edition
-pub same-meaning : (m m′ : Mode) (s s′ : List ℕ) (room room′ : ℕ) (q : List ℕ) (t t′ : Actions) → Bytes s → Bytes s′ → ReadsAs s t → ReadsAs s′ t′
-    → pack m s room ≡ Done q → pack m′ s′ room′ ≡ Done q → meaning t ≡ meaning t′
-same-meaning m m′ s s′ room room′ q t t′ small small′ h h′ e e′ =
-    let k : Written t room q = is-written m s room q t h e in
-    let k′ : Written t′ room′ q = is-written m′ s′ room′ q t′ h′ e′ in
+-- method may differ, and the mode, and "the edition, the book and a string's form"
+pub same-meaning : (m m′ : Mode) (s s′ book book′ : List ℕ) (room room′ : ℕ) (q : List ℕ) (t t′ : Actions) → Bytes s → Bytes s′ → Bytes book → Bytes book′
+    → ReadsAs s book t → ReadsAs s′ book′ t′ → pack m s book room ≡ Done q → pack m′ s′ book′ room′ ≡ Done q → meaning t ≡ meaning t′
+same-meaning m m′ s s′ book book′ room room′ q t t′ small small′ lent lent′ h h′ e e′ =
+    let k : Written t room q = is-written m s book room q t h e in
+    let k′ : Written t′ room′ q = is-written m′ s′ book′ room′ q t′ h′ e′ in
     meaning-told t (k .is-near)
     ∙ ap (mapBranches signed16) (same-told (branchBits t) (branchBits t′) (branch-small t) (branch-small t′) t t′
-    (tree-fits s t small h (k .is-short)) (tree-fits s′ t′ small′ h′ (k′ .is-short)) (body-same t t′ (k .is-block ∙ sym (k′ .is-block))))
+    (tree-fits s book t small lent h (k .is-short)) (tree-fits s′ book′ t′ small′ lent′ h′ (k′ .is-short)) (body-same t t′ (k .is-block ∙ sym (k′ .is-block))))
     ∙ sym (meaning-told t′ (k′ .is-near))
 
--- ---- the bound, in document 01's words: "A Done length is at most 3 x D - 11"
+-- ---- the bound, in document 01's words: "A Done length is at most 3 x D - 11"; it "holds for editions 1 and 2 only"
 
-pub length-done : (m : Mode) (s : List ℕ) (room : ℕ) (q : List ℕ) → Bytes s → pack m s room ≡ Done q → length q + 11 ≤ 3 * sheetDistance s
+-- the words of terms, if there are any
+abbrev wordsOf : Option Terms → Option Words
+wordsOf none = none
+wordsOf (some k) = k .words
+
+no-words : (i : Edition) (o : Option Words) (k : Terms) → (i ≡ Third → ⊥) → editionTerms i o ≡ some k → k .words ≡ none
+unfolding editionTerms edition1 edition2
+no-words First o k h e = ap (λ x. wordsOf x) (sym e)
+no-words Second o k h e = ap (λ x. wordsOf x) (sym e)
+no-words Third o k h e = absurd (h refl)
+
+pub length-done : (m : Mode) (s book : List ℕ) (room : ℕ) (q : List ℕ) → Bytes s → Bytes book → (sheetEdition s ≡ some Third → ⊥) → pack m s book room ≡ Done q
+    → length q + 11 ≤ 3 * sheetDistance s
 unfolding blockSize
-length-done m s room q small e =
-    let k : Packed s room q = is-packed m s room q e in
-    let h : ReadsAs s (k .tree) = k .reads in
+length-done m s book room q small lent early e =
+    let k : Packed s book room q = is-packed m s book room q e in
+    let h : ReadsAs s book (k .tree) = k .reads in
+    let i : IsMain s (h .edition) (h .start) (h .bytes) = is-main s (h .edition) (h .start) (h .bytes) (h .is-cut) in
     omega (
       arith,
       ap length (sym (k .written .is-block)),
       length-block (k .tree),
-      tree-good s (k .tree) small h .1,
-      is-main s (h .edition) (h .start) (h .bytes) (h .is-cut) .is-distance,
+      tree-good s book (k .tree) small lent h .1 (no-words (h .edition) (bookOf book) (h .terms) (λ z. early (i .is-edition ∙ ap some z)) (h .is-lent)),
+      i .is-distance,
     )
 
 -- ---- the note, in document 01's words: "the bytes of the note change nothing, so two sheets that differ only there, at equal
@@ -226,9 +241,9 @@ module _ (s s′ : List ℕ) (same-length : length s ≡ length s′) (same-rest
       shorts true = unfold cutIfShort in (trailers (leb 8 (length s)) ∙ ap (λ (n : ℕ). cutIfTrailer (leb 8 n) s′) same-length)
       shorts false = unfold cutIfShort in ap (λ (n : ℕ). uncut (SheetTooLong n)) same-length
 
-  pub same-note : (m : Mode) (room : ℕ) → pack m s room ≡ pack m s′ room
+  pub same-note : (m : Mode) (book : List ℕ) (room : ℕ) → pack m s book room ≡ pack m s′ book room
   unfolding pack
-  same-note m room = ap (λ (c : Cut). packCut m c room) same-cut
+  same-note m book room = ap (λ (c : Cut). packCut m c (bookOf book) room) same-cut
 
-  pub same-note-output : (m : Mode) (o : List ℕ) → output (pack m s (length o)) o ≡ output (pack m s′ (length o)) o
-  same-note-output m o = ap (λ (a : Answer (List ℕ)). output a o) (same-note m (length o))
+  pub same-note-output : (m : Mode) (book o : List ℕ) → output (pack m s book (length o)) o ≡ output (pack m s′ book (length o)) o
+  same-note-output m book o = ap (λ (a : Answer (List ℕ)). output a o) (same-note m book (length o))

@@ -10,6 +10,8 @@ pub mod Homes
 pub mod Within
 pub mod RoundTrip
 pub mod ReadFits
+pub mod Books
+pub mod Shares
 pub mod Packed
 pub mod Resolved
 pub mod Demands

@@ -9,12 +9,13 @@ use mathlib.Core.List.{List}
 use lib.Dec.{eqb}
 use Rattle.layout.specs.Answers.{Refusal, NeverRecorded, StrayBranch, Answer, Done, Refused}
 use Rattle.layout.specs.Tree.{Actions, ActionsOf}
-use Rattle.layout.specs.Read.{Text, Read, got, bad, deepest, readMain}
+use Rattle.layout.specs.Read.{Text, Words, Terms, Read, got, bad, deepest, readMain}
 use Rattle.layout.specs.Strings.{mapBody}
 use Rattle.layout.specs.Write.{Position, Event, lookup, events}
 use Rattle.layout.specs.Judge.{judged, orElse, tooLong, Mode, plainMode, refusalIf, barred, judgedIn, farBy, badBy, judge}
 use Rattle.layout.specs.Cut.{Cut, main, uncut, cut}
-use Rattle.layout.specs.Pack.{unless, blockIn, packTree, editionTerms, spelling, packRead, packCut, pack, ReadsAs}
+use Rattle.layout.specs.Book.{bookOf}
+use Rattle.layout.specs.Pack.{unless, blockIn, packTree, editionTerms, spelling, packRead, packBy, packCut, pack, ReadsAs}
 use Rattle.layout.specs.Order.{tree-next}
 use Rattle.laws.specs.Branches.{or-left, or-right, EachBranch, each-of, each-then, each-refused, refused-same, none-refused}
 
@@ -119,19 +120,24 @@ module _ (m m′ : Mode) where
     read-weaker start (got t p) room = tree-weaker (mapBody spelling t) room
     read-weaker start (bad f p) room = same
 
-    cut-weaker : (c : Cut) (room : ℕ) → AsWeaker m m′ (packCut m′ c room) (packCut m c room)
+    by-weaker : (o : Option Terms) (start : ℕ) (b : List ℕ) (room : ℕ) → AsWeaker m m′ (packBy m′ o start b room) (packBy m o start b room)
+    unfolding packBy
+    by-weaker (some k) start b room = read-weaker start (readMain k b deepest) room
+    by-weaker none start b room = same
+
+    cut-weaker : (c : Cut) (o : Option Words) (room : ℕ) → AsWeaker m m′ (packCut m′ c o room) (packCut m c o room)
     unfolding packCut
-    cut-weaker (main i start b) room = read-weaker start (readMain (editionTerms i) b deepest) room
-    cut-weaker (uncut r) room = same
+    cut-weaker (main i start b) o room = by-weaker (editionTerms i o) start b room
+    cut-weaker (uncut r) o room = same
 
     -- "usable with or without strict": a mode that asks for more refuses more, and answers the same otherwise
-    pub as-weaker : (s : List ℕ) (room : ℕ) → AsWeaker m m′ (pack m′ s room) (pack m s room)
+    pub as-weaker : (s book : List ℕ) (room : ℕ) → AsWeaker m m′ (pack m′ s book room) (pack m s book room)
     unfolding pack
-    as-weaker s room = cut-weaker (cut s) room
+    as-weaker s book room = cut-weaker (cut s) (bookOf book) room
 
     -- so a Done is the weaker mode's, with the same bytes
-    pub done-weaker : (s : List ℕ) (room : ℕ) (q : List ℕ) → pack m s room ≡ Done q → pack m′ s room ≡ Done q
-    done-weaker s room q e = go (as-weaker s room) e
+    pub done-weaker : (s book : List ℕ) (room : ℕ) (q : List ℕ) → pack m s book room ≡ Done q → pack m′ s book room ≡ Done q
+    done-weaker s book room q e = go (as-weaker s book room) e
       where
         go : {a b : Answer (List ℕ)} → AsWeaker m m′ a b → b ≡ Done q → a ≡ Done q
         go same k = k
@@ -172,8 +178,8 @@ module _ (m : Mode) where
   tree-unbarred t room h = rw (unbarred-far m (λ l. lookup l (events t)) (events t) h, plain-far (λ l. lookup l (events t)) (events t))
 
   -- where it bars none, it answers what plain mode answers
-  pub unbarred-plain : (s : List ℕ) (t : Actions) (room : ℕ) → ReadsAs s t → Unbarred m t → pack m s room ≡ pack plainMode s room
-  unbarred-plain s t room h u = tree-next m s room t h ∙ tree-unbarred t room u ∙ sym (tree-next plainMode s room t h)
+  pub unbarred-plain : (s book : List ℕ) (t : Actions) (room : ℕ) → ReadsAs s book t → Unbarred m t → pack m s book room ≡ pack plainMode s book room
+  unbarred-plain s book t room h u = tree-next m s book room t h ∙ tree-unbarred t room u ∙ sym (tree-next plainMode s book room t h)
 
   tree-done-unbarred : (t : Actions) (room : ℕ) (q : List ℕ) → packTree m t room ≡ Done q → Unbarred m t
   unfolding packTree unless judge judgedIn
@@ -190,8 +196,8 @@ module _ (m : Mode) where
           absurd (omega arith)
 
   -- and a Done has none barred
-  pub done-unbarred : (s : List ℕ) (t : Actions) (room : ℕ) (q : List ℕ) → ReadsAs s t → pack m s room ≡ Done q → Unbarred m t
-  done-unbarred s t room q h e = tree-done-unbarred t room q (sym (tree-next m s room t h) ∙ e)
+  pub done-unbarred : (s book : List ℕ) (t : Actions) (room : ℕ) (q : List ℕ) → ReadsAs s book t → pack m s book room ≡ Done q → Unbarred m t
+  done-unbarred s book t room q h e = tree-done-unbarred t room q (sym (tree-next m s book room t h) ∙ e)
 
 -- ---- plain mode
 
@@ -202,20 +208,20 @@ pub data AsPlain (plain : Answer (List ℕ)) : Answer (List ℕ) → Type 0 wher
 
 module _ (m : Mode) where
   -- "All else is as in plain mode, a Done's bytes too"
-  pub as-plain : (s : List ℕ) (room : ℕ) → AsPlain (pack plainMode s room) (pack m s room)
-  as-plain s room = go (as-weaker m plainMode (than-plain m) s room)
+  pub as-plain : (s book : List ℕ) (room : ℕ) → AsPlain (pack plainMode s book room) (pack m s book room)
+  as-plain s book room = go (as-weaker m plainMode (than-plain m) s book room)
     where
       go : {a b : Answer (List ℕ)} → AsWeaker m plainMode a b → AsPlain a b
       go same = same
       go (besides h) = besides (h .of-mode)
 
   -- "A contained Done gives plain bytes", and so does any other
-  pub done-plain : (s : List ℕ) (room : ℕ) (q : List ℕ) → pack m s room ≡ Done q → pack plainMode s room ≡ Done q
-  done-plain s room q e = done-weaker m plainMode (than-plain m) s room q e
+  pub done-plain : (s book : List ℕ) (room : ℕ) (q : List ℕ) → pack m s book room ≡ Done q → pack plainMode s book room ≡ Done q
+  done-plain s book room q e = done-weaker m plainMode (than-plain m) s book room q e
 
   -- and any refusal that is not of the mode's own is plain mode's
-  pub other-plain : (s : List ℕ) (room : ℕ) (r : Refusal) → (OfMode r → ⊥) → pack m s room ≡ Refused r → pack plainMode s room ≡ Refused r
-  other-plain s room r n e = go (as-plain s room) e
+  pub other-plain : (s book : List ℕ) (room : ℕ) (r : Refusal) → (OfMode r → ⊥) → pack m s book room ≡ Refused r → pack plainMode s book room ≡ Refused r
+  other-plain s book room r n e = go (as-plain s book room) e
     where
       go : {a b : Answer (List ℕ)} → AsPlain a b → b ≡ Refused r → a ≡ Refused r
       go same k = k

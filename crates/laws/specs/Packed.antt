@@ -12,17 +12,19 @@ use borrow.Author.Tests.{ltb-false, leb-true}
 use Rattle.layout.specs.Lists.{all-take, all-drop}
 use Rattle.layout.specs.Answers.{Refusal, ActionLenOverflow, BlockLenOverflow, Done, Refused}
 use Rattle.layout.specs.Tree.{Actions, ActionsOf, ActionIndex, firstAction, nextAction, Entry, Action, flat, branch, owner, Try, ActionList, empty, more, body, Catch, noCatch, catch, Finally, noFinally, finally}
-use Rattle.layout.specs.Read.{Text, plain, Terms, deepest, Place, Read, got, bad, readMain, readString}
+use Rattle.layout.specs.Read.{Text, Words, Terms, deepest, Place, Read, got, bad, readMain}
 use Rattle.layout.specs.Strings.{mapBody}
 use Rattle.layout.specs.Payload.{payload, ownerFields, catchName}
 use Rattle.layout.specs.Write.{bodySize, catchSize, finallySize, Position, Event, labelAt, branchAt, payloadTooLong, bodyTooLong, blockStart, toBody, toTry, toCatch, toFinally, past, eventIf, payloadTest, bodyTest, labelsAt, trace, traces, traceBody, traceCatch, traceFinally, events, lookup, blockBytes, blockSize}
 use Rattle.layout.specs.Judge.{tooLong, tooFar, orElse, Mode, badBranch, judge}
 use Rattle.layout.specs.Cut.{Edition, Cut, main, uncut, sheetLimit, trailerDistance, trailerEdition, isMarked, cutIf, cutAt, cutIfTrailer, cutIfShort, cut}
-use Rattle.layout.specs.Pack.{unless, ifRoom, packTree, editionTerms, spelling, packRead, packCut, pack, ReadsAs}
+use Rattle.layout.specs.Book.{bookOf}
+use Rattle.layout.specs.Pack.{unless, ifRoom, packTree, editionTerms, spelling, packRead, packBy, packCut, pack, ReadsAs}
 use Rattle.layout.specs.Order.{tree-next}
 use Rattle.laws.specs.Fits.{Bytes, Well, WellActions, WellBody, WellCatch, WellFinally, Fits, ActionsFit, BodyFits, CatchFits, FinallyFits}
 use Rattle.laws.specs.Modes.{none-far}
-use Rattle.laws.specs.ReadFits.{fine, good-then, good-got, u16-good, spelling-good, Spells, main-good}
+use Rattle.laws.specs.ReadFits.{good-got, main-good}
+use Rattle.laws.specs.Books.{words-clean, spells}
 
 -- ---- a tree that is written
 
@@ -70,35 +72,41 @@ same-tree k b t u h g = go (h .read) (h .next) (h .is-read) (h .is-tree) (g .rea
 -- ---- a sheet that is packed
 
 -- a Done sheet reads whole, whatever the mode
-pub record Packed (s : List ℕ) (room : ℕ) (q : List ℕ) : Type 0 where
+pub record Packed (s book : List ℕ) (room : ℕ) (q : List ℕ) : Type 0 where
   pub tree : Actions
-  pub reads : ReadsAs s tree
+  pub reads : ReadsAs s book tree
   pub written : Written tree room q
 
-module _ (m : Mode) (s : List ℕ) (room : ℕ) (q : List ℕ) where
-  read-packed : (i : Edition) (start : ℕ) (b : List ℕ) (r : Read (ActionsOf Text ℕ)) → cut s ≡ main i start b → readMain (editionTerms i) b deepest ≡ r
-      → packRead m start r room ≡ Done q → Packed s room q
+module _ (m : Mode) (s book : List ℕ) (room : ℕ) (q : List ℕ) where
+  read-packed : (i : Edition) (start : ℕ) (b : List ℕ) (k : Terms) (r : Read (ActionsOf Text ℕ)) → cut s ≡ main i start b → editionTerms i (bookOf book) ≡ some k
+      → readMain k b deepest ≡ r → packRead m start r room ≡ Done q → Packed s book room q
   unfolding packRead
-  read-packed i start b (got t p) c e k =
+  read-packed i start b k (got t p) c l e d =
       record {
         tree = mapBody spelling t;
-        reads = record { edition = i; start = start; bytes = b; read = t; next = p; is-cut = c; is-read = e; is-tree = refl };
-        written = tree-written m (mapBody spelling t) room q k;
+        reads = record { edition = i; start = start; bytes = b; terms = k; read = t; next = p; is-cut = c; is-lent = l; is-read = e; is-tree = refl };
+        written = tree-written m (mapBody spelling t) room q d;
       }
-  read-packed i start b (bad f p) c e k = refused-done k
+  read-packed i start b k (bad f p) c l e d = refused-done d
 
-  cut-packed : (c : Cut) → cut s ≡ c → packCut m c room ≡ Done q → Packed s room q
+  by-packed : (i : Edition) (start : ℕ) (b : List ℕ) (o : Option Terms) → cut s ≡ main i start b → editionTerms i (bookOf book) ≡ o → packBy m o start b room ≡ Done q
+      → Packed s book room q
+  unfolding packBy
+  by-packed i start b (some k) c l d = read-packed i start b k (readMain k b deepest) c l refl d
+  by-packed i start b none c l d = refused-done d
+
+  cut-packed : (c : Cut) → cut s ≡ c → packCut m c (bookOf book) room ≡ Done q → Packed s book room q
   unfolding packCut
-  cut-packed (main i start b) e k = read-packed i start b (readMain (editionTerms i) b deepest) e refl k
-  cut-packed (uncut r) e k = refused-done k
+  cut-packed (main i start b) e d = by-packed i start b (editionTerms i (bookOf book)) e refl d
+  cut-packed (uncut r) e d = refused-done d
 
-  pub is-packed : pack m s room ≡ Done q → Packed s room q
+  pub is-packed : pack m s book room ≡ Done q → Packed s book room q
   unfolding pack
   is-packed e = cut-packed (cut s) refl e
 
   -- whatever tree it is found to read as
-  pub is-written : (t : Actions) → ReadsAs s t → pack m s room ≡ Done q → Written t room q
-  is-written t h e = tree-written m t room q (sym (tree-next m s room t h) ∙ e)
+  pub is-written : (t : Actions) → ReadsAs s book t → pack m s book room ≡ Done q → Written t room q
+  is-written t h e = tree-written m t room q (sym (tree-next m s book room t h) ∙ e)
 
 -- ---- the main body
 
@@ -106,8 +114,13 @@ module _ (m : Mode) (s : List ℕ) (room : ℕ) (q : List ℕ) where
 unfoldable pub sheetDistance : List ℕ → ℕ
 sheetDistance s = trailerDistance (drop (length s - 8) s)
 
+-- its edition, by the trailer
+unfoldable pub sheetEdition : List ℕ → Option Edition
+sheetEdition s = trailerEdition (drop (length s - 8) s)
+
 -- the main body is the D bytes before the trailer
-pub record IsMain (s : List ℕ) (start : ℕ) (b : List ℕ) : Type 0 where
+pub record IsMain (s : List ℕ) (i : Edition) (start : ℕ) (b : List ℕ) : Type 0 where
+  pub is-edition : sheetEdition s ≡ some i
   pub is-distance : length b ≡ sheetDistance s
   pub is-long : length s ≡ start + length b + 8
   pub is-part : b ≡ take (length b) (drop start s)
@@ -123,32 +136,33 @@ and-right true y e = e
 and-right false y e = cc
 
 module _ (s : List ℕ) (i : Edition) (start : ℕ) (b : List ℕ) where
-  main-if : (z : Bool) (o : Option Edition) (n d : ℕ) → (z ≡ true → d ≤ n) → d ≡ sheetDistance s → length s ≡ n + 8 → length s ≤ sheetLimit → cutIf z o s n d ≡ main i start b → IsMain s start b
+  main-if : (z : Bool) (o : Option Edition) (n d : ℕ) → (z ≡ true → d ≤ n) → o ≡ sheetEdition s → d ≡ sheetDistance s → length s ≡ n + 8 → length s ≤ sheetLimit → cutIf z o s n d ≡ main i start b → IsMain s i start b
   unfolding cutIf
-  main-if true (some j) n d h g l m e =
+  main-if true (some j) n d h f g l m e =
+      let ei : j ≡ i = cc in
       let k : d ≤ n = h refl in
       let es : n - d ≡ start = cc in
       let eb : take d (drop (n - d) s) ≡ b = cc in
       let el : length b ≡ d = ap length (sym eb) ∙ simp (length-take, length-drop) (omega arith) in
-      record { is-distance = el ∙ g; is-long = omega arith; is-part = sym eb ∙ ap₂ (λ (i j : ℕ). take i (drop j s)) (sym el) es; is-limited = m }
-  main-if true none n d h g l m e = uncut-main e
-  main-if false o n d h g l m e = uncut-main e
+      record { is-edition = sym f ∙ ap some ei; is-distance = el ∙ g; is-long = omega arith; is-part = sym eb ∙ ap₂ (λ (i j : ℕ). take i (drop j s)) (sym el) es; is-limited = m }
+  main-if true none n d h f g l m e = uncut-main e
+  main-if false o n d h f g l m e = uncut-main e
 
-  main-trailer : (y : Bool) → leb 8 (length s) ≡ y → length s ≤ sheetLimit → cutIfTrailer y s ≡ main i start b → IsMain s start b
+  main-trailer : (y : Bool) → leb 8 (length s) ≡ y → length s ≤ sheetLimit → cutIfTrailer y s ≡ main i start b → IsMain s i start b
   unfolding cutIfTrailer cutAt
   main-trailer true h m e =
       let n : ℕ = length s - 8 in
       let d : ℕ = trailerDistance (drop n s) in
-      main-if (isMarked (drop n s) && leb d n) (trailerEdition (drop n s)) n d (λ z. leb-true d n (and-right (isMarked (drop n s)) (leb d n) z)) (unfold sheetDistance in refl)
+      main-if (isMarked (drop n s) && leb d n) (trailerEdition (drop n s)) n d (λ z. leb-true d n (and-right (isMarked (drop n s)) (leb d n) z)) (unfold sheetEdition in refl) (unfold sheetDistance in refl)
       (omega (arith, leb-true 8 (length s) h)) m e
   main-trailer false h m e = uncut-main e
 
-  main-short : (x : Bool) → leb (length s) sheetLimit ≡ x → cutIfShort x s ≡ main i start b → IsMain s start b
+  main-short : (x : Bool) → leb (length s) sheetLimit ≡ x → cutIfShort x s ≡ main i start b → IsMain s i start b
   unfolding cutIfShort
   main-short true h e = main-trailer (leb 8 (length s)) refl (leb-true (length s) sheetLimit h) e
   main-short false h e = uncut-main e
 
-  pub is-main : cut s ≡ main i start b → IsMain s start b
+  pub is-main : cut s ≡ main i start b → IsMain s i start b
   unfolding cut
   is-main e = main-short (leb (length s) sheetLimit) refl e
 
@@ -250,23 +264,16 @@ mutual
   fits-finally noFinally s h e = tt
   fits-finally (finally b) s h e = fits-body b s h e
 
--- ---- a string that was read has no zero byte, and is no longer than what was read for it
-
-pub spells : (b : List ℕ) → Bytes b → (k : Terms) → Spells k b spelling (Unit {0})
-unfolding readString spelling
-spells b small k p l =
-    good-then (u16-good b small p l) (λ n q h m. good-then (spelling-good b small n q m)
-    (λ s r g j. fine {a = plain s} {p = r} (g .0, (λ κ. omega (arith, g .1, h .1)), omega (arith, g .1, h .1)) j))
-
 -- ---- the tree of a sheet
 
-module _ (s : List ℕ) (t : Actions) (small : Bytes s) (h : ReadsAs s t) where
-  -- its fields fit, and it is written in at most three bytes for each byte of the main body, less twelve
-  pub tree-good : WellBody t × (bodySize t + 12 ≤ 3 * length (h .bytes))
+module _ (s book : List ℕ) (t : Actions) (small : Bytes s) (lent : Bytes book) (h : ReadsAs s book t) where
+  -- its fields fit; and where no word may be named, it is written in at most three bytes for each byte of the main body, less twelve
+  pub tree-good : WellBody t × (h .terms .words ≡ none → bodySize t + 12 ≤ 3 * length (h .bytes))
   tree-good =
       let b : Bytes (h .bytes) = main-bytes s (h .edition) (h .start) (h .bytes) small (h .is-cut) in
-      let g = (good-got (h .read) (h .next) (main-good (editionTerms (h .edition)) (h .bytes) b spelling (Unit {0}) (spells (h .bytes) b (editionTerms (h .edition))) deepest) (h .is-read)) .0 in
-      subst (λ (x : Actions). WellBody x × (bodySize x + 12 ≤ 3 * length (h .bytes))) (h .is-tree) (g .0, g .1 tt)
+      let w = words-clean (h .edition) book (h .terms) lent (h .is-lent) in
+      let g = (good-got (h .read) (h .next) (main-good (h .terms) (h .bytes) b spelling (h .terms .words ≡ none) (spells (h .bytes) b (h .terms) w) deepest) (h .is-read)) .0 in
+      subst (λ (x : Actions). WellBody x × (h .terms .words ≡ none → bodySize x + 12 ≤ 3 * length (h .bytes))) (h .is-tree) (g .0, g .1)
 
   -- and where nothing is too long, its lengths fit too
   pub tree-fits : tooLong (events t) ≡ none → BodyFits t

@@ -75,7 +75,7 @@ unfolding each
 length-each f [] = refl
 length-each f (x ∷ l) = ap suc (length-each f l)
 
-total-each : {A B : Type 0} (f : A → B) (v : B → ℕ) (l : List A) → total v (each f l) ≡ total (λ x. v (f x)) l
+pub total-each : {A B : Type 0} (f : A → B) (v : B → ℕ) (l : List A) → total v (each f l) ≡ total (λ x. v (f x)) l
 unfolding each total
 total-each f v [] = refl
 total-each f v (x ∷ l) = ap (λ n. v (f x) + n) (total-each f v l)
@@ -155,12 +155,12 @@ module _ (b : List ℕ) (small : Bytes b) where
   noZero-good none i p s h e k l = fine (clean 0 s h e, refl, refl) l
   noZero-good (some z) i p s h e k l = refused {s = stop (ahead z i)} (omega (arith, zero-within 0 s z e))
 
-  pub spelling-good : (n : ℕ) (p : Place) → p .at ≤ length b → Good (length b) (λ s q. Clean s × (q .at ≡ p .at + length s)) (readSpelling b n p)
+  pub spelling-good : (n : ℕ) (p : Place) → p .at ≤ length b → Good (length b) (λ s q. Clean s × (q .at ≡ p .at + length s) × (length s ≡ n)) (readSpelling b n p)
   unfolding readSpelling
   spelling-good n p l =
       good-then (bytes-good n p l)
       (λ s r g k. good-as (noZero-good (firstZero 0 s) p r s (g .2) refl (omega (arith, g .0, g .1)) k)
-      (λ t u j. (j .0, omega (arith, g .0, g .1, ap length (j .1), ap (λ (o : Place). o .at) (j .2)))))
+      (λ t u j. (j .0, omega (arith, g .0, g .1, ap length (j .1), ap (λ (o : Place). o .at) (j .2)), ap length (j .1) ∙ g .0)))
 
 -- ---- what stands in a body: w gives a string's bytes; and if K, they are no more than what was read for it
 

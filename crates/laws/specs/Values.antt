@@ -1,4 +1,5 @@
--- An i64 holds the value of every answer: its lengths, distances and places are bounded by the bytes of the input. Assumes nothing.
+-- An i64 holds the value of every answer: its lengths, distances and places are bounded by the bytes of the sheet, with the words of
+-- the book by their share. Assumes nothing.
 use mathlib.Core.Path.{_≡_, refl, sym, subst}
 use Prim.Native.Nat.{ℕ, suc, _+_, _-_, _*_, _≤_, _<_}
 use native.Mathlib.Omega.{arith}
@@ -11,19 +12,22 @@ use lib.Dec.{leb, ltb, eqb}
 use borrow.Author.Tests.{ltb-true, ltb-false}
 use Rattle.layout.specs.Answers.{Refusal, NeverRecorded, StrayBranch, refusalValue, Answer, value, lengthOf}
 use Rattle.layout.specs.Tree.{Actions, ActionsOf}
-use Rattle.layout.specs.Read.{Text, deepest, Read}
+use Rattle.layout.specs.Read.{Text, Terms, deepest, Read}
 use Rattle.layout.specs.Strings.{mapBody}
 use Rattle.layout.specs.Write.{bodySize, Position, blockStart, Event, labelAt, branchAt, payloadTooLong, bodyTooLong, events, lookup, blockBytes, blockSize}
 use Rattle.layout.specs.Judge.{tooLong, distance, isNear, farUnless, judged, orElse, Mode, refusalIf, barred, judgedIn, firstRefused, badBy, judge}
 use Rattle.layout.specs.Cut.{Edition, Cut, main, uncut, sheetLimit, trailerDistance, trailerEdition, isMarked, cutIf, cutAt, cutIfTrailer, cutIfShort, cut}
-use Rattle.layout.specs.Pack.{unless, ifRoom, packTree, editionTerms, spelling, packRead, packCut, pack}
+use Rattle.layout.specs.Book.{bookOf}
+use Rattle.layout.specs.Pack.{unless, ifRoom, packTree, editionTerms, spelling, packRead, packBy, packCut, pack}
 use Rattle.layout.specs.Step.{step}
 use Rattle.layout.specs.Stepping.{AtMost, made, unclean, step-most}
 use Rattle.layout.specs.Lengths.{length-block}
 use Rattle.layout.specs.Order.{IsI64, zeroUp, below}
-use Rattle.laws.specs.Fits.{Bytes, WellBody}
-use Rattle.laws.specs.ReadFits.{Good, fine, refused, main-good}
-use Rattle.laws.specs.Packed.{IsMain, is-main, main-bytes, spells}
+use Rattle.laws.specs.Fits.{Bytes}
+use Rattle.laws.specs.ReadFits.{Good, fine, refused}
+use Rattle.laws.specs.Books.{words-short}
+use Rattle.laws.specs.Shares.{main-most}
+use Rattle.laws.specs.Packed.{IsMain, is-main, main-bytes}
 use Rattle.laws.specs.Within.{AllWithin, body-within, Recorded, lookup-within}
 use Rattle.laws.specs.Demands.{sub-up, sub-down}
 
@@ -133,22 +137,26 @@ cut-held s h = short (leb (length s) sheetLimit)
 
 -- what is read of a main body of at most 1,048,576 bytes
 read-i64 : (m : Mode) (start n room : ℕ) {r : Read (ActionsOf Text ℕ)} → start + n ≤ sheetLimit
-    → Good n (λ x q. WellBody (mapBody spelling x) × (Unit {0} → bodySize (mapBody spelling x) + 12 ≤ 3 * n)) r → IsI64 (value lengthOf (packRead m start r room))
+    → Good n (λ x q. bodySize (mapBody spelling x) ≤ 196608 * n) r → IsI64 (value lengthOf (packRead m start r room))
 unfolding packRead value refusalValue
-read-i64 m start n room l (fine {a} {p} h k) = tree-i64 m (mapBody spelling a) room (omega (arith, h .1 tt))
+read-i64 m start n room l (fine {a} {p} h k) = tree-i64 m (mapBody spelling a) room (omega (arith, h))
 read-i64 m start n room l (refused {f} {s} k) = zeroUp {n = start + s .at} (omega arith)
 
 -- Every lent sheet is so short: a slice in Rust and an object in C have at most 2^63 - 1 bytes. Only answer 1 uses it, whose value is
 -- the sheet's length
-pub pack-i64 : (m : Mode) (s : List ℕ) (room : ℕ) → Bytes s → length s < 9223372036854775808 → IsI64 (value lengthOf (pack m s room))
+pub pack-i64 : (m : Mode) (s book : List ℕ) (room : ℕ) → Bytes s → Bytes book → length s < 9223372036854775808 → IsI64 (value lengthOf (pack m s book room))
 unfolding pack packCut
-pack-i64 m s room small h = go (cut s) refl (cut-held s h)
+pack-i64 m s book room small lent h = go (cut s) refl (cut-held s h)
   where
-    go : (c : Cut) → cut s ≡ c → CutHeld c → IsI64 (value lengthOf (packCut m c room))
-    go (main j start b) e k =
-        let i : IsMain s start b = is-main s j start b e in
+    by : (j : Edition) (start : ℕ) (b : List ℕ) (o : Option Terms) → cut s ≡ main j start b → editionTerms j (bookOf book) ≡ o → IsI64 (value lengthOf (packBy m o start b room))
+    by j start b (some k) e f =
+        let i : IsMain s j start b = is-main s j start b e in
         let bytes : Bytes b = main-bytes s j start b small e in
-        read-i64 m start (length b) room (omega (arith, i .is-long, i .is-limited)) (main-good (editionTerms j) b bytes spelling (Unit {0}) (spells b bytes (editionTerms j)) deepest)
+        unfold packBy in read-i64 m start (length b) room (omega (arith, i .is-long, i .is-limited)) (main-most k b bytes (words-short j book k lent f) deepest)
+    by j start b none e f = unfold packBy value refusalValue in zeroUp {n = 0} (omega arith)
+
+    go : (c : Cut) → cut s ≡ c → CutHeld c → IsI64 (value lengthOf (packCut m c (bookOf book) room))
+    go (main j start b) e k = by j start b (editionTerms j (bookOf book)) e refl
     go (uncut r) e k = unfold value in k
 
 -- ---- the stepping check, of a byte string that is as short

@@ -11,7 +11,7 @@ use Rattle.layout.specs.Numbers.{i64Bytes}
 pub data Fault : Type 0 where
   CutShort UnknownCode BadField TooDeep LeftOver : Fault
 
--- numbers 1 to 15, each with what its value is made of; and 3 to 10, 14 and 15 with "the number of the action being read or
+-- numbers 1 to 15 and 18, each with what its value is made of; and 3 to 10, 14 and 15 with "the number of the action being read or
 -- written, counted from 0 in sheet order through all bodies"
 pub data Refusal : Type 0 where
   SheetTooLong : (sheet-length : ℕ) → Refusal
@@ -25,6 +25,7 @@ pub data Refusal : Type 0 where
   Unclean : (place : ℕ) → Refusal
   NeverRecorded : (operand action : ℕ) → Refusal
   StrayBranch : (operand action : ℕ) → Refusal
+  BadBook : Refusal
 
 -- number 0 with what was made, or a refusal
 pub data Answer (A : Type 0) : Type 0 where
@@ -51,6 +52,7 @@ refusalNumber InputFull = 12
 refusalNumber (Unclean p) = 13
 refusalNumber (NeverRecorded p k) = 14
 refusalNumber (StrayBranch p k) = 15
+refusalNumber BadBook = 18
 
 -- the column "Value, and when"; only 10's can be negative
 unfoldable pub refusalValue : Refusal → ℤ
@@ -65,6 +67,7 @@ refusalValue InputFull = pos 65536
 refusalValue (Unclean p) = pos p
 refusalValue (NeverRecorded p k) = pos p
 refusalValue (StrayBranch p k) = pos p
+refusalValue BadBook = pos 0
 
 -- "Other answers give 0"
 unfoldable pub refusalAction : Refusal → ℕ
@@ -79,6 +82,7 @@ refusalAction InputFull = 0
 refusalAction (Unclean p) = 0
 refusalAction (NeverRecorded p k) = k
 refusalAction (StrayBranch p k) = k
+refusalAction BadBook = 0
 
 unfoldable pub number : {A : Type 0} → Answer A → ℕ
 number (Done a) = 0

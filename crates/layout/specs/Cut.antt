@@ -13,16 +13,18 @@ use Rattle.layout.specs.Answers.{Refusal, SheetTooLong, BadTrailer}
 abbrev pub sheetLimit : ℕ
 sheetLimit = 1048576
 
--- "u16 edition = 1"; "A sheet naming a number from 1,024 up carries edition 2 in its trailer"
+-- "u16 edition = 1"; "A sheet naming a number from 1,024 up carries edition 2 in its trailer"; in edition 3 strings may name the
+-- entries of a book
 pub data Edition : Type 0 where
-  First Second : Edition
+  First Second Third : Edition
 
 unfoldable pub editionNumber : Edition → ℕ
 editionNumber First = 1
 editionNumber Second = 2
+editionNumber Third = 3
 
 unfoldable pub editions : List Edition
-editions = First ∷ Second ∷ []
+editions = First ∷ Second ∷ Third ∷ []
 
 -- the edition with a number, if there is one
 unfoldable pub editionOf : ℕ → Option Edition

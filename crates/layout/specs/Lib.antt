@@ -10,6 +10,7 @@ pub mod Payload
 pub mod Write
 pub mod Judge
 pub mod Cut
+pub mod Book
 pub mod Pack
 pub mod Step
 pub mod StepSums

@@ -10,32 +10,46 @@ use lib.Dec.{ltb}
 use borrow.Author.Tests.{le-leb, lt-leb, lt-ltb, le-ltb}
 use Rattle.layout.specs.Lists.{pick}
 use Rattle.layout.specs.Numbers.{le16, le32, le64, bits64, i64Bytes, u64At}
-use Rattle.layout.specs.Answers.{Fault, Refusal, ReadingFault, NoRoom, Answer, Done, Refused, value, action, Told, valueBytes}
+use Rattle.layout.specs.Answers.{Fault, Refusal, ReadingFault, NoRoom, BadBook, Answer, Done, Refused, value, action, Told, valueBytes}
 use Rattle.layout.specs.Tree.{Actions}
-use Rattle.layout.specs.Read.{deepest, Stop, bad, readMain}
+use Rattle.layout.specs.Read.{Terms, deepest, Stop, bad, readMain}
 use Rattle.layout.specs.Write.{events, blockBytes, blockSize}
 use Rattle.layout.specs.Judge.{tooLong, orElse, Mode, badBranch, judge}
-use Rattle.layout.specs.Cut.{Edition, main, uncut, cut}
-use Rattle.layout.specs.Pack.{unless, ifRoom, blockIn, packTree, editionTerms, faultAction, packRead, packCut, pack, Outcome, ReadsAs}
+use Rattle.layout.specs.Cut.{Edition, Third, main, uncut, cut}
+use Rattle.layout.specs.Book.{bookOf}
+use Rattle.layout.specs.Pack.{unless, ifRoom, blockIn, packTree, editionTerms, faultAction, packRead, packBy, packCut, pack, Outcome, ReadsAs}
 
--- ---- 1, 2; then 3 to 7; then 8 and 9; then 10, 14 and 15; then 11
+-- ---- 1, 2; then 18; then 3 to 7; then 8 and 9; then 10, 14 and 15; then 11
 
--- 1 and 2 come first, whatever the room
-pub uncut-first : (m : Mode) (s : List ℕ) (room : ℕ) (r : Refusal) → cut s ≡ uncut r → pack m s room ≡ Refused r
+-- 1 and 2 come first, whatever the book and the room
+pub uncut-first : (m : Mode) (s book : List ℕ) (room : ℕ) (r : Refusal) → cut s ≡ uncut r → pack m s book room ≡ Refused r
 unfolding pack packCut
-uncut-first m s room r e = ap (λ c. packCut m c room) e
+uncut-first m s book room r e = ap (λ c. packCut m c (bookOf book) room) e
+
+-- "after 2 and only for edition 3, even if no string names the book"
+pub bad-book-next : (m : Mode) (s book : List ℕ) (room start : ℕ) (b : List ℕ) → cut s ≡ main Third start b → bookOf book ≡ none → pack m s book room ≡ Refused BadBook
+unfolding pack packCut packBy editionTerms
+bad-book-next m s book room start b c e = ap (λ x. packCut m x (bookOf book) room) c ∙ ap (λ o. packBy m (editionTerms Third o) start b room) e
+
+-- an edition with terms is answered by what is read by them
+pub read-next : (m : Mode) (s book : List ℕ) (room : ℕ) (i : Edition) (start : ℕ) (b : List ℕ) (k : Terms) → cut s ≡ main i start b → editionTerms i (bookOf book) ≡ some k
+    → pack m s book room ≡ packRead m start (readMain k b deepest) room
+unfolding pack packCut packBy
+read-next m s book room i start b k c h = ap (λ x. packCut m x (bookOf book) room) c ∙ ap (λ o. packBy m o start b room) h
 
 -- then what reading meets, whatever the room
-pub fault-next : (m : Mode) (s : List ℕ) (room : ℕ) (i : Edition) (start : ℕ) (b : List ℕ) (f : Fault) (p : Stop) → cut s ≡ main i start b
-    → readMain (editionTerms i) b deepest ≡ bad f p
-    → pack m s room ≡ Refused (ReadingFault f (start + p .at) (faultAction f (p .begun)))
-unfolding pack packCut packRead
-fault-next m s room i start b f p c e = ap (λ x. packCut m x room) c ∙ ap (λ x. packRead m start x room) e
+pub fault-next : (m : Mode) (s book : List ℕ) (room : ℕ) (i : Edition) (start : ℕ) (b : List ℕ) (k : Terms) (f : Fault) (p : Stop) → cut s ≡ main i start b
+    → editionTerms i (bookOf book) ≡ some k → readMain k b deepest ≡ bad f p
+    → pack m s book room ≡ Refused (ReadingFault f (start + p .at) (faultAction f (p .begun)))
+unfolding packRead
+fault-next m s book room i start b k f p c h e = read-next m s book room i start b k c h ∙ ap (λ x. packRead m start x room) e
 
 -- and a sheet that reads whole is answered by its tree alone
-pub tree-next : (m : Mode) (s : List ℕ) (room : ℕ) (t : Actions) → ReadsAs s t → pack m s room ≡ packTree m t room
-unfolding pack packCut packRead
-tree-next m s room t h = ap (λ x. packCut m x room) (h .is-cut) ∙ ap (λ x. packRead m (h .start) x room) (h .is-read) ∙ ap (λ x. packTree m x room) (h .is-tree)
+pub tree-next : (m : Mode) (s book : List ℕ) (room : ℕ) (t : Actions) → ReadsAs s book t → pack m s book room ≡ packTree m t room
+unfolding packRead
+tree-next m s book room t h =
+    read-next m s book room (h .edition) (h .start) (h .bytes) (h .terms) (h .is-cut) (h .is-lent)
+    ∙ ap (λ x. packRead m (h .start) x room) (h .is-read) ∙ ap (λ x. packTree m x room) (h .is-tree)
 
 module _ (m : Mode) (t : Actions) (room : ℕ) where
   -- 8 and 9 come before 10, 14, 15 and 11
@@ -71,7 +85,7 @@ pub same-told : {A : Type 0} {done : A → ℤ} {a : Answer A} {n n′ : ℕ} {v
 same-told h h′ = (h .is-number ∙ sym (h′ .is-number), h .is-value ∙ sym (h′ .is-value), h .is-action ∙ sym (h′ .is-action))
 
 -- of a call: number, value, action number and every byte of the output
-pub same-outcome : {m : Mode} {s o : List ℕ} {n n′ : ℕ} {v v′ : ℤ} {k k′ : ℕ} {after after′ : List ℕ} → Outcome m s o n v k after → Outcome m s o n′ v′ k′ after′
+pub same-outcome : {m : Mode} {s book o : List ℕ} {n n′ : ℕ} {v v′ : ℤ} {k k′ : ℕ} {after after′ : List ℕ} → Outcome m s book o n v k after → Outcome m s book o n′ v′ k′ after′
     → (n ≡ n′) × (v ≡ v′) × (k ≡ k′) × (after ≡ after′)
 same-outcome h h′ =
     let t = same-told (h .told) (h′ .told) in

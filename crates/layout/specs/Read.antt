@@ -14,21 +14,31 @@ use Rattle.layout.specs.Tree.{PushValueOf, String, Null, Undefined, Regi
 
 -- ---- readers
 
--- what a sheet says where a string is due: its bytes
+-- what a sheet says where a string is due: its bytes, or the number of an entry of the book, whose bytes are these
 pub data Text : Type 0 where
   plain : (bytes : List ℕ) → Text
+  inBook : (entry : ℕ) (bytes : List ℕ) → Text
 
--- what an edition allows: label numbers under a bound
+-- the entries of a word book, which are called words here: an entry elsewhere is a label's
+abbrev pub Words : Type 0
+Words = List (List ℕ)
+
+-- what a sheet is read by: a bound of its label numbers, and the words that its strings may name, if they may
 pub record Terms : Type 0 where
   pub labelBound : ℕ
+  pub words : Option Words
 
 -- "label numbers 0 to 1,023"
 unfoldable pub edition1 : Terms
-edition1 = record { labelBound = 1024 }
+edition1 = record { labelBound = 1024; words = none }
 
 -- "Raise label numbers to 4,095"
 unfoldable pub edition2 : Terms
-edition2 = record { labelBound = 4096 }
+edition2 = record { labelBound = 4096; words = none }
+
+-- "label bounds are those of edition 2"
+unfoldable pub edition3 : Words → Terms
+edition3 ws = record { labelBound = 4096; words = some ws }
 
 -- "the main body has depth 1 and the deepest body 16"
 abbrev pub deepest : ℕ
@@ -166,6 +176,24 @@ module _ (b : List ℕ) where
     s ← readBytes n
     ifNoZero p s (firstZero 0 s)
 
+  -- a string by its bytes, of which there are n
+  unfoldable pub readPlain : ℕ → Reader Text
+  readPlain n = do
+    s ← readSpelling n
+    give (plain s)
+
+  -- a string by the number of a word: "at or past the count is 5 at that number"
+  unfoldable pub readWord : Words → Reader Text
+  readWord ws = do
+    i ← tested (λ i. ltb i (length ws)) readU16
+    give (inBook i (getD ws i []))
+
+  -- what follows a string's length n, by the words that may be named: is the length 65,535?
+  unfoldable pub readText : Option Words → Bool → ℕ → Reader Text
+  readText (some ws) true n = readWord ws
+  readText (some ws) false n = readPlain n
+  readText none test n = readPlain n
+
   -- "u16 count", then as many
   unfoldable pub readCounted : {A : Type 0} → Reader A → Reader (List A)
   readCounted read = do
@@ -189,12 +217,12 @@ isShape shape = ltb shape 8 && (not (hasRegister shape) || hasCatch shape)
 -- ---- what stands in a body, by the terms of the sheet's edition
 
 module _ (terms : Terms) (b : List ℕ) where
-  -- "A string: u16 length, then that many bytes, none zero"
+  -- "A string: u16 length, then that many bytes, none zero"; where words may be named, "a string length of 65,535 is followed by a
+  -- u16 entry number in place of bytes"
   unfoldable pub readString : Reader Text
   readString = do
     n ← readU16 b
-    s ← readSpelling b n
-    give (plain s)
+    readText b (terms .words) (eqb n 65535) n
 
   -- a push value of a kind
   unfoldable pub readValueOf : PushKind → Reader (PushValueOf Text)

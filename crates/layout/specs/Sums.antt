@@ -1,5 +1,5 @@
 -- The sums worked by hand: P1 to P12, each sheet, without note, and the block that it packs to; and answers by the mode, by the
--- edition and by the action that they name. Assumes nothing.
+-- edition, by the action that they name and by the book. Assumes nothing.
 use mathlib.Core.Path.{_≡_, refl}
 use Prim.Native.Nat.{ℕ}
 use mathlib.Core.Bool.{true, false}
@@ -12,14 +12,15 @@ use Rattle.layout.specs.Numbers.{le16, le32, bit}
 use Rattle.layout.specs.Answers.{NeverRecorded, StrayBranch, JumpOffsetOverflow, Done, faultNumber, refusalNumber, refusalValue, refusalAction, number, value, action, lengthOf}
 use Rattle.layout.specs.OpCode.{smallByte, byte, smallOpCodes, opcodes, opcodeOf}
 use Rattle.layout.specs.PushKind.{kindByte, pushKinds, kindOf}
-use Rattle.layout.specs.Read.{edition1, edition2, ifWhole, ifWithin, tested, repeat, firstZero, ifNoZero, ifNothingLeft, readU8, readU16, readU32, readU64, readBytes, readFlag, readSpelling, readCounted, hasCatch, hasFinally, hasRegister, isShape, readString, readValueOf, readValueIf, readValue, readParam, readLabel, readEntries, readCatchTarget, readCatch, readFinally, readTry, readFields, readFieldsIf, readAction, readActions, readBodyWith, readBody, readMain}
+use Rattle.layout.specs.Read.{edition1, edition2, edition3, readPlain, readWord, readText, ifWhole, ifWithin, tested, repeat, firstZero, ifNoZero, ifNothingLeft, readU8, readU16, readU32, readU64, readBytes, readFlag, readSpelling, readCounted, hasCatch, hasFinally, hasRegister, isShape, readString, readValueOf, readValueIf, readValue, readParam, readLabel, readEntries, readCatchTarget, readCatch, readFinally, readTry, readFields, readFieldsIf, readAction, readActions, readBodyWith, readBody, readMain}
 use Rattle.layout.specs.Tree.{count}
 use Rattle.layout.specs.Strings.{mapValue, mapParam, mapFlat, mapOwner, mapTarget, mapAction}
 use Rattle.layout.specs.Payload.{zeroEnded, stringsBytes, constantBytes, doubleBytes, pushBytes, pushesBytes, opcode, gotoFrame2Bytes, getUrl2Bits, payload, ownerOpCode, paramsBytes, ownerFields, ownerPayload, branchOpCode, catchShape, finallyShape, catchName, tryPayload, headed, framed}
 use Rattle.layout.specs.Write.{Event, labelAt, branchAt, position, homeIn, moved, eventIf, payloadTest, bodyTest, labelsAt, events, later, recordIf, lookup, distanceBits, branchBits, blockBytes, blockSize, size, trace, bytes}
 use Rattle.layout.specs.Judge.{tooLong, distance, isNear, farUnless, judged, orElse, Mode, plainMode, refusalIf, barred, judgedIn, firstRefused, badBranch, judge}
 use Rattle.layout.specs.Cut.{editionNumber, editions, editionOf, trailerDistance, trailerEdition, isMarked, cutIf, cutAt, cutIfTrailer, cutIfShort, cut}
-use Rattle.layout.specs.Pack.{unless, ifRoom, packTree, editionTerms, spelling, faultAction, packRead, packCut, pack, output}
+use Rattle.layout.specs.Book.{emptyBook, readEntry, ifRead, wordsIn, bookDistance, bookCount, isBookMarked, bookIf, bookAt, bookIfTrailer, bookOf}
+use Rattle.layout.specs.Pack.{unless, ifRoom, packTree, editionTerms, spelling, faultAction, packRead, packBy, packCut, pack, output}
 
 -- a main body, and the block
 pub data Sum : Type 0 where
@@ -148,7 +149,7 @@ byEdition =
     ∷ dated 2 (0x00 ∷ 0x00 ∷ 0x01 ∷ 0x00 ∷ 0x99 ∷ 0x00 ∷ 0x10 ∷ []) 5 (pos 5) 0
     -- no such edition
     ∷ dated 0 (0x00 ∷ 0x00 ∷ 0x00 ∷ 0x00 ∷ []) 2 (pos 0) 0
-    ∷ dated 3 (0x00 ∷ 0x00 ∷ 0x00 ∷ 0x00 ∷ []) 2 (pos 0) 0
+    ∷ dated 4 (0x00 ∷ 0x00 ∷ 0x00 ∷ 0x00 ∷ []) 2 (pos 0) 0
     ∷ dated 256 (0x00 ∷ 0x00 ∷ 0x00 ∷ 0x00 ∷ []) 2 (pos 0) 0
     ∷ []
 
@@ -178,26 +179,90 @@ byAction =
     ∷ dated 1 (0x00 ∷ 0x00 ∷ 0x01 ∷ 0x00 ∷ 0x94 ∷ 0x00 ∷ 0x00 ∷ 0x01 ∷ 0x00 ∷ 0x17 ∷ 0x00 ∷ []) 7 (pos 10) 2
     ∷ []
 
+-- a book and a main body of edition 3, and the block
+pub data BookSum : Type 0 where
+  bookSum : (book main block : List ℕ) → BookSum
+
+unfoldable pub byWords : List BookSum
+byWords =
+    -- SetTarget of the second word
+    bookSum (0x02 ∷ 0x00 ∷ 0x61 ∷ 0x62 ∷ 0x01 ∷ 0x00 ∷ 0x63 ∷ 0x07 ∷ 0x00 ∷ 0x00 ∷ 0x00 ∷ 0x02 ∷ 0x00 ∷ 0x42 ∷ 0x31 ∷ []) (0x00 ∷ 0x00 ∷ 0x01 ∷ 0x00 ∷ 0x8B ∷ 0xFF ∷ 0xFF ∷ 0x01 ∷ 0x00 ∷ [])
+    (0x8B ∷ 0x02 ∷ 0x00 ∷ 0x63 ∷ 0x00 ∷ 0x00 ∷ [])
+    -- the same behind a note that looks like an entry
+    ∷ bookSum (0x01 ∷ 0x00 ∷ 0x78 ∷ 0x02 ∷ 0x00 ∷ 0x61 ∷ 0x62 ∷ 0x01 ∷ 0x00 ∷ 0x63 ∷ 0x07 ∷ 0x00 ∷ 0x00 ∷ 0x00 ∷ 0x02 ∷ 0x00 ∷ 0x42 ∷ 0x31 ∷ []) (0x00 ∷ 0x00 ∷ 0x01 ∷ 0x00 ∷ 0x8B ∷ 0xFF ∷ 0xFF ∷ 0x01 ∷ 0x00 ∷ [])
+    (0x8B ∷ 0x02 ∷ 0x00 ∷ 0x63 ∷ 0x00 ∷ 0x00 ∷ [])
+    -- Push of the first word and of a string by its bytes
+    ∷ bookSum (0x02 ∷ 0x00 ∷ 0x61 ∷ 0x62 ∷ 0x01 ∷ 0x00 ∷ 0x63 ∷ 0x07 ∷ 0x00 ∷ 0x00 ∷ 0x00 ∷ 0x02 ∷ 0x00 ∷ 0x42 ∷ 0x31 ∷ []) (0x00 ∷ 0x00 ∷ 0x01 ∷ 0x00 ∷ 0x96 ∷ 0x02 ∷ 0x00 ∷ 0x00 ∷ 0xFF ∷ 0xFF ∷ 0x00 ∷ 0x00 ∷ 0x00 ∷ 0x01 ∷ 0x00 ∷ 0x7A ∷ [])
+    (0x96 ∷ 0x07 ∷ 0x00 ∷ 0x00 ∷ 0x61 ∷ 0x62 ∷ 0x00 ∷ 0x00 ∷ 0x7A ∷ 0x00 ∷ 0x00 ∷ [])
+    ∷ []
+
+-- an edition number, a book and a main body, in plain mode and with the room of 64 bytes; the number and the value
+pub data Booked : Type 0 where
+  booked : (edition : ℕ) (book main : List ℕ) (number : ℕ) (value : ℤ) → Booked
+
+unfoldable pub byBook : List Booked
+byBook =
+    -- an entry number at the count: 5 at that number; one that is cut: 3 at its place
+    booked 3 (0x02 ∷ 0x00 ∷ 0x61 ∷ 0x62 ∷ 0x01 ∷ 0x00 ∷ 0x63 ∷ 0x07 ∷ 0x00 ∷ 0x00 ∷ 0x00 ∷ 0x02 ∷ 0x00 ∷ 0x42 ∷ 0x31 ∷ []) (0x00 ∷ 0x00 ∷ 0x01 ∷ 0x00 ∷ 0x8B ∷ 0xFF ∷ 0xFF ∷ 0x02 ∷ 0x00 ∷ []) 5 (pos 7)
+    ∷ booked 3 (0x02 ∷ 0x00 ∷ 0x61 ∷ 0x62 ∷ 0x01 ∷ 0x00 ∷ 0x63 ∷ 0x07 ∷ 0x00 ∷ 0x00 ∷ 0x00 ∷ 0x02 ∷ 0x00 ∷ 0x42 ∷ 0x31 ∷ []) (0x00 ∷ 0x00 ∷ 0x01 ∷ 0x00 ∷ 0x8B ∷ 0xFF ∷ 0xFF ∷ 0x01 ∷ []) 3 (pos 7)
+    -- the length 65,535 is cut, in edition 3 as in edition 2
+    ∷ booked 3 (0x02 ∷ 0x00 ∷ 0x61 ∷ 0x62 ∷ 0x01 ∷ 0x00 ∷ 0x63 ∷ 0x07 ∷ 0x00 ∷ 0x00 ∷ 0x00 ∷ 0x02 ∷ 0x00 ∷ 0x42 ∷ 0x31 ∷ []) (0x00 ∷ 0x00 ∷ 0x01 ∷ 0x00 ∷ 0x8B ∷ 0xFF ∷ []) 3 (pos 5)
+    -- in edition 2 the length 65,535 is plain, so that its bytes are cut; so it is in edition 1
+    ∷ booked 2 (0x02 ∷ 0x00 ∷ 0x61 ∷ 0x62 ∷ 0x01 ∷ 0x00 ∷ 0x63 ∷ 0x07 ∷ 0x00 ∷ 0x00 ∷ 0x00 ∷ 0x02 ∷ 0x00 ∷ 0x42 ∷ 0x31 ∷ []) (0x00 ∷ 0x00 ∷ 0x01 ∷ 0x00 ∷ 0x8B ∷ 0xFF ∷ 0xFF ∷ 0x01 ∷ 0x00 ∷ []) 3 (pos 7)
+    ∷ booked 1 (0x02 ∷ 0x00 ∷ 0x61 ∷ 0x62 ∷ 0x01 ∷ 0x00 ∷ 0x63 ∷ 0x07 ∷ 0x00 ∷ 0x00 ∷ 0x00 ∷ 0x02 ∷ 0x00 ∷ 0x42 ∷ 0x31 ∷ []) (0x00 ∷ 0x00 ∷ 0x01 ∷ 0x00 ∷ 0x8B ∷ 0xFF ∷ 0xFF ∷ 0x01 ∷ 0x00 ∷ []) 3 (pos 7)
+    -- label numbers are under 4,096
+    ∷ booked 3 (0x02 ∷ 0x00 ∷ 0x61 ∷ 0x62 ∷ 0x01 ∷ 0x00 ∷ 0x63 ∷ 0x07 ∷ 0x00 ∷ 0x00 ∷ 0x00 ∷ 0x02 ∷ 0x00 ∷ 0x42 ∷ 0x31 ∷ []) (0x00 ∷ 0x00 ∷ 0x01 ∷ 0x00 ∷ 0x99 ∷ 0xFF ∷ 0x0F ∷ []) 0 (pos 6)
+    ∷ booked 3 (0x02 ∷ 0x00 ∷ 0x61 ∷ 0x62 ∷ 0x01 ∷ 0x00 ∷ 0x63 ∷ 0x07 ∷ 0x00 ∷ 0x00 ∷ 0x00 ∷ 0x02 ∷ 0x00 ∷ 0x42 ∷ 0x31 ∷ []) (0x00 ∷ 0x00 ∷ 0x01 ∷ 0x00 ∷ 0x99 ∷ 0x00 ∷ 0x10 ∷ []) 5 (pos 5)
+    -- a book that is no book is refused in edition 3, though no string names it, and not looked at before
+    ∷ booked 3 [] (0x00 ∷ 0x00 ∷ 0x00 ∷ 0x00 ∷ []) 18 (pos 0)
+    ∷ booked 2 [] (0x00 ∷ 0x00 ∷ 0x00 ∷ 0x00 ∷ []) 0 (pos 1)
+    ∷ booked 1 [] (0x00 ∷ 0x00 ∷ 0x00 ∷ 0x00 ∷ []) 0 (pos 1)
+    -- 18 comes after 2 and before 3
+    ∷ booked 4 [] (0x00 ∷ 0x00 ∷ 0x00 ∷ 0x00 ∷ []) 2 (pos 0)
+    ∷ booked 3 [] (0x00 ∷ []) 18 (pos 0)
+    ∷ booked 3 (0x02 ∷ 0x00 ∷ 0x61 ∷ 0x62 ∷ 0x01 ∷ 0x00 ∷ 0x63 ∷ 0x07 ∷ 0x00 ∷ 0x00 ∷ 0x00 ∷ 0x02 ∷ 0x00 ∷ 0x42 ∷ 0x31 ∷ []) (0x00 ∷ []) 3 (pos 0)
+    -- a NUL in an entry
+    ∷ booked 3 (0x02 ∷ 0x00 ∷ 0x61 ∷ 0x00 ∷ 0x01 ∷ 0x00 ∷ 0x63 ∷ 0x07 ∷ 0x00 ∷ 0x00 ∷ 0x00 ∷ 0x02 ∷ 0x00 ∷ 0x42 ∷ 0x31 ∷ []) (0x00 ∷ 0x00 ∷ 0x00 ∷ 0x00 ∷ []) 18 (pos 0)
+    -- an entry more than the count, and one less
+    ∷ booked 3 (0x02 ∷ 0x00 ∷ 0x61 ∷ 0x62 ∷ 0x01 ∷ 0x00 ∷ 0x63 ∷ 0x07 ∷ 0x00 ∷ 0x00 ∷ 0x00 ∷ 0x01 ∷ 0x00 ∷ 0x42 ∷ 0x31 ∷ []) (0x00 ∷ 0x00 ∷ 0x00 ∷ 0x00 ∷ []) 18 (pos 0)
+    ∷ booked 3 (0x02 ∷ 0x00 ∷ 0x61 ∷ 0x62 ∷ 0x01 ∷ 0x00 ∷ 0x63 ∷ 0x07 ∷ 0x00 ∷ 0x00 ∷ 0x00 ∷ 0x03 ∷ 0x00 ∷ 0x42 ∷ 0x31 ∷ []) (0x00 ∷ 0x00 ∷ 0x00 ∷ 0x00 ∷ []) 18 (pos 0)
+    -- the second entry cut
+    ∷ booked 3 (0x02 ∷ 0x00 ∷ 0x61 ∷ 0x62 ∷ 0x02 ∷ 0x00 ∷ 0x63 ∷ 0x07 ∷ 0x00 ∷ 0x00 ∷ 0x00 ∷ 0x02 ∷ 0x00 ∷ 0x42 ∷ 0x31 ∷ []) (0x00 ∷ 0x00 ∷ 0x00 ∷ 0x00 ∷ []) 18 (pos 0)
+    -- the distance back past the first byte
+    ∷ booked 3 (0x02 ∷ 0x00 ∷ 0x61 ∷ 0x62 ∷ 0x01 ∷ 0x00 ∷ 0x63 ∷ 0x08 ∷ 0x00 ∷ 0x00 ∷ 0x00 ∷ 0x02 ∷ 0x00 ∷ 0x42 ∷ 0x31 ∷ []) (0x00 ∷ 0x00 ∷ 0x00 ∷ 0x00 ∷ []) 18 (pos 0)
+    -- another mark
+    ∷ booked 3 (0x02 ∷ 0x00 ∷ 0x61 ∷ 0x62 ∷ 0x01 ∷ 0x00 ∷ 0x63 ∷ 0x07 ∷ 0x00 ∷ 0x00 ∷ 0x00 ∷ 0x02 ∷ 0x00 ∷ 0x41 ∷ 0x31 ∷ []) (0x00 ∷ 0x00 ∷ 0x00 ∷ 0x00 ∷ []) 18 (pos 0)
+    -- the book without an entry, and with one that is not counted
+    ∷ booked 3 (0x00 ∷ 0x00 ∷ 0x00 ∷ 0x00 ∷ 0x00 ∷ 0x00 ∷ 0x42 ∷ 0x31 ∷ []) (0x00 ∷ 0x00 ∷ 0x00 ∷ 0x00 ∷ []) 0 (pos 1)
+    ∷ booked 3 (0x00 ∷ 0x00 ∷ 0x02 ∷ 0x00 ∷ 0x00 ∷ 0x00 ∷ 0x00 ∷ 0x00 ∷ 0x42 ∷ 0x31 ∷ []) (0x00 ∷ 0x00 ∷ 0x00 ∷ 0x00 ∷ []) 18 (pos 0)
+    ∷ []
+
 -- a sum holds where the sheet packs to the block, with no room to spare
 abbrev pub Holds : Sum → Type 0
-Holds (sum main block) = pack plainMode (sheetOf 1 main) (length block) ≡ Done block
+Holds (sum main block) = pack plainMode (sheetOf 1 main) emptyBook (length block) ≡ Done block
 
--- what a main body is answered
-abbrev pub Answered : Mode → ℕ → List ℕ → ℕ → ℕ → ℤ → ℕ → Type 0
-Answered mode edition main room n v k =
-    (number (pack mode (sheetOf edition main) room) ≡ n) × (value lengthOf (pack mode (sheetOf edition main) room) ≡ v)
-    × (action (pack mode (sheetOf edition main) room) ≡ k)
+abbrev pub HoldsWith : BookSum → Type 0
+HoldsWith (bookSum book main block) = pack plainMode (sheetOf 3 main) book (length block) ≡ Done block
+
+-- what a main body is answered, with a book
+abbrev pub Answered : Mode → ℕ → List ℕ → List ℕ → ℕ → ℕ → ℤ → ℕ → Type 0
+Answered mode edition book main room n v k =
+    (number (pack mode (sheetOf edition main) book room) ≡ n) × (value lengthOf (pack mode (sheetOf edition main) book room) ≡ v)
+    × (action (pack mode (sheetOf edition main) book room) ≡ k)
 
 abbrev pub Answers : Case → Type 0
-Answers (case mode main room n v k) = Answered mode 1 main room n v k
+Answers (case mode main room n v k) = Answered mode 1 emptyBook main room n v k
 
 abbrev pub AnswersIn : Dated → Type 0
-AnswersIn (dated edition main n v k) = Answered plainMode edition main 64 n v k
+AnswersIn (dated edition main n v k) = Answered plainMode edition emptyBook main 64 n v k
 
--- the four tables, so that what is unfolded is listed once
-all : All Holds byHand × All Answers byMode × All AnswersIn byEdition × All AnswersIn byAction
-unfolding byAction byEdition byMode byHand sheetOf each pick firstWith le16 le32 bit smallByte byte smallOpCodes opcodes opcodeOf kindByte pushKinds kindOf edition1 edition2 ifWhole ifWithin tested repeat firstZero ifNoZero ifNothingLeft readU8 readU16 readU32 readU64 readBytes readFlag readSpelling readCounted hasCatch hasFinally hasRegister isShape readString readValueOf readValueIf readValue readParam readLabel readEntries readCatchTarget readCatch readFinally readTry readFields readFieldsIf readAction readActions readBodyWith readBody readMain mapValue mapParam mapFlat mapOwner mapTarget mapAction zeroEnded stringsBytes constantBytes doubleBytes pushBytes pushesBytes opcode gotoFrame2Bytes getUrl2Bits payload ownerOpCode paramsBytes ownerFields ownerPayload branchOpCode catchShape finallyShape catchName tryPayload headed framed homeIn moved eventIf payloadTest bodyTest labelsAt events later recordIf lookup distanceBits branchBits blockBytes blockSize size count trace bytes tooLong distance isNear farUnless judged orElse refusalIf barred judgedIn firstRefused judge editionNumber editions editionOf trailerDistance trailerEdition isMarked cutIf cutAt cutIfTrailer cutIfShort cut unless ifRoom packTree editionTerms spelling faultAction packRead packCut pack output number value action refusalNumber refusalValue refusalAction faultNumber
-all = ((refl, (refl, (refl, (refl, (refl, (refl, (refl, (refl, (refl, (refl, (refl, (refl, tt)))))))))))), ((refl, refl, refl), ((refl, refl, refl), ((refl, refl, refl), ((refl, refl, refl), ((refl, refl, refl), ((refl, refl, refl), ((refl, refl, refl), ((refl, refl, refl), ((refl, refl, refl), ((refl, refl, refl), ((refl, refl, refl), ((refl, refl, refl), ((refl, refl, refl), ((refl, refl, refl), ((refl, refl, refl), ((refl, refl, refl), ((refl, refl, refl), ((refl, refl, refl), ((refl, refl, refl), ((refl, refl, refl), ((refl, refl, refl), ((refl, refl, refl), ((refl, refl, refl), ((refl, refl, refl), tt)))))))))))))))))))))))), ((refl, refl, refl), ((refl, refl, refl), ((refl, refl, refl), ((refl, refl, refl), ((refl, refl, refl), ((refl, refl, refl), ((refl, refl, refl), ((refl, refl, refl), ((refl, refl, refl), ((refl, refl, refl), ((refl, refl, refl), ((refl, refl, refl), tt)))))))))))), ((refl, refl, refl), ((refl, refl, refl), ((refl, refl, refl), ((refl, refl, refl), ((refl, refl, refl), ((refl, refl, refl), ((refl, refl, refl), ((refl, refl, refl), ((refl, refl, refl), ((refl, refl, refl), ((refl, refl, refl), ((refl, refl, refl), tt)))))))))))))
+abbrev pub AnswersBook : Booked → Type 0
+AnswersBook (booked edition book main n v) = Answered plainMode edition book main 64 n v 0
+
+-- the six tables, so that what is unfolded is listed once
+all : All Holds byHand × All Answers byMode × All AnswersIn byEdition × All AnswersIn byAction × All HoldsWith byWords × All AnswersBook byBook
+unfolding byBook byWords emptyBook byAction byEdition byMode byHand sheetOf each pick firstWith le16 le32 bit smallByte byte smallOpCodes opcodes opcodeOf kindByte pushKinds kindOf edition1 edition2 edition3 readPlain readWord readText readEntry ifRead wordsIn bookDistance bookCount isBookMarked bookIf bookAt bookIfTrailer bookOf ifWhole ifWithin tested repeat firstZero ifNoZero ifNothingLeft readU8 readU16 readU32 readU64 readBytes readFlag readSpelling readCounted hasCatch hasFinally hasRegister isShape readString readValueOf readValueIf readValue readParam readLabel readEntries readCatchTarget readCatch readFinally readTry readFields readFieldsIf readAction readActions readBodyWith readBody readMain mapValue mapParam mapFlat mapOwner mapTarget mapAction zeroEnded stringsBytes constantBytes doubleBytes pushBytes pushesBytes opcode gotoFrame2Bytes getUrl2Bits payload ownerOpCode paramsBytes ownerFields ownerPayload branchOpCode catchShape finallyShape catchName tryPayload headed framed homeIn moved eventIf payloadTest bodyTest labelsAt events later recordIf lookup distanceBits branchBits blockBytes blockSize size count trace bytes tooLong distance isNear farUnless judged orElse refusalIf barred judgedIn firstRefused judge editionNumber editions editionOf trailerDistance trailerEdition isMarked cutIf cutAt cutIfTrailer cutIfShort cut unless ifRoom packTree editionTerms spelling faultAction packRead packBy packCut pack output number value action refusalNumber refusalValue refusalAction faultNumber
+all = ((refl, (refl, (refl, (refl, (refl, (refl, (refl, (refl, (refl, (refl, (refl, (refl, tt)))))))))))), ((refl, refl, refl), ((refl, refl, refl), ((refl, refl, refl), ((refl, refl, refl), ((refl, refl, refl), ((refl, refl, refl), ((refl, refl, refl), ((refl, refl, refl), ((refl, refl, refl), ((refl, refl, refl), ((refl, refl, refl), ((refl, refl, refl), ((refl, refl, refl), ((refl, refl, refl), ((refl, refl, refl), ((refl, refl, refl), ((refl, refl, refl), ((refl, refl, refl), ((refl, refl, refl), ((refl, refl, refl), ((refl, refl, refl), ((refl, refl, refl), ((refl, refl, refl), ((refl, refl, refl), tt)))))))))))))))))))))))), ((refl, refl, refl), ((refl, refl, refl), ((refl, refl, refl), ((refl, refl, refl), ((refl, refl, refl), ((refl, refl, refl), ((refl, refl, refl), ((refl, refl, refl), ((refl, refl, refl), ((refl, refl, refl), ((refl, refl, refl), ((refl, refl, refl), tt)))))))))))), ((refl, refl, refl), ((refl, refl, refl), ((refl, refl, refl), ((refl, refl, refl), ((refl, refl, refl), ((refl, refl, refl), ((refl, refl, refl), ((refl, refl, refl), ((refl, refl, refl), ((refl, refl, refl), ((refl, refl, refl), ((refl, refl, refl), tt)))))))))))), (refl, (refl, (refl, tt))), ((refl, refl, refl), ((refl, refl, refl), ((refl, refl, refl), ((refl, refl, refl), ((refl, refl, refl), ((refl, refl, refl), ((refl, refl, refl), ((refl, refl, refl), ((refl, refl, refl), ((refl, refl, refl), ((refl, refl, refl), ((refl, refl, refl), ((refl, refl, refl), ((refl, refl, refl), ((refl, refl, refl), ((refl, refl, refl), ((refl, refl, refl), ((refl, refl, refl), ((refl, refl, refl), ((refl, refl, refl), ((refl, refl, refl), tt))))))))))))))))))))))
 
 pub sums-hold : All Holds byHand
 sums-hold = all .0
@@ -210,6 +275,12 @@ editions-answer = all .2
 
 pub actions-answer : All AnswersIn byAction
 actions-answer = all .3
+
+pub words-hold : All HoldsWith byWords
+words-hold = all .4
+
+pub books-answer : All AnswersBook byBook
+books-answer = all .5
 
 -- ---- "first branch in writing order", among branches of the main block
 

@@ -1,6 +1,6 @@
 -- Laws of a counted list scanned one element at a time: what is still to do from here gives what the whole gives. Assumes nothing.
 use mathlib.Core.Path.{_≡_, refl, sym, ap, _∙_}
-use Prim.Native.Nat.{ℕ, zero, suc, _+_, _-_, _≤_, _<_}
+use Prim.Native.Nat.{ℕ, zero, suc, _+_, _-_, _*_, _≤_, _<_}
 use native.Mathlib.Omega.{arith}
 use native.Mathlib.Numerals.{sub-one}
 use mathlib.Core.List.{List, [], _∷_}
@@ -14,8 +14,9 @@ use Rattle.layout.specs.Read.{Terms, Place, placed, ahead, Read, got, bad, Read
 use Rattle.layout.specs.Lengths.{total, stringLength}
 use Rattle.layout.specs.Pack.{spelling}
 use Rattle.laws.specs.Fits.{Bytes}
-use Rattle.laws.specs.ReadFits.{good-got, good-then, good-as, text-good, value-good, bytes-good}
-use Rattle.laws.specs.Packed.{spells}
+use Rattle.laws.specs.ReadFits.{good-got, good-then, good-as, bytes-good}
+use Rattle.laws.specs.Books.{WordsShort}
+use Rattle.laws.specs.Shares.{text-most, value-most}
 use Rattle.positions.specs.declared.BytePosition.{BytePosition}
 use Rattle.positions.specs.declared.Fault.{Fault}
 use Rattle.positions.specs.declared.Scan.{Scan}
@@ -26,9 +27,9 @@ use Rattle.lists.specs.Elements.{readNamed, namedSize, valueSize}
 use Rattle.operands.proofs.Scans.{ends-is, stops-then}
 use Rattle.operands.proofs.Reading as reading
 
--- what was read lies within b, and is written in at most as many bytes
+-- what was read lies within b, and each of its bytes is written in at most 65,536
 abbrev pub Grows : {A : Type 0} → List ℕ → Reader A → (A → ℕ) → Type 0
-Grows {A} b read size = (p : ℕ) (a : A) (q : ℕ) → p ≤ length b → read (placed p) ≡ got a (placed q) → (p + size a ≤ q) × (q ≤ length b)
+Grows {A} b read size = (p : ℕ) (a : A) (q : ℕ) → p ≤ length b → read (placed p) ≡ got a (placed q) → (size a + 65536 * p ≤ 65536 * q) × (q ≤ length b)
 
 module _ {A : Type 0} (read : Reader A) (size : A → ℕ) where
   -- nothing is left
@@ -145,27 +146,27 @@ module _ {A : Type 0} (b : List ℕ) (read : Reader A) (size : A → ℕ) (grows
 
 -- ---- the two kinds of element
 
-module _ (terms : Terms) (b : List ℕ) (small : Bytes b) where
+module _ (terms : Terms) (b : List ℕ) (small : Bytes b) (short : WordsShort terms) where
   pub named-grows : (skip : ℕ) → Grows b (readNamed terms b skip) (namedSize skip)
   unfolding readNamed namedSize stringSize
   named-grows skip p s q l e =
       let g =
-      good-got {P = λ t r. p + skip + stringLength (spelling t) ≤ r .at} s (placed q)
+      good-got {P = λ t r. skip + stringLength (spelling t) + 65536 * p ≤ 65536 * r .at} s (placed q)
       (good-then (bytes-good b small skip (placed p) l)
-      (λ x r h m. good-as (text-good terms b small spelling (Unit {0}) (spells b small terms) r m) (λ t u k. omega (arith, h .1, k .1 tt)))) e in
+      (λ x r h m. good-as (text-most terms b small short r m) (λ t u k. omega (arith, h .1, k .0)))) e in
       (omega (arith, g .0), g .1)
 
   pub values-grow : Grows b (readValue terms b) valueSize
   unfolding valueSize
   values-grow p v q l e =
-      let g = good-got v (placed q) (value-good terms b small spelling (Unit {0}) (spells b small terms) (placed p) l) e in
-      (omega (arith, g .0 .1 tt), g .1)
+      let g = good-got v (placed q) (value-most terms b small short (placed p) l) e in
+      (omega (arith, g .0 .0), g .1)
 
   pub text-grows : Grows b (readString terms b) stringSize
   unfolding stringSize
   text-grows p s q l e =
-      let g = good-got s (placed q) (text-good terms b small spelling (Unit {0}) (spells b small terms) (placed p) l) e in
-      (omega (arith, g .0 .1 tt), g .1)
+      let g = good-got s (placed q) (text-most terms b small short (placed p) l) e in
+      (omega (arith, g .0 .0), g .1)
 
 -- the next scan may start where one ended, even some bytes further on in the block where something was written
 pub roomy-after : {A : Type 0} (b : List ℕ) (read : Reader A) (size : A → ℕ) (extra : ℕ) → Grows b read size → ((a : A) → 1 ≤ size a) → extra ≤ 65000
@@ -175,24 +176,23 @@ roomy-after b read size extra g some m p q w x y r h e f i =
     let n = g p (k .0) q (h .inside) (k .1) in
     record { bytes = h .bytes; inside = n .1; room = omega (arith, h .inside, h .room, n .0, n .1, k .2, some (k .0)) }
 
-pub text-after : (terms : Terms) (b : List ℕ) (extra : ℕ) → extra ≤ 65000 → (p q : ℕ) (w x y : BytePosition) (r : Scan) → Roomy b p w
+pub text-after : (terms : Terms) → WordsShort terms → (b : List ℕ) (extra : ℕ) → extra ≤ 65000 → (p q : ℕ) (w x y : BytePosition) (r : Scan) → Roomy b p w
     → r ≡ scanned stringSize (w .0) (readString terms b (placed p)) → r ≡ scan.Ends q x → y .0 ≡ x .0 + extra → Roomy b q y
-text-after terms b extra m p q w x y r h e f i =
-    roomy-after b (readString terms b) stringSize extra (text-grows terms b (h .bytes)) (λ s. unfold stringSize stringLength in omega arith) m p q w x y r h e f i
+text-after terms short b extra m p q w x y r h e f i =
+    roomy-after b (readString terms b) stringSize extra (text-grows terms b (h .bytes) short) (λ s. unfold stringSize stringLength in omega arith) m p q w x y r h e f i
 
--- a text that was scanned has the length that stands before it
-pub text-told : (terms : Terms) (b : List ℕ) (p q : ℕ) (w x : BytePosition) (r : Scan) → r ≡ scanned stringSize (w .0) (readString terms b (placed p)) → r ≡ scan.Ends q x
-    → (p + 2 ≤ length b) × (x .0 ≡ w .0 + (u16At b p + 1))
-text-told terms b p q w x r e f =
+-- a text that was scanned has at least its zero byte
+pub text-some : (terms : Terms) (b : List ℕ) (p q : ℕ) (w x : BytePosition) (r : Scan) → r ≡ scanned stringSize (w .0) (readString terms b (placed p)) → r ≡ scan.Ends q x → w .0 + 1 ≤ x .0
+unfolding stringSize stringLength
+text-some terms b p q w x r e f =
     let k = ends-is stringSize (w .0) (readString terms b (placed p)) e f in
-    let t = reading.string-read terms b p (k .1) in
-    (t .0, omega (arith, t .1, k .2))
+    omega (arith, k .2)
 
 -- and some bytes more can be counted
-pub text-room : (terms : Terms) (b : List ℕ) (p q : ℕ) (w x : BytePosition) (r : Scan) → Roomy b p w → r ≡ scanned stringSize (w .0) (readString terms b (placed p)) → r ≡ scan.Ends q x
+pub text-room : (terms : Terms) → WordsShort terms → (b : List ℕ) (p q : ℕ) (w x : BytePosition) (r : Scan) → Roomy b p w → r ≡ scanned stringSize (w .0) (readString terms b (placed p)) → r ≡ scan.Ends q x
     → x .0 + 65000 ≤ 1099511627776
-text-room terms b p q w x r h e f =
-    let y : Roomy b q (record { 0 = x .0 + 65000 }) = text-after terms b 65000 (omega arith) p q w x (record { 0 = x .0 + 65000 }) r h e f refl in
+text-room terms short b p q w x r h e f =
+    let y : Roomy b q (record { 0 = x .0 + 65000 }) = text-after terms short b 65000 (omega arith) p q w x (record { 0 = x .0 + 65000 }) r h e f refl in
     omega (arith, y .room)
 
 -- the next scan may start where a counted list ended

@@ -17,20 +17,43 @@ use positions::Fault;
 use positions::Scan;
 
 // A string after `skip` bytes: 0, or 1 for a parameter's register.
-pub fn scan_named(b: &[u8], terms: Terms, at: usize, skip: usize, pos: BytePosition) -> Scan
+pub fn scan_named(
+    b: &[u8],
+    words: &[u8],
+    index: &[u32],
+    terms: Terms,
+    at: usize,
+    skip: usize,
+    pos: BytePosition,
+) -> Scan
     requires { ⌜ Roomy (now b) at pos × (skip ≤ 1) ⌝ }
-    ensures { λ r. ⌜ r ≡ scanned (namedSize skip) (pos .0) (readNamed (termsOf terms) (now (b .entry)) skip (placed at)) ⌝ }
+    ensures { λ r. ⌜ r ≡ scanned (namedSize skip) (pos .0) (readNamed (termsOf terms (now (words .entry)) (now (index .entry))) (now (b .entry)) skip (placed at)) ⌝ }
 {
     if b.len() - at < skip {
         return Scan::Stops(Fault::CutShort, at);
     }
-    scan_string(b, terms, at + skip, BytePosition(pos.0 + skip))
+    scan_string(
+        b,
+        words,
+        index,
+        terms,
+        at + skip,
+        BytePosition(pos.0 + skip),
+    )
 }
 
 // A count, then that many strings, each after `skip` bytes; `pos` is the position after the written count.
-pub fn scan_strings(b: &[u8], terms: Terms, at: usize, skip: usize, pos: BytePosition) -> Scan
+pub fn scan_strings(
+    b: &[u8],
+    words: &[u8],
+    index: &[u32],
+    terms: Terms,
+    at: usize,
+    skip: usize,
+    pos: BytePosition,
+) -> Scan
     requires { ⌜ Roomy (now b) at pos × (skip ≤ 1) ⌝ }
-    ensures { λ r. ⌜ r ≡ scanned (total (namedSize skip)) (pos .0) (readCounted (now (b .entry)) (readNamed (termsOf terms) (now (b .entry)) skip) (placed at)) ⌝ }
+    ensures { λ r. ⌜ r ≡ scanned (total (namedSize skip)) (pos .0) (readCounted (now (b .entry)) (readNamed (termsOf terms (now (words .entry)) (now (index .entry))) (now (b .entry)) skip) (placed at)) ⌝ }
 {
     if b.len() - at < 2 {
         return Scan::Stops(Fault::CutShort, at);
@@ -39,7 +62,7 @@ pub fn scan_strings(b: &[u8], terms: Terms, at: usize, skip: usize, pos: BytePos
     let mut p = at + 2;
     let mut w = pos;
     while 0 < left {
-        match scan_named(b, terms, p, skip, w) {
+        match scan_named(b, words, index, terms, p, skip, w) {
             Scan::Stops(f, q) => {
                 return Scan::Stops(f, q);
             }
@@ -66,16 +89,30 @@ fn scan_constant(b: &[u8], at: usize, pos: BytePosition) -> Scan
 }
 
 // A push value: its kind, then what the kind says.
-pub fn scan_push_value(b: &[u8], terms: Terms, at: usize, pos: BytePosition) -> Scan
+pub fn scan_push_value(
+    b: &[u8],
+    words: &[u8],
+    index: &[u32],
+    terms: Terms,
+    at: usize,
+    pos: BytePosition,
+) -> Scan
     requires { ⌜ Roomy (now b) at pos ⌝ }
-    ensures { λ r. ⌜ r ≡ scanned valueSize (pos .0) (readValue (termsOf terms) (now (b .entry)) (placed at)) ⌝ }
+    ensures { λ r. ⌜ r ≡ scanned valueSize (pos .0) (readValue (termsOf terms (now (words .entry)) (now (index .entry))) (now (b .entry)) (placed at)) ⌝ }
 {
     if b.len() <= at {
         return Scan::Stops(Fault::CutShort, at);
     }
     let p = at + 1;
     match b[at] {
-        0 => scan_string(b, terms, p, BytePosition(pos.0 + OpCode::PUSH_KIND_LEN)),
+        0 => scan_string(
+            b,
+            words,
+            index,
+            terms,
+            p,
+            BytePosition(pos.0 + OpCode::PUSH_KIND_LEN),
+        ),
         2 => Scan::Ends(p, BytePosition(pos.0 + OpCode::PUSH_KIND_LEN)),
         3 => Scan::Ends(p, BytePosition(pos.0 + OpCode::PUSH_KIND_LEN)),
         4 => scan_bytes(b, p, 1, BytePosition(pos.0 + OpCode::PUSH_U8_LEN)),
@@ -88,9 +125,16 @@ pub fn scan_push_value(b: &[u8], terms: Terms, at: usize, pos: BytePosition) -> 
 }
 
 // A count, then that many push values.
-pub fn scan_push(b: &[u8], terms: Terms, at: usize, pos: BytePosition) -> Scan
+pub fn scan_push(
+    b: &[u8],
+    words: &[u8],
+    index: &[u32],
+    terms: Terms,
+    at: usize,
+    pos: BytePosition,
+) -> Scan
     requires { ⌜ Roomy (now b) at pos ⌝ }
-    ensures { λ r. ⌜ r ≡ scanned (total valueSize) (pos .0) (readCounted (now (b .entry)) (readValue (termsOf terms) (now (b .entry))) (placed at)) ⌝ }
+    ensures { λ r. ⌜ r ≡ scanned (total valueSize) (pos .0) (readCounted (now (b .entry)) (readValue (termsOf terms (now (words .entry)) (now (index .entry))) (now (b .entry))) (placed at)) ⌝ }
 {
     if b.len() - at < 2 {
         return Scan::Stops(Fault::CutShort, at);
@@ -99,7 +143,7 @@ pub fn scan_push(b: &[u8], terms: Terms, at: usize, pos: BytePosition) -> Scan
     let mut p = at + 2;
     let mut w = pos;
     while 0 < left {
-        match scan_push_value(b, terms, p, w) {
+        match scan_push_value(b, words, index, terms, p, w) {
             Scan::Stops(f, q) => {
                 return Scan::Stops(f, q);
             }

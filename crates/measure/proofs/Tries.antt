@@ -1,6 +1,6 @@
 -- What the scan of a Try's payload says of it: its bodies follow, their lengths tested after all of them. Assumes nothing.
 use mathlib.Core.Path.{_≡_, refl, sym, ap, ap₂, _∙_}
-use Prim.Native.Nat.{ℕ, _+_, _-_, _/_, _%_, _≤_, _<_}
+use Prim.Native.Nat.{ℕ, _+_, _-_, _*_, _/_, _%_, _≤_, _<_}
 use native.Mathlib.Omega.{arith}
 use native.Mathlib.Nat.{add-zero}
 use mathlib.Core.Bool.{Bool, true, false, false≢true}
@@ -20,8 +20,9 @@ use Rattle.layout.specs.Write.{size, catchSize, finallySize, Position, position
 use Rattle.layout.specs.Lengths.{total, nameLength, stringLength, length-catchName}
 use Rattle.layout.specs.Pack.{spelling}
 use Rattle.laws.specs.Fits.{Bytes}
-use Rattle.laws.specs.ReadFits.{Good, fine, refused, good-then, good-got, u8-good, tested-good, text-good}
-use Rattle.laws.specs.Packed.{spells}
+use Rattle.laws.specs.ReadFits.{Good, fine, refused, good-then, good-got, u8-good, tested-good}
+use Rattle.laws.specs.Books.{WordsShort}
+use Rattle.laws.specs.Shares.{text-most}
 use Rattle.laws.specs.Begun.{Fields, OfFields, fields-next, tested-fields, u8-fields, target-fields}
 use Rattle.labels.specs.Table.{Tables}
 use Rattle.positions.specs.declared.BytePosition.{BytePosition}
@@ -268,7 +269,7 @@ unfolding readCaught
 caught-fields terms b p =
     fields-next (tested-fields isShape (readU8 b) (u8-fields b) p) (λ n q. fields-next (target-fields terms b (hasCatch n) (hasRegister n) q) (λ t r. Fields.read {a = (n, t)} {q = r} (omega arith)))
 
-module _ (terms : Terms) (b : List ℕ) (small : Bytes b) where
+module _ (terms : Terms) (b : List ℕ) (small : Bytes b) (short : WordsShort terms) where
   -- the byte that was read
   byte-read : (p : Place) → p .at ≤ length b → Good (length b) (λ n q. (n ≡ getD b (p .at) 0) × (q .at ≡ p .at + 1)) (readU8 b p)
   unfolding readU8 ifWhole
@@ -279,14 +280,14 @@ module _ (terms : Terms) (b : List ℕ) (small : Bytes b) where
       go false h = unfold ifWhole in refused l
 
   -- without a catch one zero byte stands for the name
-  one-byte : (c r : Bool) (p : Place) → p .at ≤ length b → Good (length b) (λ t q. (c ≡ false → targetSize t ≡ 1) × (targetSize t + p .at ≤ q .at + 2) × (p .at ≤ q .at)) (readCatchTarget terms b c r p)
+  one-byte : (c r : Bool) (p : Place) → p .at ≤ length b → Good (length b) (λ t q. (c ≡ false → targetSize t ≡ 1) × (targetSize t + 65536 * p .at ≤ 65536 * q .at + 2) × (p .at ≤ q .at)) (readCatchTarget terms b c r p)
   unfolding readCatchTarget targetSize stringSize stringLength spelling
   one-byte true true p l = good-then (u8-good b small p l) (λ n q h m. fine ((λ e. absurd (false≢true (sym e))), omega (arith, h .1), omega (arith, h .1)) m)
-  one-byte true false p l = good-then (text-good terms b small spelling (Unit {0}) (spells b small terms) p l) (λ s q h m. fine ((λ e. absurd (false≢true (sym e))), omega (arith, h .1 tt), h .2) m)
+  one-byte true false p l = good-then (text-most terms b small short p l) (λ s q h m. fine ((λ e. absurd (false≢true (sym e))), omega (arith, h .0), h .1) m)
   one-byte false r p l = fine {a = Variable (plain [])} {p = p} ((λ e. refl), omega arith, omega arith) l
 
   pub caught-good : (p : Place) → p .at ≤ length b
-      → Good (length b) (λ x q. (x .0 ≡ getD b (p .at) 0) × (hasCatch (x .0) ≡ false → targetSize (x .1) ≡ 1) × (targetSize (x .1) + p .at ≤ q .at + 1) × (p .at ≤ q .at)) (readCaught terms b p)
+      → Good (length b) (λ x q. (x .0 ≡ getD b (p .at) 0) × (hasCatch (x .0) ≡ false → targetSize (x .1) ≡ 1) × (targetSize (x .1) + 65536 * p .at ≤ 65536 * q .at) × (p .at ≤ q .at)) (readCaught terms b p)
   unfolding readCaught
   caught-good p l =
       good-then (tested-good b small isShape (readU8 b) p l (byte-read p l))
@@ -349,14 +350,14 @@ module _ (terms : Terms) (b : List ℕ) (p pos home number : ℕ) (x : ℕ × Ca
       (measured (total bodyLength) (total bodyCount) inBodies (position (pos + 3 + (7 + named)) home (number + 1)))
       (λ t c f h r. try-measured t c f named pos (pos + 3 + (7 + named)) home number h refl r) (λ f i n k e. unfold measured uncounted in refl)
 
-module _ (terms : Terms) (b : List ℕ) (small : Bytes b) (at p pos number : ℕ) (is-next : p ≡ at + 1) (inside : p ≤ length b) (over over′ : List ℕ) (l : Laid) where
-  onward : (x : ℕ × CatchTargetOf Text) (q : Place) → (x .0 ≡ getD b p 0) × (hasCatch (x .0) ≡ false → targetSize (x .1) ≡ 1) × (targetSize (x .1) + p ≤ q .at + 1) × (p ≤ q .at) → q .at ≤ length b
+module _ (terms : Terms) (b : List ℕ) (small : Bytes b) (short : WordsShort terms) (at p pos number : ℕ) (is-next : p ≡ at + 1) (inside : p ≤ length b) (over over′ : List ℕ) (l : Laid) where
+  onward : (x : ℕ × CatchTargetOf Text) (q : Place) → (x .0 ≡ getD b p 0) × (hasCatch (x .0) ≡ false → targetSize (x .1) ≡ 1) × (targetSize (x .1) + 65536 * p ≤ 65536 * q .at) × (p ≤ q .at) → q .at ≤ length b
       → Onward at (length b) pos (q .at) (pos + 3 + caughtSize x)
   unfolding caughtSize
   onward x q g o = record { beyond = omega (arith, is-next, g .3); within = o; written = omega (arith, is-next, g .2, g .3) }
 
   lay-caught : (x : ℕ × CatchTargetOf Text) (q : Place) → readCaught terms b (placed p) ≡ got x q
-      → (x .0 ≡ getD b p 0) × (hasCatch (x .0) ≡ false → targetSize (x .1) ≡ 1) × (targetSize (x .1) + p ≤ q .at + 1) × (p ≤ q .at) → q .at ≤ length b
+      → (x .0 ≡ getD b p 0) × (hasCatch (x .0) ≡ false → targetSize (x .1) ≡ 1) × (targetSize (x .1) + 65536 * p ≤ 65536 * q .at) × (p ≤ q .at) → q .at ≤ length b
       → Laying (terms .labelBound) (λ inner. readFields terms b inner OpCode.Try (placed p)) at (length b) pos number over (notedFrom (pos + 3) number (scanned caughtSize (pos + 3) (got x q)) over)
       (laidAs (bodiesAfter (getD b p 0)) (scanned caughtSize (pos + 3) (got x q)))
   unfolding scanned notedFrom caughtSize
@@ -385,6 +386,6 @@ module _ (terms : Terms) (b : List ℕ) (small : Bytes b) (at p pos number : ℕ
       go : {x : Read (ℕ × CatchTargetOf Text)} → Fields (placed p) x → readCaught terms b (placed p) ≡ x
           → Laying (terms .labelBound) (λ inner. readFields terms b inner OpCode.Try (placed p)) at (length b) pos number over (notedFrom (pos + 3) number (scanned caughtSize (pos + 3) x) over) (laidAs (bodiesAfter (getD b p 0)) (scanned caughtSize (pos + 3) x))
       go (Fields.read {a = x} {q = q} i) e =
-          let g = good-got x q (caught-good terms b small (placed p) inside) e in
+          let g = good-got x q (caught-good terms b small short (placed p) inside) e in
           lay-caught x q e (g .0) (g .1)
       go (Fields.met {f = f} {n = q} i) e = lay-uncaught f q e

@@ -123,11 +123,11 @@ uncounted (bad f s) = bad f (stop (placed (s .at)))
 unfoldable pub measured : {A : Type 0} → (A → ℕ) → (A → ℕ) → (A → Position → List Event) → Position → Read A → Read Measure
 measured size count trace from x = chain (uncounted x) (λ a q. got (measure (from .at + size a) (from .number + count a) (branches (trace a from))) q)
 
--- from place `at` and position pos on: q lies beyond and within, and each byte read on the way is written in at most 65,536
+-- from place `at` and position pos on: q lies beyond and within, and each byte read on the way is written in at most 196,608
 pub record Onward (at end pos q w : ℕ) : Type 0 where
   pub beyond : at < q
   pub within : q ≤ end
-  pub written : w + 65536 * at ≤ pos + 65536 * q
+  pub written : w + 196608 * at ≤ pos + 196608 * q
 
 -- ---- what a payload's answer says of an action, whose bodies `inner` reads: nothing is known of them yet, nor of its home
 

@@ -26,13 +26,14 @@ pub record Lent (s : List ℕ) : Type 0 where
 abbrev pub modeBy : Bool → Bool → Mode
 modeBy strict contained = record { strict = strict; contained = contained }
 
--- merinovault_pack, in a mode, on a sheet s, with an output that held o and a value slice that held v: it returns n, and the value
--- slice then holds v′ and the output `after`
-pub record PackCalled (mode : Mode) (s o v : List ℕ) (n : ℕ) (v′ after : List ℕ) : Type 0 where
+-- merinovault_pack, in a mode, on a sheet s and a book, with an output that held o and a value slice that held v: it returns n, and
+-- the value slice then holds v′ and the output `after`
+pub record PackCalled (mode : Mode) (s book o v : List ℕ) (n : ℕ) (v′ after : List ℕ) : Type 0 where
   pub is-lent : Lent s
-  pub is-number : n ≡ ifSixteen v (number (pack mode s (length o))) 11
-  pub is-value : v′ ≡ ifSixteen v (valueBytes lengthOf (pack mode s (length o))) v
-  pub is-output : after ≡ ifSixteen v (output (pack mode s (length o)) o) o
+  pub is-book : Lent book
+  pub is-number : n ≡ ifSixteen v (number (pack mode s book (length o))) 11
+  pub is-value : v′ ≡ ifSixteen v (valueBytes lengthOf (pack mode s book (length o))) v
+  pub is-output : after ≡ ifSixteen v (output (pack mode s book (length o)) o) o
 
 -- merinovault_step, on a byte string s, with a value slice that held v: it returns n, and the value slice then holds v′
 pub record StepCalled (s v : List ℕ) (n : ℕ) (v′ : List ℕ) : Type 0 where

@@ -22,17 +22,18 @@ fn fill_value(value: &mut [u8], bits: u64, action: u64)
     fill_u64(&mut value[8..], action);
 }
 
-// Packs a sheet into the lent output, in a mode that is strict or not and contained or not. The output's bytes past a Done length
-// keep their values; on any other answer all do.
+// Packs a sheet, whose strings may name the entries of a book, into the lent output, in a mode that is strict or not and contained
+// or not. The output's bytes past a Done length keep their values; on any other answer all do.
 #[no_mangle]
-pub extern "C" fn merinovault_pack(
-    sheet: &[u8],
+pub extern "C" fn merinovault_pack<'a>(
+    sheet: &'a [u8],
+    book: &'a [u8],
     strict: bool,
     contained: bool,
     out: &mut [u8],
     value: &mut [u8],
 ) -> u32
-    ensures { λ r. ⌜ PackCalled (modeBy strict contained) (now (sheet .entry)) (now (out .entry)) (now (value .entry)) r (now (value .exit)) (now (out .exit)) ⌝ }
+    ensures { λ r. ⌜ PackCalled (modeBy strict contained) (now (sheet .entry)) (now (book .entry)) (now (out .entry)) (now (value .entry)) r (now (value .exit)) (now (out .exit)) ⌝ }
 {
     if value.len() != 16 {
         return 11;
@@ -41,7 +42,7 @@ pub extern "C" fn merinovault_pack(
         strict: strict,
         contained: contained,
     };
-    let a = pack::pack(sheet, mode, out);
+    let a = pack::pack(sheet, book, mode, out);
     fill_value(value, value_of(a), action_of(a));
     number_of(a)
 }

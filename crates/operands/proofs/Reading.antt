@@ -2,22 +2,26 @@
 use mathlib.Core.Path.{_≡_, refl, sym, ap, _∙_}
 use Prim.Native.Nat.{ℕ, zero, suc, _+_, _≤_, _<_}
 use native.Mathlib.Omega.{arith}
-use mathlib.Core.Bool.{Bool, true, false}
-use mathlib.Core.Option.{Option, none, some}
+use mathlib.Core.Bool.{Bool, true, false, false≢true, _&&_}
+use mathlib.Core.Option.{Option, none, some, Option·none-ne-some}
 use mathlib.Core.List.{List, [], _∷_}
 use lib.ListN.{length, getD, drop, length-drop}
 use lib.Seq.{length-take-le}
 use lib.Dec.{leb, eqb}
-use borrow.Author.Tests.{le-leb, lt-leb, lt-ltb, le-ltb, leb-true, leb-false}
+use borrow.Author.Tests.{le-leb, lt-leb, lt-ltb, le-ltb, eqb-true, eq-eqb}
 use Rattle.layout.specs.Numbers.{u16At}
-use Rattle.layout.specs.Answers.{Fault, CutShort, BadField}
-use Rattle.layout.specs.Read.{Text, plain, Terms, ahead, Place, placed, Stop, stop, got, bad, ifWhole, ifWithin, tested, firstZero, ifNoZero, readU8, readU16, readBytes, readFlag, readSpelling, readString, readLabel}
+use Rattle.layout.specs.Answers.{CutShort, BadField}
+use Rattle.layout.specs.Read.{plain, inBook, Words, Terms, ahead, placed, stop, got, bad, ifWhole, ifWithin, tested, firstZero, ifNoZero, readU8, readU16, readBytes, readFlag, readSpelling, readPlain, readWord, readText, readString, readLabel}
 use Rattle.layout.specs.Lengths.{stringLength}
 use Rattle.layout.specs.Pack.{spelling}
 use Rattle.fields.specs.Runs.{part, nulOr, firstNul}
 use Rattle.positions.specs.declared.Scan.the-variants as scan
 use Rattle.positions.specs.declared.Fault.the-variants as fault
 use Rattle.positions.specs.Scanned.{faultOf, scanned}
+use Rattle.positions.specs.declared.Scan.{Scan}
+use Rattle.editions.specs.Words.{wordsBy, wordsIf}
+use Rattle.editions.specs.Allowed.{termsOf}
+use Rattle.editions.specs.declared.Terms as code
 use Rattle.operands.specs.Operands.{stringSize}
 use Rattle.operands.proofs.Scans.{ends, stops}
 
@@ -116,88 +120,119 @@ zero-before m (zero ∷ s) z e =
     omega arith
 zero-before m (suc x ∷ s) z e = omega (arith, zero-before (suc m) s z e)
 
-module _ (b : List ℕ) (at : ℕ) (l : at + 2 + u16At b at ≤ length b) where
-  pub string-length : length (part b (at + 2) (u16At b at)) ≡ u16At b at
-  string-length = length-take-le (u16At b at) (drop (at + 2) b) (simp length-drop (omega arith))
+-- its bytes, n of them, none zero: here they have no length before them
+module _ (b : List ℕ) (at n : ℕ) where
+  pub spelling-out : length b < at + n → readSpelling b n (placed at) ≡ bad CutShort (stop (placed at))
+  unfolding readSpelling
+  spelling-out l = rw (bytes-out b at n l)
 
-  within : (z : ℕ) → firstZero 0 (part b (at + 2) (u16At b at)) ≡ some z → z < u16At b at
-  within z e = omega (arith, zero-before 0 (part b (at + 2) (u16At b at)) z e, string-length)
+  module _ (l : at + n ≤ length b) where
+    pub spelling-length : length (part b at n) ≡ n
+    spelling-length = length-take-le n (drop at b) (simp length-drop (omega arith))
 
+    within : (z : ℕ) → firstZero 0 (part b at n) ≡ some z → z < n
+    within z e = omega (arith, zero-before 0 (part b at n) z e, spelling-length)
+
+    pub spelling-nul : firstNul b at n < at + n → readSpelling b n (placed at) ≡ bad BadField (stop (placed (firstNul b at n)))
+    unfolding readSpelling ifNoZero firstNul
+    spelling-nul m =
+        let n = nul-at at n (firstZero 0 (part b at n)) within m in
+        go (n .0) (n .1) (n .2)
+      where
+        go : (z : ℕ) → firstZero 0 (part b at n) ≡ some z → nulOr at n (firstZero 0 (part b at n)) ≡ at + z
+            → readSpelling b n (placed at) ≡ bad BadField (stop (placed (nulOr at n (firstZero 0 (part b at n)))))
+        go z x y = rw (y, bytes-in b at n l, x)
+
+    pub spelling-in : at + n ≤ firstNul b at n → readSpelling b n (placed at) ≡ got (part b at n) (placed (at + n))
+    unfolding readSpelling ifNoZero firstNul
+    spelling-in m = rw (bytes-in b at n l, nul-none at n (firstZero 0 (part b at n)) within m)
+
+-- by its bytes
+module _ (b : List ℕ) (at n : ℕ) where
+  pub plain-out : length b < at + n → readPlain b n (placed at) ≡ bad CutShort (stop (placed at))
+  unfolding readPlain
+  plain-out l = rw (spelling-out b at n l)
+
+  module _ (l : at + n ≤ length b) where
+    pub plain-nul : firstNul b at n < at + n → readPlain b n (placed at) ≡ bad BadField (stop (placed (firstNul b at n)))
+    unfolding readPlain
+    plain-nul m = rw (spelling-nul b at n l m)
+
+    pub plain-in : at + n ≤ firstNul b at n → readPlain b n (placed at) ≡ got (plain (part b at n)) (placed (at + n))
+    unfolding readPlain
+    plain-in m = rw (spelling-in b at n l m)
+
+-- by the number of a word
+module _ (b : List ℕ) (ws : Words) (at : ℕ) where
+  pub word-out : length b < at + 2 → readWord b ws (placed at) ≡ bad CutShort (stop (placed at))
+  unfolding readWord tested
+  word-out h = rw (u16-out b at h)
+
+  pub word-past : at + 2 ≤ length b → length ws ≤ u16At b at → readWord b ws (placed at) ≡ bad BadField (stop (placed at))
+  unfolding readWord tested ifWithin
+  word-past h m = rw (u16-in b at h, le-ltb (u16At b at) (length ws) m)
+
+  pub word-in : at + 2 ≤ length b → u16At b at < length ws → readWord b ws (placed at) ≡ got (inBook (u16At b at) (getD ws (u16At b at) [])) (placed (at + 2))
+  unfolding readWord tested ifWithin
+  word-in h m = rw (u16-in b at h, lt-ltb (u16At b at) (length ws) m)
+
+-- which of the two it is
 module _ (k : Terms) (b : List ℕ) (at : ℕ) where
   pub string-out : length b < at + 2 → readString k b (placed at) ≡ bad CutShort (stop (placed at))
   unfolding readString
   string-out h = rw (u16-out b at h)
 
-  module _ (h : at + 2 ≤ length b) where
-    pub string-short : length b < at + 2 + u16At b at → readString k b (placed at) ≡ bad CutShort (stop (placed (at + 2)))
-    unfolding readString readSpelling
-    string-short l = rw (u16-in b at h, bytes-out b (at + 2) (u16At b at) l)
+  text-is : at + 2 ≤ length b → readString k b (placed at) ≡ readText b (k .words) (eqb (u16At b at) 65535) (u16At b at) (placed (at + 2))
+  unfolding readString
+  text-is h = rw (u16-in b at h)
 
-    module _ (l : at + 2 + u16At b at ≤ length b) where
-      pub string-nul : firstNul b (at + 2) (u16At b at) < at + 2 + u16At b at
-          → readString k b (placed at) ≡ bad BadField (stop (placed (firstNul b (at + 2) (u16At b at))))
-      unfolding readString readSpelling ifNoZero firstNul
-      string-nul m =
-          let n = nul-at (at + 2) (u16At b at) (firstZero 0 (part b (at + 2) (u16At b at))) (within b at l) m in
-          go (n .0) (n .1) (n .2)
-        where
-          go : (z : ℕ) → firstZero 0 (part b (at + 2) (u16At b at)) ≡ some z → nulOr (at + 2) (u16At b at) (firstZero 0 (part b (at + 2) (u16At b at))) ≡ at + 2 + z
-              → readString k b (placed at) ≡ bad BadField (stop (placed (nulOr (at + 2) (u16At b at) (firstZero 0 (part b (at + 2) (u16At b at))))))
-          go z x y = rw (y, u16-in b at h, bytes-in b (at + 2) (u16At b at) l, x)
+  pub string-word : (ws : Words) → at + 2 ≤ length b → k .words ≡ some ws → u16At b at ≡ 65535 → readString k b (placed at) ≡ readWord b ws (placed (at + 2))
+  string-word ws h e n = text-is h ∙ (unfold readText in rw (e, n))
 
-      pub string-in : at + 2 + u16At b at ≤ firstNul b (at + 2) (u16At b at)
-          → readString k b (placed at) ≡ got (plain (part b (at + 2) (u16At b at))) (placed (at + 2 + u16At b at))
-      unfolding readString readSpelling ifNoZero firstNul
-      string-in m = rw (u16-in b at h, bytes-in b (at + 2) (u16At b at) l, nul-none (at + 2) (u16At b at) (firstZero 0 (part b (at + 2) (u16At b at))) (within b at l) m)
+  pub string-plain : at + 2 ≤ length b → (u16At b at ≡ 65535 → k .words ≡ none) → readString k b (placed at) ≡ readPlain b (u16At b at) (placed (at + 2))
+  string-plain h e = text-is h ∙ go (k .words) (eqb (u16At b at) 65535) refl refl
+    where
+      go : (o : Option Words) (t : Bool) → k .words ≡ o → eqb (u16At b at) 65535 ≡ t → readText b o t (u16At b at) (placed (at + 2)) ≡ readPlain b (u16At b at) (placed (at + 2))
+      go none t f g = unfold readText in refl
+      go (some ws) true f g = absurd (Option·none-ne-some ws (sym (e (eqb-true _ _ g)) ∙ f))
+      go (some ws) false f g = unfold readText in refl
 
--- a string that was read has the length that stands before it
-module _ (k : Terms) (b : List ℕ) (at : ℕ) {s : Text} {q : Place} (e : readString k b (placed at) ≡ got s q) where
-  abbrev Told : Type 0
-  Told = (at + 2 ≤ length b) × (stringSize s ≡ u16At b at + 1)
-
-  no : {f : Fault} {p : Stop} → readString k b (placed at) ≡ bad f p → Told
-  no g =
-      let z : _≡_ {A = ℕ} 0 1 = cc in
-      absurd (omega arith)
-
-  text : (t : Text) (p : Place) → readString k b (placed at) ≡ got t p → at + 2 ≤ length b → length (spelling t) ≡ u16At b at → Told
-  unfolding stringSize stringLength
-  text t p g h l =
-      let m : t ≡ s = cc in
-      (h, rw (← m, l))
-
-  module _ (h : at + 2 ≤ length b) where
-    none-zero : (t : Bool) → at + 2 + u16At b at ≤ length b → leb (at + 2 + u16At b at) (firstNul b (at + 2) (u16At b at)) ≡ t → Told
-    unfolding spelling
-    none-zero true l m = text _ _ (string-in k b at h l (leb-true _ _ m)) h (string-length b at l)
-    none-zero false l m = no (string-nul k b at h l (leb-false _ _ m))
-
-    not-cut : (t : Bool) → leb (at + 2 + u16At b at) (length b) ≡ t → Told
-    not-cut true l = none-zero (leb (at + 2 + u16At b at) (firstNul b (at + 2) (u16At b at))) (leb-true _ _ l) refl
-    not-cut false l = no (string-short k b at h (leb-false _ _ l))
-
-  counted : (t : Bool) → leb (at + 2) (length b) ≡ t → Told
-  counted true h = not-cut (leb-true _ _ h) (leb (at + 2 + u16At b at) (length b)) refl
-  counted false h = no (string-out k b at (leb-false _ _ h))
-
-  pub string-read : (at + 2 ≤ length b) × (stringSize s ≡ u16At b at + 1)
-  string-read = counted (leb (at + 2) (length b)) refl
-
--- as the code answers, which holds the length in n and the zero byte's place in z
-module _ (k : Terms) (b : List ℕ) (at pos n : ℕ) (h : at + 2 ≤ length b) (e : n ≡ u16At b at) where
-  pub scan-short : length b < at + 2 + n → scan.Stops fault.CutShort (at + 2) ≡ scanned stringSize pos (readString k b (placed at))
+-- as the code answers, which holds the zero byte's place in z
+module _ (b : List ℕ) (at pos n z : ℕ) (l : at + n ≤ length b) (f : z ≡ firstNul b at n) where
+  pub scan-nul : z < at + n → scan.Stops fault.BadField z ≡ scanned stringSize pos (readPlain b n (placed at))
   unfolding faultOf
-  scan-short l = stops stringSize pos (string-short k b at h (omega arith))
+  scan-nul m = stops stringSize pos (plain-nul b at n l (omega arith) ∙ ap (λ (x : ℕ). bad BadField (stop (placed x))) (sym f))
 
-  module _ (z : ℕ) (l : at + 2 + n ≤ length b) (f : z ≡ firstNul b (at + 2) n) where
-    pub scan-nul : z < at + 2 + n → scan.Stops fault.BadField z ≡ scanned stringSize pos (readString k b (placed at))
-    unfolding faultOf
-    scan-nul m =
-        let g : z ≡ firstNul b (at + 2) (u16At b at) = rw (← e) f in
-        stops stringSize pos (string-nul k b at h (omega arith) (omega arith) ∙ ap (λ (x : ℕ). bad BadField (stop (placed x))) (sym g))
+  pub scan-text : at + n ≤ z → scan.Ends (at + n) (record { 0 = pos + (n + 1) }) ≡ scanned stringSize pos (readPlain b n (placed at))
+  unfolding stringSize stringLength spelling
+  scan-text m = ends stringSize pos (plain-in b at n l (omega arith)) (omega (arith, spelling-length b at n l))
 
-    pub scan-text : at + 2 + n ≤ z → scan.Ends (at + 2 + n) (record { 0 = pos + (n + 1) }) ≡ scanned stringSize pos (readString k b (placed at))
-    unfolding stringSize stringLength spelling
-    scan-text m =
-        let g : z ≡ firstNul b (at + 2) (u16At b at) = rw (← e) f in
-        rw e (ends stringSize pos (string-in k b at h (omega arith) (omega arith)) (omega (arith, string-length b at (omega arith))))
+-- and the length of the word in n
+module _ (b : List ℕ) (ws : Words) (at pos i n : ℕ) (h : at + 2 ≤ length b) (e : i ≡ u16At b at) where
+  pub scan-past : length ws ≤ i → scan.Stops fault.BadField at ≡ scanned stringSize pos (readWord b ws (placed at))
+  unfolding faultOf
+  scan-past m = stops stringSize pos (word-past b ws at h (omega arith))
+
+  pub scan-named : i < length ws → n ≡ length (getD ws i []) → scan.Ends (at + 2) (record { 0 = pos + (n + 1) }) ≡ scanned stringSize pos (readWord b ws (placed at))
+  unfolding stringSize stringLength spelling
+  scan-named m k = ends stringSize pos (word-in b ws at h (omega arith)) (ap (λ (x : ℕ). pos + (x + 1)) (k ∙ ap (λ (j : ℕ). length (getD ws j [])) e))
+
+-- as the code chooses, which holds the length in n and gives r
+module _ (b : List ℕ) (at pos n : ℕ) (t : code.Terms) (e index : List ℕ) (r : Scan) (h : at + 2 ≤ length b) (k : n ≡ u16At b at) where
+  pub as-word : (t .«names_words» && eqb n 65535) ≡ true → r ≡ scanned stringSize pos (readWord b (wordsBy e index (t .«word_count»)) (placed (at + 2)))
+      → r ≡ scanned stringSize pos (readString (termsOf t e index) b (placed at))
+  as-word g f = f ∙ ap (scanned stringSize pos) (sym (go (t .«names_words») (eqb n 65535) refl refl g))
+    where
+      go : (x y : Bool) → t .«names_words» ≡ x → eqb n 65535 ≡ y → (x && y) ≡ true → readString (termsOf t e index) b (placed at) ≡ readWord b (wordsBy e index (t .«word_count»)) (placed (at + 2))
+      go true true i j l = string-word (termsOf t e index) b at (wordsBy e index (t .«word_count»)) h (unfold wordsIf in rw i) (sym k ∙ eqb-true _ _ j)
+      go true false i j l = cc
+      go false y i j l = cc
+
+  pub as-plain : (t .«names_words» && eqb n 65535) ≡ false → r ≡ scanned stringSize pos (readPlain b n (placed (at + 2)))
+      → r ≡ scanned stringSize pos (readString (termsOf t e index) b (placed at))
+  as-plain g f = f ∙ ap (scanned stringSize pos) (ap (λ (x : ℕ). readPlain b x (placed (at + 2))) k ∙ sym (string-plain (termsOf t e index) b at h (go (t .«names_words») (eqb n 65535) refl refl g)))
+    where
+      go : (x y : Bool) → t .«names_words» ≡ x → eqb n 65535 ≡ y → (x && y) ≡ false → u16At b at ≡ 65535 → wordsIf (t .«names_words») (wordsBy e index (t .«word_count»)) ≡ none
+      go true true i j l z = cc
+      go true false i j l z = absurd (false≢true (sym j ∙ eq-eqb _ _ (k ∙ z)))
+      go false y i j l z = unfold wordsIf in rw i

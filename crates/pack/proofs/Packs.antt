@@ -8,15 +8,16 @@ use mathlib.Core.Option.{Option, none, some}
 use mathlib.Core.List.{List, [], _∷_}
 use lib.IntN.{pos}
 use lib.ListN.{length, getD, take, drop, replicate, length-replicate}
-use Rattle.layout.specs.Answers.{Refusal, SheetTooLong, BadTrailer, ReadingFault, ActionLenOverflow, BlockLenOverflow, Refused, refusalNumber, refusalValue, refusalAction}
+use Rattle.layout.specs.Answers.{Refusal, SheetTooLong, BadTrailer, BadBook, ReadingFault, ActionLenOverflow, BlockLenOverflow, Refused, refusalNumber, refusalValue, refusalAction}
 use Rattle.layout.specs.Answers as answers
 use Rattle.layout.specs.Tree.{Actions}
-use Rattle.layout.specs.Read.{Terms, deepest, readMain}
+use Rattle.layout.specs.Read.{Words, Terms, edition1, edition2, edition3, deepest, readMain}
 use Rattle.layout.specs.Write.{Event, labelAt, branchAt, payloadTooLong, bodyTooLong, events, lookup}
 use Rattle.layout.specs.Judge.{orElse, tooLong, Mode, badBranch, judge}
-use Rattle.layout.specs.Pack.{blockIn, packTree, editionTerms, packRead, packCut, pack, Outcome}
+use Rattle.layout.specs.Book.{bookOf}
+use Rattle.layout.specs.Pack.{blockIn, packTree, editionTerms, packRead, packBy, packCut, pack, Outcome}
 use Rattle.layout.specs.Order.{uncut-first, long-first, branch-next, room-last}
-use Rattle.layout.specs.Cut.{uncut, cut}
+use Rattle.layout.specs.Cut.{First, Second, Third, uncut, cut}
 use Rattle.laws.specs.Modes.{none-far}
 use Rattle.laws.specs.Packed.{ReadsMain}
 use Rattle.positions.specs.declared.ActionNumber.{ActionNumber}
@@ -41,7 +42,7 @@ use Rattle.judge.specs.declared.Verdict.the-variants as verdict
 use Rattle.answer.specs.Answered.{number, value, action, Answered}
 use Rattle.if_room.specs.Near.{MainNear, MainAnswered}
 use Rattle.if_room.proofs.Nears.{refused, answered-by}
-use Rattle.pack.specs.Steps.{TellsFault, TellsBranch, MainShort, TreePacked, TablesLent, ReadPacked}
+use Rattle.pack.specs.Steps.{TellsFault, TellsBranch, MainShort, TreePacked, TablesLent, ReadPacked, EditionPacked}
 use Rattle.answer.specs.declared.Answer.{Answer}
 use Rattle.answer.specs.declared.Answer.the-variants as answer
 
@@ -189,26 +190,52 @@ zeros-lent terms mode n m few h k = record {
   lent = λ e. omega (arith, k e, length-replicate {A = ℕ} m 0);
 }
 
+-- ---- a main body, by its edition
+
+-- by terms that are the same
+pub by-terms : (k k′ : Terms) (mode : Mode) (start : ℕ) (b o after : List ℕ) (r : Answer) → ReadPacked k mode start b o r after → k ≡ k′ → ReadPacked k′ mode start b o r after
+by-terms k k′ mode start b o after r h e = subst (λ (x : Terms). ReadPacked x mode start b o r after) e h
+
+module _ (book : List ℕ) (mode : Mode) (start : ℕ) (b o after : List ℕ) (r : Answer) where
+  -- Editions 1 and 2 have their terms, whatever the book.
+  pub first-packed : ReadPacked edition1 mode start b o r after → EditionPacked First book mode start b o r after
+  unfolding editionTerms packBy
+  first-packed h = h
+
+  pub second-packed : ReadPacked edition2 mode start b o r after → EditionPacked Second book mode start b o r after
+  unfolding editionTerms packBy
+  second-packed h = h
+
+  -- Edition 3 has the words of the book.
+  pub third-packed : (ws : Words) → bookOf book ≡ some ws → ReadPacked (edition3 ws) mode start b o r after → EditionPacked Third book mode start b o r after
+  unfolding editionTerms packBy
+  third-packed ws e h = rw e h
+
+-- Where it is ill formed, 18 is the answer.
+pub ill-packed : (book : List ℕ) (mode : Mode) (start : ℕ) (b o : List ℕ) → bookOf book ≡ none → EditionPacked Third book mode start b o answer.BadBook o
+unfolding editionTerms packBy number value action refusalNumber refusalValue refusalAction
+ill-packed book mode start b o e = refused BadBook o answer.BadBook (rw e) refl refl refl
+
 -- ---- a sheet, by its cut
 
-module _ (s : List ℕ) (c : CutMain) (e : cuts.said s c ≡ cut s) (mode : Mode) (o : List ℕ) where
+module _ (s book : List ℕ) (c : CutMain) (e : cuts.said s c ≡ cut s) (mode : Mode) (o : List ℕ) where
   -- What the cut refuses is the answer: 1 and 2.
-  cut-refused : (y : Refusal) (r : Answer) → cuts.said s c ≡ uncut y → number r ≡ refusalNumber y → value r ≡ refusalValue y → action r ≡ refusalAction y → Outcome mode s o (number r) (value r) (action r) o
+  cut-refused : (y : Refusal) (r : Answer) → cuts.said s c ≡ uncut y → number r ≡ refusalNumber y → value r ≡ refusalValue y → action r ≡ refusalAction y → Outcome mode s book o (number r) (value r) (action r) o
   cut-refused y r k n v i =
-      let a = refused y o r (uncut-first mode s (length o) y (sym e ∙ k)) n v i in
+      let a = refused y o r (uncut-first mode s book (length o) y (sym e ∙ k)) n v i in
       record { told = a .told; holds = a .holds }
 
-  pub cut-long : (n : ℕ) → c ≡ cutMain.SheetTooLong n → Outcome mode s o (number (answer.SheetTooLong n)) (value (answer.SheetTooLong n)) (action (answer.SheetTooLong n)) o
+  pub cut-long : (n : ℕ) → c ≡ cutMain.SheetTooLong n → Outcome mode s book o (number (answer.SheetTooLong n)) (value (answer.SheetTooLong n)) (action (answer.SheetTooLong n)) o
   unfolding cuts.said number value action refusalNumber refusalValue refusalAction
   cut-long n k = cut-refused (SheetTooLong n) (answer.SheetTooLong n) (rw k) refl refl refl
 
-  pub cut-bad : c ≡ cutMain.BadTrailer → Outcome mode s o (number answer.BadTrailer) (value answer.BadTrailer) (action answer.BadTrailer) o
+  pub cut-bad : c ≡ cutMain.BadTrailer → Outcome mode s book o (number answer.BadTrailer) (value answer.BadTrailer) (action answer.BadTrailer) o
   unfolding cuts.said number value action refusalNumber refusalValue refusalAction
   cut-bad k = cut-refused BadTrailer answer.BadTrailer (rw k) refl refl refl
 
   -- The answer to its main body is the answer to the sheet.
   pub cut-packed : (edition : Edition) (start end : ℕ) → c ≡ cutMain.Main edition start end → (r : Answer) (after : List ℕ)
-      → ReadPacked (editionTerms (meant-edition edition)) mode start (take (end - start) (drop start s)) o r after → Outcome mode s o (number r) (value r) (action r) after
+      → EditionPacked (meant-edition edition) book mode start (take (end - start) (drop start s)) o r after → Outcome mode s book o (number r) (value r) (action r) after
   unfolding pack packCut
   cut-packed edition start end k r after p =
       let i = is-cut s c e edition start end k in

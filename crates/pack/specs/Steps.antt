@@ -8,7 +8,9 @@ use Rattle.layout.specs.Answers.{Told, lengthOf, Refused, ReadingFault}
 use Rattle.layout.specs.Read.{Terms, deepest, readMain}
 use Rattle.layout.specs.Write.{events}
 use Rattle.layout.specs.Judge.{tooLong, Mode}
-use Rattle.layout.specs.Pack.{packTree, packRead}
+use Rattle.layout.specs.Cut.{Edition}
+use Rattle.layout.specs.Book.{bookOf}
+use Rattle.layout.specs.Pack.{packTree, editionTerms, packRead, packBy}
 use Rattle.positions.specs.declared.ActionNumber.{ActionNumber}
 use Rattle.positions.specs.declared.BytePosition.{BytePosition}
 use Rattle.positions.specs.declared.Fault.{Fault}
@@ -51,3 +53,7 @@ pub record TablesLent (terms : Terms) (mode : Mode) (tab homes : List ℕ) : Typ
 -- what is left of a main body that starts at `start` in its sheet: the packer's answer to what is read of it
 abbrev pub ReadPacked : Terms → Mode → ℕ → List ℕ → List ℕ → Answer → List ℕ → Type 0
 ReadPacked terms mode start b old r new = Answered (packRead mode start (readMain terms b deepest) (length old)) old r new
+
+-- of an edition, with a book
+abbrev pub EditionPacked : Edition → List ℕ → Mode → ℕ → List ℕ → List ℕ → Answer → List ℕ → Type 0
+EditionPacked edition book mode start b old r new = Answered (packBy mode (editionTerms edition (bookOf book)) start b (length old)) old r new

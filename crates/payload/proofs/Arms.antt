@@ -1,6 +1,6 @@
 -- What each arm of the match on the opcode says of its action. Assumes nothing.
 use mathlib.Core.Path.{_≡_, refl, sym, ap, _∙_, subst}
-use Prim.Native.Nat.{ℕ, zero, suc, _+_, _≤_, _<_}
+use Prim.Native.Nat.{ℕ, zero, suc, _+_, _*_, _≤_, _<_}
 use native.Mathlib.Omega.{arith}
 use native.Mathlib.Nat.{add-zero}
 use mathlib.Core.Bool.{Bool, true, false, false≢true, _||_, _&&_}
@@ -13,15 +13,16 @@ use Rattle.layout.specs.Lists.{each, pick, firstWith}
 use Rattle.layout.specs.OpCode.{OpCode, SmallOpCode, smallByte, byte, smallOpCodes, opcodes, opcodeOf}
 use Rattle.layout.specs.Tree.{FlatOf, Small, GotoFrame, GetUrl, StoreRegister, ConstantPool, WaitForFrame, SetTarget, GotoLabel, WaitForFrame2, Push, GetUrl2, GotoFrame2, OwnerOf, With, DefineFunction, DefineFunction2, Jump, If, PushValueOf, FunctionParamOf, ActionOf, flat, owner, ActionsOf, count}
 use Rattle.layout.specs.Read.{Text, Terms, Place, placed, Read, got, bad, Reader, chain, tested, readU8, readU16, readBytes, readFlag, readString, readCounted, readValue, readParam, readLabel, readFields, readFieldsIf}
-use Rattle.layout.specs.Strings.{mapFlat, mapValue, mapParam, mapOwner, mapAction}
+use Rattle.layout.specs.Strings.{mapFlat, mapValue, mapOwner, mapAction}
 use Rattle.layout.specs.Payload.{opcode, payload, headed, framed}
 use Rattle.layout.specs.Numbers.{le16}
 use Rattle.layout.specs.Write.{size, position, homeIn, trace, payloadTest, eventIf}
-use Rattle.layout.specs.Lengths.{total, stringLength, paramLength, pushLength, payloadLength, ownerLength, gotoFrame2Length}
+use Rattle.layout.specs.Lengths.{total, stringLength, pushLength, payloadLength, ownerLength, gotoFrame2Length}
 use Rattle.layout.specs.Pack.{spelling}
-use Rattle.laws.specs.Fits.{Bytes, Clean, ParamFits}
-use Rattle.laws.specs.ReadFits.{Good, fine, good-then, good-got, u8-good, u16-good, tested-good, text-good, param-good, counted-good}
-use Rattle.laws.specs.Packed.{spells}
+use Rattle.laws.specs.Fits.{Bytes}
+use Rattle.laws.specs.ReadFits.{Good, fine, good-then, good-got, u8-good, u16-good, tested-good}
+use Rattle.laws.specs.Books.{WordsShort}
+use Rattle.laws.specs.Shares.{text-most, strings-most, params-most}
 use Rattle.laws.specs.Begun.{Fields, OfFields, fields-next, tested-fields, u8-fields, u16-fields, flag-fields, counted-fields, string-fields, value-fields, param-fields, label-fields}
 use Rattle.positions.specs.Scanned.{faultOf, scanned}
 use Rattle.operands.specs.Operands.{stringSize}
@@ -36,7 +37,7 @@ use Rattle.measure.specs.Walk.{state, notedIf, noteAll, run, outcome, branches,
 use Rattle.measure.proofs.Runs.{noted-short, outcome-got, measured-got}
 use Rattle.labels.specs.Table.{recordAll, recorded}
 use Rattle.positions.specs.declared.Fault.the-variants as fault
-use Rattle.action_fields.proofs.Steps.{total-each, strings-total, scanned-list, named-plain}
+use Rattle.action_fields.proofs.Steps.{strings-total, scanned-list, named-plain}
 use Rattle.payload.proofs.Branches.{label-here}
 use Rattle.measure.proofs.Tries.{lay-try}
 use Rattle.measure.proofs.Layings.{Long, lay-long, lay-flat, lay-branch, owning, IsFunction, lay-function}
@@ -206,23 +207,23 @@ module _ (terms : Terms) (b : List ℕ) (p : Place) where
       ends-with IsFunction (readU8 b q) _ (λ k q y z. gives IsFunction (tested (λ f. ltb f 512) (readU16 b) q) (DefineFunction2 s ps k) (λ f. tt) y z) y z) y z) o q e
 
   -- their places lie within
-  function-good : (small : Bytes b) → p .at ≤ length b → Good (length b) (λ o q. (ownerSize o + p .at ≤ q .at + 4) × (p .at ≤ q .at)) (readFunction terms b p)
+  function-good : (small : Bytes b) → WordsShort terms → p .at ≤ length b → Good (length b) (λ o q. (ownerSize o + 65536 * p .at ≤ 65536 * q .at + 4) × (p .at ≤ q .at)) (readFunction terms b p)
   unfolding readFunction ownerSize mapOwner ownerLength stringLength
-  function-good small l =
-      good-then (text-good terms b small spelling (Unit {0}) (spells b small terms) p l)
-      (λ s q h m. good-then (counted-good terms b small spelling (Unit {0}) (spells b small terms) (λ t. Clean (spelling t)) (λ t. stringLength (spelling t)) (readString terms b) (text-good terms b small spelling (Unit {0}) (spells b small terms)) q m)
-      (λ ps r g j. fine {a = DefineFunction s ps} {p = r} (omega (arith, h .1 tt, g .2 tt, total-each spelling stringLength ps), omega (arith, h .2, g .3)) j))
+  function-good small short l =
+      good-then (text-most terms b small short p l)
+      (λ s q h m. good-then (strings-most terms b small short q m)
+      (λ ps r g j. fine {a = DefineFunction s ps} {p = r} (omega (arith, h .0, g .0), omega (arith, h .1, g .1)) j))
 
-  function2-good : (small : Bytes b) → p .at ≤ length b → Good (length b) (λ o q. (ownerSize o + p .at ≤ q .at + 4) × (p .at ≤ q .at)) (readFunction2 terms b p)
+  function2-good : (small : Bytes b) → WordsShort terms → p .at ≤ length b → Good (length b) (λ o q. (ownerSize o + 65536 * p .at ≤ 65536 * q .at + 4) × (p .at ≤ q .at)) (readFunction2 terms b p)
   unfolding readFunction2 ownerSize mapOwner ownerLength stringLength
-  function2-good small l =
-      good-then (text-good terms b small spelling (Unit {0}) (spells b small terms) p l)
-      (λ s p₁ h₁ l₁. good-then (counted-good terms b small spelling (Unit {0}) (spells b small terms) (λ x. ParamFits (mapParam spelling x)) (λ x. paramLength (mapParam spelling x)) (readParam terms b) (param-good terms b small spelling (Unit {0}) (spells b small terms)) p₁ l₁)
+  function2-good small short l =
+      good-then (text-most terms b small short p l)
+      (λ s p₁ h₁ l₁. good-then (params-most terms b small short p₁ l₁)
       (λ ps p₂ h₂ l₂. good-then (u8-good b small p₂ l₂) (λ k p₃ h₃ l₃. good-then (tested-good b small (λ f. ltb f 512) (readU16 b) p₃ l₃ (u16-good b small p₃ l₃))
-      (λ f p₄ h₄ l₄. fine {a = DefineFunction2 s ps k f} {p = p₄} (omega (arith, h₁ .1 tt, h₂ .2 tt, h₃ .1, h₄ .0 .1, total-each (mapParam spelling) paramLength ps), omega (arith, h₁ .2, h₂ .3, h₃ .1, h₄ .0 .1)) l₄))))
+      (λ f p₄ h₄ l₄. fine {a = DefineFunction2 s ps k f} {p = p₄} (omega (arith, h₁ .0, h₂ .0, h₃ .1, h₄ .0 .1), omega (arith, h₁ .1, h₂ .1, h₃ .1, h₄ .0 .1)) l₄))))
 
   -- so that a body after them lies onward
-  owner-onward : (at : ℕ) (o : OwnerOf Text) (q : Place) → ((ownerSize o + p .at ≤ q .at + 4) × (p .at ≤ q .at)) × (q .at ≤ length b) → p .at ≡ at + 1
+  owner-onward : (at : ℕ) (o : OwnerOf Text) (q : Place) → ((ownerSize o + 65536 * p .at ≤ 65536 * q .at + 4) × (p .at ≤ q .at)) × (q .at ≤ length b) → p .at ≡ at + 1
       → (pos : ℕ) → Onward at (length b) pos (q .at) (pos + 3 + ownerSize o)
   owner-onward at o q g e pos = record { beyond = omega (arith, g .0 .1, e); within = g .1; written = omega (arith, g .0 .0, g .0 .1, e) }
 
@@ -325,14 +326,14 @@ module _ (terms : Terms) (b : List ℕ) (op at pos number : ℕ) (over : List �
   arm-push over′ w o h e m n =
       named 0x96 OpCode.Push over′ (codes .11) o (lay-long (fieldsOf OpCode.Push) Push at (length b) pos number over (total valueSize) w (λ vs. omega (arith, h, values-total vs)) (readCounted b (readValue terms b) (placed (at + 1))) (counted-fields b (readValue terms b) (value-fields terms b) (placed (at + 1))) (λ inner. refl) (λ a q g. refl) over′ r l e m n)
 
-  module _ (small : Bytes b) (inside : at + 1 ≤ length b) where
+  module _ (small : Bytes b) (short : WordsShort terms) (inside : at + 1 ≤ length b) where
     pub arm-define-function : (over′ : List ℕ) → op ≡ 0x9B → r ≡ scanned ownerSize (pos + 3) (readFunction terms b (placed (at + 1))) → l ≡ laidFunction r → over′ ≡ notedFrom (pos + 3) number r over → Here over′
     arm-define-function over′ o e m n =
-        named 0x9B OpCode.DefineFunction over′ (codes .14) o (lay-function (fieldsOf OpCode.DefineFunction) (readFunction terms b (placed (at + 1))) (function-fields terms b (placed (at + 1))) at (length b) pos number (λ x q g. (function-is terms b (placed (at + 1)) x q g, owner-onward terms b (placed (at + 1)) at x q (good-got x q (function-good terms b (placed (at + 1)) small inside) g) refl pos)) (function-own terms b (placed (at + 1))) over over′ r l e m n)
+        named 0x9B OpCode.DefineFunction over′ (codes .14) o (lay-function (fieldsOf OpCode.DefineFunction) (readFunction terms b (placed (at + 1))) (function-fields terms b (placed (at + 1))) at (length b) pos number (λ x q g. (function-is terms b (placed (at + 1)) x q g, owner-onward terms b (placed (at + 1)) at x q (good-got x q (function-good terms b (placed (at + 1)) small short inside) g) refl pos)) (function-own terms b (placed (at + 1))) over over′ r l e m n)
 
     pub arm-define-function-2 : (over′ : List ℕ) → op ≡ 0x8E → r ≡ scanned ownerSize (pos + 3) (readFunction2 terms b (placed (at + 1))) → l ≡ laidFunction r → over′ ≡ notedFrom (pos + 3) number r over → Here over′
     arm-define-function-2 over′ o e m n =
-        named 0x8E OpCode.DefineFunction2 over′ (codes .8) o (lay-function (fieldsOf OpCode.DefineFunction2) (readFunction2 terms b (placed (at + 1))) (function2-fields terms b (placed (at + 1))) at (length b) pos number (λ x q g. (function2-is terms b (placed (at + 1)) x q g, owner-onward terms b (placed (at + 1)) at x q (good-got x q (function2-good terms b (placed (at + 1)) small inside) g) refl pos)) (function2-own terms b (placed (at + 1))) over over′ r l e m n)
+        named 0x8E OpCode.DefineFunction2 over′ (codes .8) o (lay-function (fieldsOf OpCode.DefineFunction2) (readFunction2 terms b (placed (at + 1))) (function2-fields terms b (placed (at + 1))) at (length b) pos number (λ x q g. (function2-is terms b (placed (at + 1)) x q g, owner-onward terms b (placed (at + 1)) at x q (good-got x q (function2-good terms b (placed (at + 1)) small short inside) g) refl pos)) (function2-own terms b (placed (at + 1))) over over′ r l e m n)
 
 -- ---- branches
 
@@ -353,11 +354,11 @@ module _ (terms : Terms) (b : List ℕ) (op at pos number : ℕ) (over : List �
 -- ---- opcodes whose bodies follow at once, or that have no field
 
 module _ (terms : Terms) (b : List ℕ) (op at pos number : ℕ) (over : List ℕ) where
-  pub arm-try : Bytes b → at + 1 ≤ length b → (l : Laid) (over′ : List ℕ) → op ≡ 0x8F
+  pub arm-try : Bytes b → WordsShort terms → at + 1 ≤ length b → (l : Laid) (over′ : List ℕ) → op ≡ 0x8F
       → Tried (scanned caughtSize (pos + 3) (readCaught terms b (placed (at + 1)))) (bodiesAfter (getD b (at + 1) 0)) (pos + 3) number l over over′
       → Laying (terms .labelBound) (λ inner. readFieldsIf terms b inner (opcodeOf op) (placed at) (placed (at + 1))) at (length b) pos number over over′ l
   unfolding readFieldsIf
-  arm-try small inside l over′ o h = rw (o, codes .9) (lay-try terms b small at (at + 1) pos number refl inside over over′ l h)
+  arm-try small short inside l over′ o h = rw (o, codes .9) (lay-try terms b small short at (at + 1) pos number refl inside over over′ l h)
 
   pub arm-with : op ≡ 0x94 → at + 1 ≤ length b
       → Laying (terms .labelBound) (λ inner. readFieldsIf terms b inner (opcodeOf op) (placed at) (placed (at + 1))) at (length b) pos number over over (laid.Bodies (at + 1) (record { 0 = pos + 3 + 2 }) 1)

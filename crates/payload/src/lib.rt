@@ -1,14 +1,15 @@
 // What follows an opcode, as far as its bodies: read, checked and measured, with the first overflow noted.
 // `pos` is the position in the block that writing would have reached: after the header, where nothing else is said.
 ghost use mathlib.Core.Path.{_≡_};
+ghost use mathlib.Core.Option.{Option};
 ghost use Prim.Native.Nat.{_+_, _≤_, _<_};
 ghost use lib.ListN.{length, getD};
 ghost use Rattle.layout.specs.OpCode.{opcodeOf};
-ghost use Rattle.layout.specs.Read.{placed, readLabel, readFieldsIf};
+ghost use Rattle.layout.specs.Read.{Words, placed, readLabel, readFieldsIf};
 ghost use Rattle.positions.specs.Scanned.{scanned, Roomy};
 ghost use Rattle.measure.specs.Walk.{Laying, branchLaid, Tried};
 ghost use Rattle.action_fields.specs.Fields.{readCaught, caughtSize, bodiesAfter};
-ghost use Rattle.editions.specs.Allowed.{termsOf};
+ghost use Rattle.editions.specs.Allowed.{bounded, termsOf};
 use action_fields::scan_catch;
 use action_fields::scan_define_function;
 use action_fields::scan_define_function_2;
@@ -36,7 +37,7 @@ use positions::Scan;
 // Jump and If: a label.
 fn scan_branch(b: &[u8], terms: Terms, at: usize, pos: BytePosition) -> Laid
     requires { ⌜ Roomy (now b) at pos ⌝ }
-    ensures { λ l. ⌜ l ≡ branchLaid (pos .0) (readLabel (termsOf terms) (now (b .entry)) 0 (placed at)) ⌝ }
+    ensures { λ l. ⌜ ((o : Option Words) → l ≡ branchLaid (pos .0) (readLabel (bounded terms o) (now (b .entry)) 0 (placed at))) ⌝ }
 {
     match scan_label(b, terms, at, BytePosition(pos.0 + OpCode::U16_LEN)) {
         Scan::Stops(f, p) => Laid::Stops(f, p),
@@ -47,6 +48,8 @@ fn scan_branch(b: &[u8], terms: Terms, at: usize, pos: BytePosition) -> Laid
 // Try: one to three bodies follow, by its shape.
 fn scan_try(
     b: &[u8],
+    words: &[u8],
+    index: &[u32],
     terms: Terms,
     at: usize,
     pos: BytePosition,
@@ -54,9 +57,9 @@ fn scan_try(
     over: &mut [usize],
 ) -> Laid
     requires { ⌜ (length (now over) ≡ 3) × Roomy (now b) at pos ⌝ }
-    ensures { λ l. ⌜ Tried (scanned caughtSize (pos .0) (readCaught (termsOf terms) (now (b .entry)) (placed at))) (bodiesAfter (getD (now (b .entry)) at 0)) (pos .0) (action .0) l (now (over .entry)) (now (over .exit)) ⌝ }
+    ensures { λ l. ⌜ Tried (scanned caughtSize (pos .0) (readCaught (termsOf terms (now (words .entry)) (now (index .entry))) (now (b .entry)) (placed at))) (bodiesAfter (getD (now (b .entry)) at 0)) (pos .0) (action .0) l (now (over .entry)) (now (over .exit)) ⌝ }
 {
-    match scan_catch(b, terms, at, pos) {
+    match scan_catch(b, words, index, terms, at, pos) {
         Scan::Stops(f, p) => Laid::Stops(f, p),
         Scan::Ends(p, w) => {
             let shape = b[at] as usize;
@@ -75,6 +78,8 @@ fn scan_try(
 // of a byte ends at `byte`, one of a u16 at `word`; a list is measured from the end of a payload whose list is empty.
 pub fn scan_payload(
     b: &[u8],
+    words: &[u8],
+    index: &[u32],
     terms: Terms,
     op: u8,
     at: usize,
@@ -83,7 +88,7 @@ pub fn scan_payload(
     over: &mut [usize],
 ) -> Laid
     requires { ⌜ (128 ≤ op) × (at < length (now b)) × (length (now over) ≡ 3) × Roomy (now b) at pos ⌝ }
-    ensures { λ l. ⌜ Laying (termsOf terms .labelBound) (λ inner. readFieldsIf (termsOf terms) (now (b .entry)) inner (opcodeOf op) (placed at) (placed (at + 1))) at (length (now (b .entry))) (pos .0) (action .0) (now (over .entry)) (now (over .exit)) l ⌝ }
+    ensures { λ l. ⌜ Laying (terms .«label_bound») (λ inner. readFieldsIf (termsOf terms (now (words .entry)) (now (index .entry))) (now (b .entry)) inner (opcodeOf op) (placed at) (placed (at + 1))) at (length (now (b .entry))) (pos .0) (action .0) (now (over .entry)) (now (over .exit)) l ⌝ }
 {
     let p = at + 1;
     let w = BytePosition(pos.0 + OpCode::HEADER_LEN);
@@ -91,11 +96,19 @@ pub fn scan_payload(
     let word = BytePosition(w.0 + OpCode::U16_LEN);
     match op {
         OpCode::GOTO_FRAME => flat_payload(scan_bytes(b, p, 2, word)),
-        OpCode::GET_URL => long_payload(scan_get_url(b, terms, p, w), w, 0, action, over),
+        OpCode::GET_URL => long_payload(
+            scan_get_url(b, words, index, terms, p, w),
+            w,
+            0,
+            action,
+            over,
+        ),
         OpCode::STORE_REGISTER => flat_payload(scan_bytes(b, p, 1, byte)),
         OpCode::CONSTANT_POOL => long_payload(
             scan_strings(
                 b,
+                words,
+                index,
                 terms,
                 p,
                 0,
@@ -107,19 +120,38 @@ pub fn scan_payload(
             over,
         ),
         OpCode::WAIT_FOR_FRAME => flat_payload(scan_wait_for_frame(b, p, w)),
-        OpCode::SET_TARGET => long_payload(scan_string(b, terms, p, w), w, 0, action, over),
-        OpCode::GOTO_LABEL => long_payload(scan_string(b, terms, p, w), w, 0, action, over),
+        OpCode::SET_TARGET => long_payload(
+            scan_string(b, words, index, terms, p, w),
+            w,
+            0,
+            action,
+            over,
+        ),
+        OpCode::GOTO_LABEL => long_payload(
+            scan_string(b, words, index, terms, p, w),
+            w,
+            0,
+            action,
+            over,
+        ),
         OpCode::WAIT_FOR_FRAME2 => flat_payload(scan_bytes(b, p, 1, byte)),
         OpCode::DEFINE_FUNCTION2 => function_payload(
-            scan_define_function_2(b, terms, p, w),
+            scan_define_function_2(b, words, index, terms, p, w),
             w,
             action,
             over,
         ),
-        OpCode::TRY => scan_try(b, terms, p, w, action, over),
+        OpCode::TRY => scan_try(b, words, index, terms, p, w, action, over),
         OpCode::WITH => Laid::Bodies(p, word, 1),
         OpCode::PUSH => long_payload(
-            scan_push(b, terms, p, BytePosition(w.0 + OpCode::push_len(0))),
+            scan_push(
+                b,
+                words,
+                index,
+                terms,
+                p,
+                BytePosition(w.0 + OpCode::push_len(0)),
+            ),
             w,
             0,
             action,
@@ -128,7 +160,7 @@ pub fn scan_payload(
         OpCode::JUMP => scan_branch(b, terms, p, w),
         OpCode::GET_URL2 => flat_payload(scan_get_url_2(b, p, w)),
         OpCode::DEFINE_FUNCTION => function_payload(
-            scan_define_function(b, terms, p, w),
+            scan_define_function(b, words, index, terms, p, w),
             w,
             action,
             over,

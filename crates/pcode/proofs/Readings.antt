@@ -1,18 +1,27 @@
 -- What a reading that gives a value gives: the laws of the definitions' readers, each at a place p of the bytes b.
 -- Assumes nothing.
-use mathlib.Core.Path.{_≡_, refl, subst}
+use mathlib.Core.Path.{_≡_, refl, sym, subst, _∙_}
 use Prim.Native.Nat.{ℕ, _+_, _≤_, _<_}
-use mathlib.Core.Bool.{Bool, true, false}
+use native.Mathlib.Omega.{arith}
+use mathlib.Core.Bool.{Bool, true, false, _&&_}
 use mathlib.Core.Option.{Option, none, some}
 use mathlib.Core.List.{List}
 use lib.ListN.{length, getD}
 use lib.Dec.{leb, ltb, eqb}
 use borrow.Author.Tests.{leb-true, ltb-true}
+use Rattle.layout.specs.Lists.{pick}
 use Rattle.layout.specs.Numbers.{u16At, u32At, u64At}
 use Rattle.layout.specs.Answers.{Fault}
-use Rattle.layout.specs.Read.{plain, Terms, Place, placed, Stop, Read, got, bad, Reader, chain, moreBegun, ifWhole, ifWithin, tested, repeat, firstZero, ifNoZero, readU8, readU16, readU32, readU64, readBytes, readFlag, readSpelling, readCounted, readString}
+use Rattle.layout.specs.Pack as definition
+use Rattle.layout.specs.Read.{Place, placed, Stop, Read, got, bad, Reader, chain, moreBegun, ifWhole, ifWithin, tested, repeat, firstZero, ifNoZero, readU8, readU16, readU32, readU64, readBytes, readFlag, readSpelling, readPlain, readWord, readText, readCounted, readString}
 use Rattle.fields.specs.Runs.{part}
-use Rattle.pcode.specs.Shown.{spanAt, after}
+use Rattle.editions.specs.Words.{wordsBy, wordsIf}
+use Rattle.editions.specs.Allowed.{termsOf}
+use Rattle.editions.specs.declared.Terms as code-terms
+use Rattle.editions.proofs.Listed.{length-words, word-listed}
+use Rattle.words.specs.Found.{foundAt}
+use Rattle.words.proofs.Places.{found-at}
+use Rattle.pcode.specs.Shown.{bookSpan, plainSpan, spanAt, IsText}
 
 -- a reading refuses, or what it gives has the property
 pub data Gives {A : Type 0} (P : A → Place → Type 0) : Read A → Type 0 where
@@ -22,6 +31,10 @@ pub data Gives {A : Type 0} (P : A → Place → Type 0) : Read A → Type 0 whe
 -- the property of being the value x with the next place q, while X holds
 pub data Exactly (X : Type 0) {A : Type 0} (x : A) (q : Place) : A → Place → Type 0 where
   exactly : X → Exactly X x q x q
+
+-- the property of a value that has X, with the next place q
+pub data Behind {A : Type 0} (X : A → Type 0) (q : Place) : A → Place → Type 0 where
+  behind-it : {x : A} → X x → Behind X q x q
 
 module _ {A : Type 0} {P : A → Place → Type 0} where
   -- what was given has the property
@@ -40,6 +53,11 @@ module _ {A : Type 0} {P : A → Place → Type 0} where
   pub next : {B X : Type 0} {x : B} {q : Place} {m : Read B} (k : B → Reader A) → Gives (Exactly X x q) m → (X → Gives P (k x q)) → Gives P (chain m k)
   next k (gives (exactly h)) f = f h
   next k refuses f = refuses
+
+  -- a reading that ends just here, and then another
+  pub next-text : {B : Type 0} {X : B → Type 0} {q : Place} {m : Read B} (k : B → Reader A) → Gives (Behind X q) m → ((x : B) → X x → Gives P (k x q)) → Gives P (chain m k)
+  next-text k (gives (behind-it {x} h)) f = f x h
+  next-text k refuses f = refuses
 
   -- a reading whose value has a property, and then another
   pub then : {B : Type 0} {Q : B → Place → Type 0} {m : Read B} {k : B → Reader A} → Gives Q m → ((x : B) (q : Place) → Q x q → Gives P (k x q)) → Gives P (chain m k)
@@ -126,11 +144,49 @@ module _ (b : List ℕ) (p : ℕ) where
   unfolding readSpelling readBytes
   spelling n = next _ (whole (leb (p + n) (length b)) _ (leb-true _ _)) (λ l. noZero _ (firstZero 0 (part b p n)) l)
 
-module _ (terms : Terms) (b : List ℕ) (p : ℕ) where
+module _ (t : code-terms.Terms) (e index b : List ℕ) (p : ℕ) where
+  -- the span at p, by the code's test
+  pub span-word : (t .«names_words» && eqb (u16At b p) 65535) ≡ true
+      → spanAt t e index b p ≡ bookSpan (foundAt e index (t .«word_count») (u16At b (p + 2))) (p + 2 + 2)
+  unfolding spanAt pick
+  span-word h = rw h
+
+  pub span-plain : (t .«names_words» && eqb (u16At b p) 65535) ≡ false → spanAt t e index b p ≡ plainSpan (p + 2) (u16At b p)
+  unfolding spanAt pick
+  span-plain h = rw h
+
+  -- a word's bytes stand where it is found
+  word : Gives (Behind (IsText b e (bookSpan (foundAt e index (t .«word_count») (u16At b (p + 2))) (p + 2 + 2))) (placed (p + 2 + 2))) (readWord b (wordsBy e index (t .«word_count»)) (placed (p + 2)))
+  unfolding readWord definition.spelling
+  word =
+      next _ (passed b (p + 2) (λ i. ltb i (length (wordsBy e index (t .«word_count»)))) (readU16 b) (u16 b (p + 2))) (λ l.
+      let f = found-at e index (t .«word_count») (u16At b (p + 2)) in
+      let n : u16At b (p + 2) < t .«word_count» = rw (length-words e index (t .«word_count»)) at (ltb-true (u16At b (p + 2)) (length (wordsBy e index (t .«word_count»))) (l .1)) in
+      gives (behind-it (record { within = f .0; is = word-listed e index (t .«word_count») (u16At b (p + 2)) n ∙ sym (f .1); ends = l .0 })))
+
+  -- a plain string's behind its length
+  bytes : Gives (Behind (IsText b e (plainSpan (p + 2) (u16At b p))) (placed (p + 2 + u16At b p))) (readPlain b (u16At b p) (placed (p + 2)))
+  unfolding readPlain definition.spelling
+  bytes = next _ (spelling b (p + 2) (u16At b p)) (λ m. gives (behind-it (record { within = m; is = refl; ends = m })))
+
   -- a string, whose bytes are those of the span at p
-  pub string : Gives (Exactly (after (spanAt b p) ≤ length b) (plain (part b (p + 2) (u16At b p))) (placed (after (spanAt b p)))) (readString terms b (placed p))
-  unfolding readString
-  string = next _ (u16 b p) (λ l. next _ (spelling b (p + 2) (u16At b p)) (λ m. gives (exactly m)))
+  pub string : Gives (Behind (IsText b e (spanAt t e index b p)) (placed (spanAt t e index b p .next))) (readString (termsOf t e index) b (placed p))
+  unfolding readString readText wordsIf
+  string = next _ (u16 b p) (λ l. go (t .«names_words») (eqb (u16At b p) 65535) refl refl)
+    where
+      go : (x y : Bool) → t .«names_words» ≡ x → eqb (u16At b p) 65535 ≡ y
+          → Gives (Behind (IsText b e (spanAt t e index b p)) (placed (spanAt t e index b p .next))) (readText b (wordsIf (t .«names_words») (wordsBy e index (t .«word_count»))) (eqb (u16At b p) 65535) (u16At b p) (placed (p + 2)))
+      go true true i j = let h : (t .«names_words» && eqb (u16At b p) 65535) ≡ true = rw (i, j) in rw (span-word h, i, j) word
+      go true false i j = let h : (t .«names_words» && eqb (u16At b p) 65535) ≡ false = rw (i, j) in rw (span-plain h, i, j) bytes
+      go false y i j = let h : (t .«names_words» && eqb (u16At b p) 65535) ≡ false = rw i in rw (span-plain h, i) bytes
+
+  -- the length stands before the end
+  pub span-least : p + 2 ≤ spanAt t e index b p .next
+  span-least = go (t .«names_words» && eqb (u16At b p) 65535) refl
+    where
+      go : (x : Bool) → (t .«names_words» && eqb (u16At b p) 65535) ≡ x → p + 2 ≤ spanAt t e index b p .next
+      go true h = rw (span-word h) (omega arith)
+      go false h = rw (span-plain h) (omega arith)
 
 -- what is given behind n actions is given
 pub got-behind : {A : Type 0} {m : Read A} {a : A} {q : Place} (n : ℕ) → moreBegun n m ≡ got a q → m ≡ got a q

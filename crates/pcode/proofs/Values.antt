@@ -8,28 +8,30 @@ use Rattle.layout.specs.Lists.{firstWith, first-with, pick}
 use Rattle.layout.specs.PushKind.{PushKind, kindByte, pushKinds, kindOf}
 use Rattle.layout.specs.Tree.{PushValueOf}
 use Rattle.layout.specs.Read.{Text, Terms, Place, placed, readValueOf, readValueIf, readValue}
+use Rattle.editions.specs.Allowed.{termsOf}
+use Rattle.editions.specs.declared.Terms as code-terms
 use Rattle.pcode.specs.declared.PushAt.{PushAt}
-use Rattle.pcode.specs.Shown.{valueAt, isText, ShownValue, string, null, undefined, register, boolean, float, integer, constant, ValueReads, ShowsValue}
+use Rattle.pcode.specs.Shown.{valueAt, ShownValue, string, null, undefined, register, boolean, float, integer, constant, ValueReads, TakesValue}
 use Rattle.pcode.proofs.Readings as reading
 use Rattle.pcode.proofs.Arms.{Found, found, found-once, NoneOf, isOne, barred}
-use Rattle.pcode.proofs.Readings.{Gives, gives, refuses, given, next, anyway, first, u8}
+use Rattle.pcode.proofs.Readings.{Gives, gives, refuses, given, next, next-text, anyway, first, u8}
 
 -- a value and the place after it are those that r shows, and the place lies within b
-abbrev Pushed : List ℕ → PushAt → PushValueOf Text → Place → Type 0
-Pushed b r x q = ShownValue b (r .value) x × (q ≡ placed (r .next)) × (r .next ≤ length b)
+abbrev Pushed : List ℕ → List ℕ → PushAt → PushValueOf Text → Place → Type 0
+Pushed b e r x q = ShownValue b e (r .value) x × (q ≡ placed (r .next)) × (r .next ≤ length b)
 
-module _ (b : List ℕ) (p : ℕ) (l : p ≤ length b) where
+module _ (t : code-terms.Terms) (e index b : List ℕ) (p : ℕ) (l : p ≤ length b) where
   -- what the code takes for a kind shows the value that the definitions read
-  kind-shown : (terms : Terms) (k : PushKind) → Gives (Pushed b (valueAt b k p)) (readValueOf terms b k (placed p))
+  kind-shown : (k : PushKind) → Gives (Pushed b e (valueAt t e index b k p)) (readValueOf (termsOf t e index) b k (placed p))
   unfolding readValueOf
-  kind-shown terms PushKind.String = next _ (reading.string terms b p) (λ m. gives (string (isText m), refl, m))
-  kind-shown terms PushKind.Null = gives (null, refl, l)
-  kind-shown terms PushKind.Undefined = gives (undefined, refl, l)
-  kind-shown terms PushKind.Register = next _ (u8 b p) (λ m. gives (register, refl, m))
-  kind-shown terms PushKind.Boolean = next _ (reading.flag b p) (λ m. gives (boolean (m .1), refl, m .0))
-  kind-shown terms PushKind.Float = next _ (reading.u64 b p) (λ m. gives (float, refl, m))
-  kind-shown terms PushKind.Integer = next _ (reading.u32 b p) (λ m. gives (integer, refl, m))
-  kind-shown terms PushKind.Constant = next _ (reading.u16 b p) (λ m. gives (constant, refl, m))
+  kind-shown PushKind.String = next-text _ (reading.string t e index b p) (λ x m. gives (string m, refl, m .ends))
+  kind-shown PushKind.Null = gives (null, refl, l)
+  kind-shown PushKind.Undefined = gives (undefined, refl, l)
+  kind-shown PushKind.Register = next _ (u8 b p) (λ m. gives (register, refl, m))
+  kind-shown PushKind.Boolean = next _ (reading.flag b p) (λ m. gives (boolean (m .1), refl, m .0))
+  kind-shown PushKind.Float = next _ (reading.u64 b p) (λ m. gives (float, refl, m))
+  kind-shown PushKind.Integer = next _ (reading.u32 b p) (λ m. gives (integer, refl, m))
+  kind-shown PushKind.Constant = next _ (reading.u16 b p) (λ m. gives (constant, refl, m))
 
 -- the kinds, each by its byte, as a match on the byte has them
 pub data KindArm : ℕ → PushKind → Type 0 where
@@ -55,26 +57,26 @@ kind-listed isInteger = refl
 kind-listed isConstant = refl
 
 -- what the code takes for the kind that stands at p shows the value there, and the place after it
-pushed : (b : List ℕ) (p : ℕ) {n : ℕ} {k : PushKind} → KindArm n k → getD b p 0 ≡ n → (terms : Terms)
-    → Gives (Pushed b (valueAt b k (p + 1))) (readValue terms b (placed p))
+pushed : (t : code-terms.Terms) (e index b : List ℕ) (p : ℕ) {n : ℕ} {k : PushKind} → KindArm n k → getD b p 0 ≡ n
+    → Gives (Pushed b e (valueAt t e index b k (p + 1))) (readValue (termsOf t e index) b (placed p))
 unfolding readValue readValueIf
-pushed b p {k = k} arm e terms = next _ (u8 b p) (λ l. rw (e, kind-listed arm) (kind-shown b (p + 1) l terms k))
+pushed t e index b p {k = k} arm h = next _ (u8 b p) (λ l. rw (h, kind-listed arm) (kind-shown t e index b (p + 1) l k))
 
-module _ {b : List ℕ} {p n : ℕ} {k : PushKind} where
-  pub value-shown : KindArm n k → getD b p 0 ≡ n → ShowsValue b p (valueAt b k (p + 1))
-  value-shown arm e = record {
-    is = λ kind h. ap (λ k. valueAt b k (p + 1)) (found-once (ap kindOf e ∙ kind-listed arm) h);
-    shows = λ terms x q r. let h = given (pushed b p arm e terms) r in (h .0, h .1);
+module _ (t : code-terms.Terms) (e index : List ℕ) {b : List ℕ} {p n : ℕ} {k : PushKind} where
+  pub value-shown : KindArm n k → getD b p 0 ≡ n → TakesValue t e index b p (valueAt t e index b k (p + 1))
+  value-shown arm h = record {
+    is = λ kind g. ap (λ k. valueAt t e index b k (p + 1)) (found-once (ap kindOf h ∙ kind-listed arm) g);
+    shows = record { shows = λ x q r. let g = given (pushed t e index b p arm h) r in (g .0, g .1) };
   }
 
   -- it ends within b
-  pub value-room : KindArm n k → getD b p 0 ≡ n → ValueReads b p → valueAt b k (p + 1) .next ≤ length b
-  value-room arm e reads = given (pushed b p arm e (reads .terms)) (reads .reads) .2
+  pub value-room : KindArm n k → getD b p 0 ≡ n → ValueReads (termsOf t e index) b p → valueAt t e index b k (p + 1) .next ≤ length b
+  value-room arm h reads = given (pushed t e index b p arm h) (reads .reads) .2
 
 -- there is a kind at p
-pub kind-room : {b : List ℕ} {p : ℕ} → ValueReads b p → p + 1 ≤ length b
+pub kind-room : {terms : Terms} {b : List ℕ} {p : ℕ} → ValueReads terms b p → p + 1 ≤ length b
 unfolding readValue
-kind-room {b} {p} reads = given (first _ (u8 b p)) (reads .reads)
+kind-room {b = b} {p = p} reads = given (first _ (u8 b p)) (reads .reads)
 
 -- where a value reads, a kind stands
 kind-if : (terms : Terms) (b : List ℕ) (o : Option PushKind) (q r : Place) → Gives (λ a s. Found o) (readValueIf terms b o q r)
@@ -82,13 +84,13 @@ unfolding readValueIf
 kind-if terms b (some kind) q r = anyway _ (found kind refl)
 kind-if terms b none q r = refuses
 
-kind-at : {b : List ℕ} {p : ℕ} → ValueReads b p → Found (kindOf (getD b p 0))
+kind-at : {terms : Terms} {b : List ℕ} {p : ℕ} → ValueReads terms b p → Found (kindOf (getD b p 0))
 unfolding readValue
-kind-at {b} {p} reads = given (next _ (u8 b p) (λ l. kind-if (reads .terms) b (kindOf (getD b p 0)) _ _)) (reads .reads)
+kind-at {terms} {b} {p} reads = given (next _ (u8 b p) (λ l. kind-if terms b (kindOf (getD b p 0)) _ _)) (reads .reads)
 
 -- so there is just one result that shows it
-pub same-value : {b : List ℕ} {p : ℕ} {r s : PushAt} → ValueReads b p → ShowsValue b p r → ShowsValue b p s → r ≡ s
-same-value {b} {p} {r} {s} reads h j = go (kind-at reads)
+pub same-value : {t : code-terms.Terms} {e index b : List ℕ} {p : ℕ} {r s : PushAt} → ValueReads (termsOf t e index) b p → TakesValue t e index b p r → TakesValue t e index b p s → r ≡ s
+same-value {b = b} {p = p} {r = r} {s = s} reads h j = go (kind-at reads)
   where
     go : Found (kindOf (getD b p 0)) → r ≡ s
     go (found kind e) = h .is kind e ∙ sym (j .is kind e)
@@ -112,8 +114,8 @@ last-kind PushKind.Integer e h = absurd (barred otherKinds h e refl)
 last-kind PushKind.Constant e h = sym e
 
 -- the kind at p is a constant's if it is no other
-pub constant-kind : {b : List ℕ} {p : ℕ} → ValueReads b p → NoneOf otherKinds (getD b p 0) → getD b p 0 ≡ 8
-constant-kind {b} {p} reads h = go (kind-at reads)
+pub constant-kind : {terms : Terms} {b : List ℕ} {p : ℕ} → ValueReads terms b p → NoneOf otherKinds (getD b p 0) → getD b p 0 ≡ 8
+constant-kind {b = b} {p = p} reads h = go (kind-at reads)
   where
     go : Found (kindOf (getD b p 0)) → getD b p 0 ≡ 8
     go (found kind e) = last-kind kind (unfold kindOf in first-with kindByte (getD b p 0) pushKinds kind e) h

@@ -2,16 +2,22 @@
 ghost use mathlib.Core.Path.{_≡_};
 ghost use Prim.Native.Nat.{_+_, _≤_};
 ghost use lib.ListN.{length};
-ghost use Rattle.pcode.specs.Shown.{pushAt, spanAt, after, functionAt, afterTry, tryAt, ValueReads, ShowsValue, ActionReads, ShowsAction};
+ghost use Rattle.pcode.specs.Shown.{pushAt, spanAt, functionAt, getUrlAt, afterTry, tryAt, ValueReads, TakesValue, ActionReads, TakesAction};
+ghost use Rattle.editions.specs.Allowed.{termsOf};
+use editions::Terms;
+use editions::names_word;
 use fields::u16_at;
 use fields::u32_at;
 use fields::u64_at;
 use opcode::OpCode;
+use words::word_at;
 
-// A run of bytes of the main body.
+// A run of bytes of the main body, or of the words of a book, and the place in the main body after the string.
 pub struct Span {
+    pub from_book: bool,
     pub at: usize,
     pub len: usize,
+    pub next: usize,
 }
 
 // A Try's catch target is a name or a register.
@@ -68,14 +74,28 @@ pub enum Action {
     GotoFrame2(usize, u8),
 }
 
-// The string at a place: its bytes stand behind its length.
-fn span_at(b: &[u8], at: usize) -> Span
-    requires { ⌜ at + 2 ≤ length (now b) ⌝ }
-    ensures { λ r. ⌜ r ≡ spanAt (now (b .entry)) at ⌝ }
+// The string at a place: its bytes stand behind its length, or the number of a word does.
+pub fn span_at(b: &[u8], words: &[u8], index: &[u32], terms: Terms, at: usize) -> Span
+    requires { ⌜ spanAt terms (now words) (now index) (now b) at .next ≤ length (now b) ⌝ }
+    ensures { λ r. ⌜ r ≡ spanAt terms (now (words .entry)) (now (index .entry)) (now (b .entry)) at ⌝ }
 {
+    let n = u16_at(b, at);
+    let p = at + 2;
+    if names_word(terms, n) {
+        let i = u16_at(b, p);
+        let word = word_at(words, index, terms.word_count, i);
+        return Span {
+            from_book: true,
+            at: word.at,
+            len: word.len,
+            next: p + 2,
+        };
+    }
     Span {
-        at: at + 2,
-        len: u16_at(b, at),
+        from_book: false,
+        at: p,
+        len: n,
+        next: p + n,
     }
 }
 
@@ -87,15 +107,15 @@ fn pushed(value: PushValue, next: usize) -> PushAt
 }
 
 // The pushed value at a place where one reads.
-pub fn push_value_at(b: &[u8], at: usize) -> PushAt
-    requires { ⌜ ValueReads (now b) at ⌝ }
-    ensures { λ r. ⌜ ShowsValue (now (b .entry)) at r ⌝ }
+pub fn push_value_at(b: &[u8], words: &[u8], index: &[u32], terms: Terms, at: usize) -> PushAt
+    requires { ⌜ ValueReads (termsOf terms (now words) (now index)) (now b) at ⌝ }
+    ensures { λ r. ⌜ TakesValue terms (now (words .entry)) (now (index .entry)) (now (b .entry)) at r ⌝ }
 {
     let p = at + 1;
     match b[at] {
         0 => {
-            let string = span_at(b, p);
-            pushed(PushValue::String(string), string.at + string.len)
+            let string = span_at(b, words, index, terms, p);
+            pushed(PushValue::String(string), string.next)
         }
         2 => pushed(PushValue::Null, p),
         3 => pushed(PushValue::Undefined, p),
@@ -114,12 +134,12 @@ pub fn push_value_at(b: &[u8], at: usize) -> PushAt
 }
 
 // A name at a place, and the parameters behind it.
-fn function_at(b: &[u8], at: usize) -> Function
-    requires { ⌜ functionAt (now b) at .at ≤ length (now b) ⌝ }
-    ensures { λ r. ⌜ r ≡ functionAt (now (b .entry)) at ⌝ }
+fn function_at(b: &[u8], words: &[u8], index: &[u32], terms: Terms, at: usize) -> Function
+    requires { ⌜ functionAt terms (now words) (now index) (now b) at .at ≤ length (now b) ⌝ }
+    ensures { λ r. ⌜ r ≡ functionAt terms (now (words .entry)) (now (index .entry)) (now (b .entry)) at ⌝ }
 {
-    let name = span_at(b, at);
-    let p = name.at + name.len;
+    let name = span_at(b, words, index, terms, at);
+    let p = name.next;
     Function {
         name,
         count: u16_at(b, p),
@@ -128,18 +148,18 @@ fn function_at(b: &[u8], at: usize) -> Function
 }
 
 // The two strings of a GetUrl.
-fn get_url_at(b: &[u8], at: usize) -> Action
-    requires { ⌜ after (spanAt (now b) (after (spanAt (now b) at))) ≤ length (now b) ⌝ }
-    ensures { λ r. ⌜ r ≡ Action.GetUrl (spanAt (now (b .entry)) at) (spanAt (now (b .entry)) (after (spanAt (now (b .entry)) at))) ⌝ }
+fn get_url_at(b: &[u8], words: &[u8], index: &[u32], terms: Terms, at: usize) -> Action
+    requires { ⌜ spanAt terms (now words) (now index) (now b) (spanAt terms (now words) (now index) (now b) at .next) .next ≤ length (now b) ⌝ }
+    ensures { λ r. ⌜ r ≡ getUrlAt terms (now (words .entry)) (now (index .entry)) (now (b .entry)) at ⌝ }
 {
-    let url = span_at(b, at);
-    Action::GetUrl(url, span_at(b, url.at + url.len))
+    let url = span_at(b, words, index, terms, at);
+    Action::GetUrl(url, span_at(b, words, index, terms, url.next))
 }
 
 // A Try's shape, its catch target and its first body's place.
-fn try_at(b: &[u8], at: usize) -> Action
-    requires { ⌜ afterTry (now b) at ≤ length (now b) ⌝ }
-    ensures { λ r. ⌜ r ≡ tryAt (now (b .entry)) at ⌝ }
+fn try_at(b: &[u8], words: &[u8], index: &[u32], terms: Terms, at: usize) -> Action
+    requires { ⌜ afterTry terms (now words) (now index) (now b) at ≤ length (now b) ⌝ }
+    ensures { λ r. ⌜ r ≡ tryAt terms (now (words .entry)) (now (index .entry)) (now (b .entry)) at ⌝ }
 {
     let shape = b[at];
     let p = at + 1;
@@ -147,34 +167,34 @@ fn try_at(b: &[u8], at: usize) -> Action
         return Action::Try(shape, CatchTarget::Nothing, p);
     }
     if shape / 4 % 2 == 0 {
-        let name = span_at(b, p);
-        return Action::Try(shape, CatchTarget::Variable(name), name.at + name.len);
+        let name = span_at(b, words, index, terms, p);
+        return Action::Try(shape, CatchTarget::Variable(name), name.next);
     }
     Action::Try(shape, CatchTarget::Register(b[p]), p + 1)
 }
 
 // The action at a place where one reads.
-pub fn action_at(b: &[u8], at: usize) -> Action
-    requires { ⌜ ActionReads (now b) at ⌝ }
-    ensures { λ r. ⌜ ShowsAction (now (b .entry)) at r ⌝ }
+pub fn action_at(b: &[u8], words: &[u8], index: &[u32], terms: Terms, at: usize) -> Action
+    requires { ⌜ ActionReads (termsOf terms (now words) (now index)) (now b) at ⌝ }
+    ensures { λ r. ⌜ TakesAction terms (now (words .entry)) (now (index .entry)) (now (b .entry)) at r ⌝ }
 {
     let p = at + 1;
     match b[at] {
         OpCode::GOTO_FRAME => Action::GotoFrame(u16_at(b, p)),
-        OpCode::GET_URL => get_url_at(b, p),
+        OpCode::GET_URL => get_url_at(b, words, index, terms, p),
         OpCode::STORE_REGISTER => Action::StoreRegister(b[p]),
         OpCode::CONSTANT_POOL => Action::ConstantPool(u16_at(b, p), p + 2),
         OpCode::WAIT_FOR_FRAME => Action::WaitForFrame(u16_at(b, p), b[p + 2]),
-        OpCode::SET_TARGET => Action::SetTarget(span_at(b, p)),
-        OpCode::GOTO_LABEL => Action::GotoLabel(span_at(b, p)),
+        OpCode::SET_TARGET => Action::SetTarget(span_at(b, words, index, terms, p)),
+        OpCode::GOTO_LABEL => Action::GotoLabel(span_at(b, words, index, terms, p)),
         OpCode::WAIT_FOR_FRAME2 => Action::WaitForFrame2(b[p]),
-        OpCode::DEFINE_FUNCTION2 => Action::DefineFunction2(function_at(b, p)),
-        OpCode::TRY => try_at(b, p),
+        OpCode::DEFINE_FUNCTION2 => Action::DefineFunction2(function_at(b, words, index, terms, p)),
+        OpCode::TRY => try_at(b, words, index, terms, p),
         OpCode::WITH => Action::With(p),
         OpCode::PUSH => Action::Push(u16_at(b, p), p + 2),
         OpCode::JUMP => Action::Jump(u16_at(b, p)),
         OpCode::GET_URL2 => Action::GetUrl2(b[p], b[p + 1], b[p + 2]),
-        OpCode::DEFINE_FUNCTION => Action::DefineFunction(function_at(b, p)),
+        OpCode::DEFINE_FUNCTION => Action::DefineFunction(function_at(b, words, index, terms, p)),
         OpCode::IF => Action::If(u16_at(b, p)),
         OpCode::GOTO_FRAME2 => Action::GotoFrame2(u16_at(b, p), b[p + 2]),
         op => Action::Small(op),

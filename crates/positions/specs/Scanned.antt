@@ -32,8 +32,8 @@ unfoldable pub scanned : {A : Type 0} → (A → ℕ) → ℕ → Read A → Sca
 scanned size pos (got a next) = scan.Ends (next .at) (record { 0 = pos + size a })
 scanned size pos (bad f p) = scan.Stops (faultOf f) (p .at)
 
--- a scan may start at a place of b and a position: no sum overflows while each byte read is written in at most 65,536
+-- a scan may start at a place of b and a position: no sum overflows while each byte read is written in at most 196,608
 pub record Roomy (b : List ℕ) (at : ℕ) (pos : BytePosition) : Type 0 where
   pub bytes : Bytes b
   pub inside : at ≤ length b
-  pub room : pos .0 + 65536 * (length b - at) ≤ 1099511627776
+  pub room : pos .0 + 196608 * (length b - at) ≤ 1099511627776

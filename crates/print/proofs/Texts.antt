@@ -11,8 +11,9 @@ use Rattle.io.specs.Counts.{Counts}
 use Rattle.layout.specs.Lists.{pick}
 use Rattle.layout.specs.Numbers.{bits64}
 use Rattle.layout.specs.Order.{signed64}
-use Rattle.layout.specs.Answers.{CutShort, UnknownCode, BadField, TooDeep, LeftOver, Refusal, SheetTooLong, BadTrailer, ReadingFault, ActionLenOverflow, BlockLenOverflow, JumpOffsetOverflow, NoRoom, InputFull, Unclean, NeverRecorded, StrayBranch, Answer, Done, Refused, Told, number, value, lengthOf, faultNumber, refusalNumber, refusalValue}
+use Rattle.layout.specs.Answers.{CutShort, UnknownCode, BadField, TooDeep, LeftOver, Refusal, SheetTooLong, BadTrailer, ReadingFault, ActionLenOverflow, BlockLenOverflow, JumpOffsetOverflow, NoRoom, InputFull, Unclean, NeverRecorded, StrayBranch, BadBook, Answer, Done, Refused, Told, number, value, lengthOf, faultNumber, refusalNumber, refusalValue}
 use Rattle.layout.specs.Judge.{plainMode}
+use Rattle.layout.specs.Book.{emptyBook}
 use Rattle.layout.specs.Pack.{pack, output, Outcome}
 use Rattle.answer.proofs.Values.{natural-bits}
 use Rattle.answer.specs.Answered.{valueBy}
@@ -62,13 +63,14 @@ refused-number InputFull e = omega (arith, e)
 refused-number (Unclean p) e = omega (arith, e)
 refused-number (NeverRecorded p k) e = omega (arith, e)
 refused-number (StrayBranch p k) e = omega (arith, e)
+refused-number BadBook e = omega (arith, e)
 
 -- an input that fills, and one that does not
 answered-full : (input : List ℕ) → length input ≡ 65536 → Refused InputFull ≡ answered input
 unfolding answered pick
 answered-full input e = rw (le-ltb (length input) 65536 (omega (arith, e))) refl
 
-answered-packed : (input : List ℕ) → length input ≤ 65536 → (length input ≡ 65536 → ⊥) → pack plainMode input 65536 ≡ answered input
+answered-packed : (input : List ℕ) → length input ≤ 65536 → (length input ≡ 65536 → ⊥) → pack plainMode input emptyBook 65536 ≡ answered input
 unfolding answered pick
 answered-packed input l e = rw (lt-ltb (length input) 65536 (less (length input) l e)) refl
   where
@@ -103,13 +105,13 @@ done-text a q t e h k =
 pub record Filled (s o : List ℕ) (k : ℕ) (after : List ℕ) : Type 0 where
   pub is-within : k ≤ length after
   pub is-small : k ≤ 65536
-  pub is-block : pack plainMode s (length o) ≡ Done (take k after)
+  pub is-block : pack plainMode s emptyBook (length o) ≡ Done (take k after)
 
-pub filled : (s o after : List ℕ) {n k : ℕ} {v : ℤ} {i : ℕ} → Outcome plainMode s o n v i after → n ≡ 0 → k ≡ bits64 v → length after ≡ length o → length o ≡ 65536 → Filled s o k after
+pub filled : (s o after : List ℕ) {n k : ℕ} {v : ℤ} {i : ℕ} → Outcome plainMode s emptyBook o n v i after → n ≡ 0 → k ≡ bits64 v → length after ≡ length o → length o ≡ 65536 → Filled s o k after
 unfolding output value number
-filled s o after {n} {k} {v} {i} h z b e l = go (pack plainMode s (length o)) refl (h .told) (h .holds)
+filled s o after {n} {k} {v} {i} h z b e l = go (pack plainMode s emptyBook (length o)) refl (h .told) (h .holds)
   where
-    go : (a : Answer (List ℕ)) → pack plainMode s (length o) ≡ a → Told lengthOf a n v i → after ≡ output a o → Filled s o k after
+    go : (a : Answer (List ℕ)) → pack plainMode s emptyBook (length o) ≡ a → Told lengthOf a n v i → after ≡ output a o → Filled s o k after
     go (Done q) p t f =
         let g : length after ≡ length q + length (drop (length q) o) = ap length f ∙ length-append q (drop (length q) o) in
         let j : length q ≤ length after = omega (arith, g) in
@@ -143,20 +145,20 @@ module _ {old : List ℕ} (text : List ℕ) {r : ℕ} (room : Room 196651 0 old)
 
 module _ (input out : List ℕ) (room : length out ≡ 65536) (short : length input ≤ 65536) (unfilled : length input ≡ 65536 → ⊥) where
   -- its answer, and the text of it
-  packs : pack plainMode input (length out) ≡ answered input
-  packs = ap (pack plainMode input) room ∙ answered-packed input short unfilled
+  packs : pack plainMode input emptyBook (length out) ≡ answered input
+  packs = ap (pack plainMode input emptyBook) room ∙ answered-packed input short unfilled
 
-  text-is : printed (pack plainMode input (length out)) ≡ blockText input
+  text-is : printed (pack plainMode input emptyBook (length out)) ≡ blockText input
   unfolding blockText
   text-is = ap printed packs
 
   -- and what the output holds
-  pub packed-output : {n i : ℕ} {v : ℤ} {after : List ℕ} → Outcome plainMode input out n v i after → after ≡ output (answered input) out
+  pub packed-output : {n i : ℕ} {v : ℤ} {after : List ℕ} → Outcome plainMode input emptyBook out n v i after → after ≡ output (answered input) out
   packed-output h = h .holds ∙ ap (λ (a : Answer (List ℕ)). output a out) packs
 
-  pub text-refused : {n r i : ℕ} {v : ℤ} {old new after : List ℕ} → Outcome plainMode input out n v i after → (n ≡ 0 → ⊥) → Put (line n v) 0 old new r → Put (blockText input) 0 old new r
+  pub text-refused : {n r i : ℕ} {v : ℤ} {old new after : List ℕ} → Outcome plainMode input emptyBook out n v i after → (n ≡ 0 → ⊥) → Put (line n v) 0 old new r → Put (blockText input) 0 old new r
   text-refused h z k = put-as text-is (refused-text _ (h .told) z k)
 
-  pub text-done : {n k p r i : ℕ} {v : ℤ} {old mid new after : List ℕ} → Outcome plainMode input out n v i after → Filled input out k after
+  pub text-done : {n k p r i : ℕ} {v : ℤ} {old mid new after : List ℕ} → Outcome plainMode input emptyBook out n v i after → Filled input out k after
       → Put (line n v) 0 old mid p → Put (hexLines (take k after)) p mid new r → Put (blockText input) 0 old new r
   text-done {k = k} {after = after} h f i j = put-as text-is (done-text _ (take k after) (h .told) (f .is-block) i j)

@@ -7,6 +7,7 @@ use lib.Dec.{ltb}
 use Rattle.layout.specs.Lists.{pick}
 use Rattle.layout.specs.Answers.{Answer, Done, Refused, InputFull, number, value, lengthOf}
 use Rattle.layout.specs.Judge.{plainMode}
+use Rattle.layout.specs.Book.{emptyBook}
 use Rattle.layout.specs.Pack.{pack}
 use Rattle.print_text.specs.Pieces.{decimal, signed, hexLines}
 
@@ -23,9 +24,10 @@ blockOf (Refused r) = []
 unfoldable pub printed : Answer (List ℕ) → List ℕ
 printed a = line (number a) (value lengthOf a) ++ blockOf a
 
--- "It reads standard input into 65,536 bytes; if that fills", 12; "otherwise it packs into 65,536 bytes"
+-- "It reads standard input into 65,536 bytes; if that fills", 12; "otherwise it packs into 65,536 bytes"; it lends the book without an
+-- entry
 unfoldable pub answered : List ℕ → Answer (List ℕ)
-answered input = pick (ltb (length input) 65536) (pack plainMode input 65536) (Refused InputFull)
+answered input = pick (ltb (length input) 65536) (pack plainMode input emptyBook 65536) (Refused InputFull)
 
 -- what the program prints
 unfoldable pub blockText : List ℕ → List ℕ

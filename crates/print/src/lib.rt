@@ -3,10 +3,13 @@ ghost use mathlib.Core.Path.{_≡_};
 ghost use Prim.Native.Nat.{_+_, _≤_};
 ghost use lib.ListN.{length};
 ghost use Rattle.io.specs.Counts.{Counts};
-ghost use Rattle.layout.specs.Pack.{output};
-ghost use Rattle.answer.specs.Answered.{valueBy};
+ghost use Rattle.layout.specs.Book.{emptyBook};
+ghost use Rattle.layout.specs.Judge.{plainMode};
+ghost use Rattle.layout.specs.Pack.{output, Outcome};
+ghost use Rattle.answer.specs.Answered.{number, value, valueBy, action};
 ghost use Rattle.print_text.specs.Pieces.{signed, Room, Put};
 ghost use Rattle.print.specs.Text.{line, answered, blockText};
+use answer::Answer;
 use answer::number_of;
 use answer::value_of;
 use judge::Mode;
@@ -38,7 +41,19 @@ fn put_line(text: &mut [u8], number: u32, bits: u64) -> usize
     q + 1
 }
 
-// Packs the input in plain mode into `out`, and makes the program's text at the front of `text`: three bytes for each byte of a
+// Packs the input in plain mode, with the book that has no entry.
+fn pack_input(input: &[u8], out: &mut [u8]) -> Answer
+    ensures { λ r. ⌜ Outcome plainMode (now (input .entry)) emptyBook (now (out .entry)) (number r) (value r) (action r) (now (out .exit)) ⌝ }
+{
+    let book = [0, 0, 0, 0, 0, 0, 0x42, 0x31];
+    let mode = Mode {
+        strict: false,
+        contained: false,
+    };
+    pack::pack(input, &book, mode, out)
+}
+
+// Packs the input into `out`, and makes the program's text at the front of `text`: three bytes for each byte of a
 // block, and a line. An input that fills its 65,536 bytes is not packed: its line is that of 12. Returns the length of the text.
 pub fn block_text(input: &[u8], out: &mut [u8], text: &mut [u8]) -> usize
     requires { ⌜ (length (now input) ≤ 65536) × (length (now out) ≡ 65536) × Room 196651 0 (now text) ⌝ }
@@ -49,14 +64,7 @@ pub fn block_text(input: &[u8], out: &mut [u8], text: &mut [u8]) -> usize
     if input.len() == 65536 {
         return put_line(text, 12, 65536);
     }
-    let a = pack::pack(
-        input,
-        Mode {
-            strict: false,
-            contained: false,
-        },
-        out,
-    );
+    let a = pack_input(input, out);
     let number = number_of(a);
     let bits = value_of(a);
     let p = put_line(text, number, bits);

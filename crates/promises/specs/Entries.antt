@@ -38,18 +38,19 @@ read-back done a v v′ e i j h =
 
 -- ---- merinovault_pack
 
-module _ {m : Mode} {s o v : List ℕ} {n : ℕ} {v′ after : List ℕ} (h : PackCalled m s o v n v′ after) where
+module _ {m : Mode} {s book o v : List ℕ} {n : ℕ} {v′ after : List ℕ} (h : PackCalled m s book o v n v′ after) where
   -- with a value slice of sixteen bytes
   module _ (is-sixteen : length v ≡ 16) where
     -- the slice then tells the answer's value and its action number
-    pub pack-in : (valueIn v′ ≡ value lengthOf (pack m s (length o))) × (actionIn v′ ≡ pos (action (pack m s (length o))))
+    pub pack-in : (valueIn v′ ≡ value lengthOf (pack m s book (length o))) × (actionIn v′ ≡ pos (action (pack m s book (length o))))
     pack-in =
-        read-back lengthOf (pack m s (length o)) v v′ is-sixteen (pack-i64 m s (length o) (h .is-lent .bytes) (h .is-lent .short)) (action-i64 m s (length o) (h .is-lent .bytes)) (h .is-value)
+        read-back lengthOf (pack m s book (length o)) v v′ is-sixteen (pack-i64 m s book (length o) (h .is-lent .bytes) (h .is-book .bytes) (h .is-lent .short))
+        (action-i64 m s book (length o) (h .is-lent .bytes) (h .is-book .bytes)) (h .is-value)
 
     -- and the call leaves what a call of the packer leaves, with the action number k that the slice tells
-    pub pack-outcome : (k : ℕ) → actionIn v′ ≡ pos k → Outcome m s o n (valueIn v′) k after
+    pub pack-outcome : (k : ℕ) → actionIn v′ ≡ pos k → Outcome m s book o n (valueIn v′) k after
     pack-outcome k e =
-        let same : pos k ≡ pos (action (pack m s (length o))) = sym e ∙ pack-in .1 in
+        let same : pos k ≡ pos (action (pack m s book (length o))) = sym e ∙ pack-in .1 in
         record {
           told = record { is-number = h .is-number ∙ sixteen v _ _ is-sixteen; is-value = pack-in .0; is-action = cc };
           holds = h .is-output ∙ sixteen v _ _ is-sixteen;

@@ -45,16 +45,18 @@ fn fault_action(f: Fault, begun: ActionNumber) -> ActionNumber
 // the first of 8 and 9 are lent empty; of the homes as many are kept as there are slots.
 pub fn read_main(
     b: &[u8],
+    words: &[u8],
+    index: &[u32],
     terms: Terms,
     start: usize,
     tab: &mut [usize],
     homes: &mut [usize],
     over: &mut [usize],
 ) -> Reading
-    requires { ⌜ (length (now b) ≤ 1048576) × (start ≤ 1048576) × Empty (termsOf terms) (now tab) (now homes) (now over) ⌝ }
-    ensures { λ r. ⌜ MainRead (termsOf terms) (now (b .entry)) start (now (tab .exit)) (now (homes .exit)) (now (over .exit)) r ⌝ }
+    requires { ⌜ (length (now b) ≤ 1048576) × (start ≤ 1048576) × Empty (termsOf terms (now words) (now index)) (now tab) (now homes) (now over) ⌝ }
+    ensures { λ r. ⌜ MainRead (termsOf terms (now (words .entry)) (now (index .entry))) (now (b .entry)) start (now (tab .exit)) (now (homes .exit)) (now (over .exit)) r ⌝ }
 {
-    match scan_main(b, terms, tab, homes, over) {
+    match scan_main(b, words, index, terms, tab, homes, over) {
         Walked::Stops(f, p, begun) => {
             let place = start + p;
             Reading::Stops(f, place, fault_action(f, begun))

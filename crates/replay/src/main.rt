@@ -2,8 +2,8 @@
 // what the list says. Writes a line for each number that was met, with its count, and then how many answers differ and the first
 // that does.
 //
-// A record is the lengths of two patterns, the room, the mode, and the answer's number, value and action number, in 26 bytes; then
-// the pattern of the sheet and that of the block.
+// A record is the lengths of three patterns, the room, the mode, and the answer's number, value and action number, in 30 bytes; then
+// the patterns of the sheet, of its book and of the block.
 ghost use mathlib.Core.Path.{_≡_};
 ghost use Prim.Native.Nat.{_≤_};
 ghost use lib.ListN.{length};
@@ -59,8 +59,9 @@ fn tells(answer: Answer, number: u8, value: u64, action: u32) -> bool {
 
 // Whether packing into the first `room` bytes of the output gives this number, value, action number and block, and leaves the bytes
 // behind them.
-fn agrees(
-    sheet: &[u8],
+fn agrees<'a>(
+    sheet: &'a [u8],
+    book: &'a [u8],
     mode: Mode,
     room: usize,
     number: u8,
@@ -73,7 +74,7 @@ fn agrees(
         return false;
     }
     refresh(out);
-    let answer = pack::pack(sheet, mode, &mut out[..room]);
+    let answer = pack::pack(sheet, book, mode, &mut out[..room]);
     if tells(answer, number, value, action) {
         return holds(out, block);
     }
@@ -82,14 +83,20 @@ fn agrees(
 
 // Whether packing the sheet gives what the head of a record says, and this block. 64 bytes behind the room are looked at too. The
 // mode is 0 to 3: 1 more if it is strict, 2 more if it is contained.
-fn replay_sheet(head: &[u8], sheet: &[u8], block: &[u8], out: &mut [u8]) -> bool
-    requires { ⌜ 26 ≤ length (now head) ⌝ }
+fn replay_sheet<'a>(
+    head: &[u8],
+    sheet: &'a [u8],
+    book: &'a [u8],
+    block: &[u8],
+    out: &mut [u8],
+) -> bool
+    requires { ⌜ 30 ≤ length (now head) ⌝ }
 {
-    let room = u32_at(head, 8) as usize;
-    let mode = head[12];
-    let number = head[13];
-    let value = u64_at(head, 14);
-    let action = u32_at(head, 22);
+    let room = u32_at(head, 12) as usize;
+    let mode = head[16];
+    let number = head[17];
+    let value = u64_at(head, 18);
+    let action = u32_at(head, 26);
     if out.len() < room + 64 {
         return false;
     }
@@ -98,6 +105,7 @@ fn replay_sheet(head: &[u8], sheet: &[u8], block: &[u8], out: &mut [u8]) -> bool
     }
     agrees(
         sheet,
+        book,
         Mode {
             strict: mode % 2 == 1,
             contained: 2 <= mode,
@@ -112,29 +120,37 @@ fn replay_sheet(head: &[u8], sheet: &[u8], block: &[u8], out: &mut [u8]) -> bool
 }
 
 // Whether the record at the front of the input agrees.
-fn replay_one(input: &[u8], sheet: &mut [u8], block: &mut [u8], out: &mut [u8]) -> bool
-    requires { ⌜ 26 ≤ length (now input) ⌝ }
+fn replay_one(
+    input: &[u8],
+    sheet: &mut [u8],
+    book: &mut [u8],
+    block: &mut [u8],
+    out: &mut [u8],
+) -> bool
+    requires { ⌜ 30 ≤ length (now input) ⌝ }
 {
     let n = u32_at(input, 0) as usize;
-    let m = u32_at(input, 4) as usize;
-    let long = unroll_at(input, 26, n, sheet);
-    let wide = unroll_at(input, 26 + n, m, block);
-    replay_sheet(input, &sheet[..long], &block[..wide], out)
+    let k = u32_at(input, 4) as usize;
+    let m = u32_at(input, 8) as usize;
+    let long = unroll_at(input, 30, n, sheet);
+    let thick = unroll_at(input, 30 + n, k, book);
+    let wide = unroll_at(input, 30 + n + k, m, block);
+    replay_sheet(input, &sheet[..long], &book[..thick], &block[..wide], out)
 }
 
 // The length of the record at the front of the input.
 fn record_length(input: &[u8]) -> usize
-    requires { ⌜ 26 ≤ length (now input) ⌝ }
-    ensures { λ r. ⌜ 26 ≤ r ⌝ }
+    requires { ⌜ 30 ≤ length (now input) ⌝ }
+    ensures { λ r. ⌜ 30 ≤ r ⌝ }
 {
-    26 + u32_at(input, 0) as usize + u32_at(input, 4) as usize
+    30 + u32_at(input, 0) as usize + u32_at(input, 4) as usize + u32_at(input, 8) as usize
 }
 
-// ---- counts: 0 to 15 are those of the numbers, 16 that of the answers that differ, 17 the first of these, counted from 1
+// ---- counts: 0 to 18 are those of the numbers, 19 that of the answers that differ, 20 the first of these, counted from 1
 
 // One more of a kind.
-fn bump(counts: &mut [usize; 18], kind: usize) {
-    if 18 <= kind {
+fn bump(counts: &mut [usize; 21], kind: usize) {
+    if 21 <= kind {
         return;
     }
     if counts[kind] < 4294967295 {
@@ -143,19 +159,19 @@ fn bump(counts: &mut [usize; 18], kind: usize) {
 }
 
 // Keeps the first answer that differs.
-fn note_first(counts: &mut [usize; 18], record: usize) {
-    if counts[17] == 0 {
-        counts[17] = record;
+fn note_first(counts: &mut [usize; 21], record: usize) {
+    if counts[20] == 0 {
+        counts[20] = record;
     }
 }
 
 // Counts an answer by its number, and one that differs.
-fn count(counts: &mut [usize; 18], number: u8, agree: bool, record: usize) {
+fn count(counts: &mut [usize; 21], number: u8, agree: bool, record: usize) {
     bump(counts, number as usize);
     if agree {
         return;
     }
-    bump(counts, 16);
+    bump(counts, 19);
     note_first(counts, record);
 }
 
@@ -180,13 +196,13 @@ fn write_differ(n: usize, first: usize) {
 }
 
 // A line for each number that was met, and one for the answers that differ.
-fn write_counts(counts: &[usize; 18]) {
+fn write_counts(counts: &[usize; 21]) {
     let mut i = 0;
-    while i < 16 {
+    while i < 19 {
         write_count(i, counts[i]);
         i += 1;
     }
-    write_differ(counts[16], counts[17]);
+    write_differ(counts[19], counts[20]);
 }
 
 // ---- the list
@@ -201,15 +217,16 @@ fn space() -> [u8; 1048578]
 fn replay_all(
     input: &[u8],
     sheet: &mut [u8],
+    book: &mut [u8],
     block: &mut [u8],
     out: &mut [u8],
-    counts: &mut [usize; 18],
+    counts: &mut [usize; 21],
 ) {
     let mut p = 0;
     let mut record = 0;
-    while p + 26 <= input.len() {
-        let agree = replay_one(&input[p..], sheet, block, out);
-        let number = input[p + 13];
+    while p + 30 <= input.len() {
+        let agree = replay_one(&input[p..], sheet, book, block, out);
+        let number = input[p + 17];
         record += 1;
         count(counts, number, agree, record);
         let n = record_length(&input[p..]);
@@ -225,17 +242,18 @@ fn list_space() -> [u8; 3145728] {
     [0; 3145728]
 }
 
-// The three spaces are not in `main`, which has one for the list.
-fn replay_list(input: &[u8], counts: &mut [usize; 18]) {
+// The four spaces are not in `main`, which has one for the list.
+fn replay_list(input: &[u8], counts: &mut [usize; 21]) {
     let mut sheet = space();
+    let mut book = space();
     let mut block = space();
     let mut out = space();
-    replay_all(input, &mut sheet, &mut block, &mut out, counts);
+    replay_all(input, &mut sheet, &mut book, &mut block, &mut out, counts);
 }
 
 fn main() {
     let mut input = list_space();
-    let mut counts = [0; 18];
+    let mut counts = [0; 21];
     let n = io::read_full(STDIN_FILENO, &mut input);
     replay_list(&input[..n], &mut counts);
     write_counts(&counts);

@@ -14,10 +14,10 @@ use Rattle.layout.specs.Tree.{ActionsOf, bodyCount}
 use Rattle.layout.specs.Read.{Text, Terms, deepest, placed, Stop, Read, got, bad, ifNothingLeft, readBody, readMain}
 use Rattle.layout.specs.Write.{blockStart, Event, labelAt, branchAt, payloadTooLong, bodyTooLong, events}
 use Rattle.layout.specs.Judge.{tooLong}
-use Rattle.layout.specs.Pack.{spelling}
 use Rattle.laws.specs.Fits.{Bytes}
-use Rattle.laws.specs.ReadFits.{good-got, good-bad, body-good, main-good}
-use Rattle.laws.specs.Packed.{spells}
+use Rattle.laws.specs.ReadFits.{good-got, good-bad}
+use Rattle.laws.specs.Books.{WordsShort}
+use Rattle.laws.specs.Shares.{body-most, main-most}
 use Rattle.laws.specs.Begun.{begins-bad, main-begins}
 use Rattle.labels.specs.Table.{slotOf, homeOf, recordAll, tables, recorded, Cleared, Slots}
 use Rattle.labels.proofs.Labels.{keeps}
@@ -122,14 +122,14 @@ module _ (terms : Terms) (b tab homes over : List ℕ) (small : Bytes b) (e : Em
           go : (t : ActionsOf Text ℕ) → readBody terms b 16 (placed 0) ≡ got t (placed q) → i .0 ≡ 0 + bodyCount t → MainScanned tab′ homes′ over′ (readMain terms b deepest) (walked.Stops (faultOf LeftOver) q i)
           go t x y = rw (x, ne-eqb q (length b) (λ z. omega arith)) (stopped {s = record { at = q; begun = bodyCount t + 0 }} {k = i} (omega (arith, y)))
 
-      pub main-whole : length b ≤ q → MainScanned tab′ homes′ over′ (readMain terms b deepest) (walked.Ends q w i)
+      pub main-whole : WordsShort terms → length b ≤ q → MainScanned tab′ homes′ over′ (readMain terms b deepest) (walked.Ends q w i)
       unfolding readMain ifNothingLeft run recorded events
-      main-whole h = let z = outcome-is bodyLength bodyCount bodyEvents blockStart _ (readBody terms b 16 (placed 0)) (ran-is o k) in go (z .0) (z .1) (z .2) (z .4)
+      main-whole short h = let z = outcome-is bodyLength bodyCount bodyEvents blockStart _ (readBody terms b 16 (placed 0)) (ran-is o k) in go (z .0) (z .1) (z .2) (z .4)
         where
           go : (t : ActionsOf Text ℕ) → readBody terms b 16 (placed 0) ≡ got t (placed q) → w .0 ≡ 0 + bodyLength t → state (tables tab′ homes′) over′ ≡ run (bodyEvents t blockStart) (state (tables tab homes) over)
               → MainScanned tab′ homes′ over′ (readMain terms b deepest) (walked.Ends q w i)
           go t x y s =
-              let g = good-got t (placed q) (body-good terms b small spelling (Unit {0}) (spells b small terms) 16 (placed 0) (omega arith)) x in
+              let g = good-got t (placed q) (body-most terms b small short 16 (placed 0) (omega arith)) x in
               let a : tab′ ≡ recordAll slotOf (bodyEvents t blockStart) tab = ap (λ (v : State). v .labels .positions) s in
               let d : homes′ ≡ recordAll homeOf (bodyEvents t blockStart) homes = ap (λ (v : State). v .labels .homes) s in
               let c : over′ ≡ noteAll (bodyEvents t blockStart) over = ap (λ (v : State). v .over) s in
@@ -139,15 +139,15 @@ module _ (terms : Terms) (b tab homes over : List ℕ) (small : Bytes b) (e : Em
               (rw c (first-held (bodyEvents t blockStart) over (e .three) (e .nothing))))
 
 -- the place of a fault lies in the main body, which has no more actions than bytes
-pub main-place : (terms : Terms) (b tab homes over : List ℕ) (r : Walked) → Bytes b → MainScanned tab homes over (readMain terms b deepest) r → (f : Fault) (p : ℕ) (k : ActionNumber) → r ≡ walked.Stops f p k → (p ≤ length b) × (k .0 ≤ length b)
-main-place terms b tab homes over r small m f p k e = go (readMain terms b deepest) refl m e
+pub main-place : (terms : Terms) (b tab homes over : List ℕ) (r : Walked) → Bytes b → WordsShort terms → MainScanned tab homes over (readMain terms b deepest) r → (f : Fault) (p : ℕ) (k : ActionNumber) → r ≡ walked.Stops f p k → (p ≤ length b) × (k .0 ≤ length b)
+main-place terms b tab homes over r small short m f p k e = go (readMain terms b deepest) refl m e
   where
     go : (x : Read (ActionsOf Text ℕ)) {r : Walked} → readMain terms b deepest ≡ x → MainScanned tab homes over x r → r ≡ walked.Stops f p k → (p ≤ length b) × (k .0 ≤ length b)
     go (got t q) i (whole u v h w) e =
         let z : _≡_ {A = ℕ} 0 1 = cc in
         absurd (omega arith)
     go (bad g q) i (stopped {k = j} h) e =
-        let l : q .at ≤ length b = good-bad g q (main-good terms b small spelling (Unit {0}) (spells b small terms) deepest) i in
+        let l : q .at ≤ length b = good-bad g q (main-most terms b small short deepest) i in
         let n : q .begun + 0 ≤ q .at = begins-bad g q (main-begins terms b deepest) i in
         let a : p ≡ q .at = cc in
         let c : k ≡ j = cc in

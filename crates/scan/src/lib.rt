@@ -14,16 +14,20 @@ use positions::Walked;
 // A whole main body: no byte of it is left over.
 pub fn scan_main(
     b: &[u8],
+    words: &[u8],
+    index: &[u32],
     terms: Terms,
     tab: &mut [usize],
     homes: &mut [usize],
     over: &mut [usize],
 ) -> Walked
-    requires { ⌜ (length (now b) ≤ 1048576) × Empty (termsOf terms) (now tab) (now homes) (now over) ⌝ }
-    ensures { λ r. ⌜ MainScanned (now (tab .exit)) (now (homes .exit)) (now (over .exit)) (readMain (termsOf terms) (now (b .entry)) deepest) r ⌝ }
+    requires { ⌜ (length (now b) ≤ 1048576) × Empty (termsOf terms (now words) (now index)) (now tab) (now homes) (now over) ⌝ }
+    ensures { λ r. ⌜ MainScanned (now (tab .exit)) (now (homes .exit)) (now (over .exit)) (readMain (termsOf terms (now (words .entry)) (now (index .entry))) (now (b .entry)) deepest) r ⌝ }
 {
     match scan_body(
         b,
+        words,
+        index,
         terms,
         0,
         16,

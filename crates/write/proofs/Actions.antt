@@ -64,7 +64,7 @@ module _ (terms : Terms) (b : List ℕ) (inner : Reader (ActionsOf Text ℕ)) wh
   finally-there false p = gives refl
 
   -- For every case of an action.
-  holds : {p : ℕ} {a : Action} {x : ActionOf Text ℕ} {q : Place} → Shown terms b inner p a x q → Holds (bodiesOf a) x
+  holds : {e : List ℕ} {p : ℕ} {a : Action} {x : ActionOf Text ℕ} {q : Place} → Shown terms b e inner p a x q → Holds (bodiesOf a) x
   unfolding bodiesOf
   holds (small e) = flat-none
   holds gotoFrame = flat-none
@@ -217,19 +217,19 @@ tried-read inner shape next x c f q d e h = rw (h .2, catch-read inner (hasCatch
 
 module _ (terms : Terms) (inner : Reader (ActionsOf Text ℕ)) {b tab out : List ℕ} {at pos : ℕ} where
   -- There is an action to read.
-  pub reads-action : Room terms (readAction terms b (behind 1 inner)) actionSize nearAction b at pos tab out → ActionReads b at
-  reads-action r = record { terms = terms; inner = behind 1 inner; action = r .value; next = r .next; reads = r .reads }
+  pub reads-action : Room terms (readAction terms b (behind 1 inner)) actionSize nearAction b at pos tab out → ActionReads terms b at
+  reads-action r = record { inner = behind 1 inner; action = r .value; next = r .next; reads = r .reads }
 
-  module _ {a : Action} (s : ShowsAction b at a) where
+  module _ {e : List ℕ} {a : Action} (s : ShowsAction terms b e at a) where
     -- Its head has room.
-    pub head-room : Room terms (readAction terms b (behind 1 inner)) actionSize nearAction b at pos tab out → Writable terms b at a pos tab out
+    pub head-room : Room terms (readAction terms b (behind 1 inner)) actionSize nearAction b at pos tab out → Writable terms b e at a pos tab out
     head-room r =
         record {
           bytes = r .bytes;
           inner = behind 1 inner;
           action = r .value;
           next = r .next;
-          shown = s .shows terms (behind 1 inner) (r .value) (r .next) (r .reads);
+          shown = s .shows (behind 1 inner) (r .value) (r .next) (r .reads);
           slots = r .slots;
           near = head-near tab (r .value) pos (r .is-near);
           room = omega (arith, head-most tab (r .value) pos, r .room);
@@ -237,7 +237,7 @@ module _ (terms : Terms) (inner : Reader (ActionsOf Text ℕ)) {b tab out : List
           places = omega (arith, opcode-room (reads-action r), r .places);
         }
 
-    module _ {mid : List ℕ} {next end : ℕ} (h : WroteHead terms b at a pos tab out mid next end) where
+    module _ {mid : List ℕ} {next end : ℕ} (h : WroteHead terms b e at a pos tab out mid next end) where
       -- What is known of an action that is read there, once its head is written.
       record Headed (k : Bodies) (x : ActionOf Text ℕ) (q : Place) : Type 0 where
         pub has : Holds k x
@@ -248,7 +248,7 @@ module _ (terms : Terms) (inner : Reader (ActionsOf Text ℕ)) {b tab out : List
       -- For every action that is read there.
       headed : (k : Bodies) → bodiesOf a ≡ k → (x : ActionOf Text ℕ) (q : Place) → readAction terms b (behind 1 inner) (placed at) ≡ got x q → Headed k x q
       headed k e x q r =
-          let t = s .shows terms (behind 1 inner) x q r in
+          let t = s .shows (behind 1 inner) x q r in
           let w = h .wrote (behind 1 inner) x q t in
           record { has = subst (λ (j : Bodies). Holds j x) e (holds terms b (behind 1 inner) t); head = w .0; reach = w .1; from = owned inner next x q (w .2) }
 

@@ -41,8 +41,10 @@ fn bodies_of(a: Action) -> Bodies
 }
 
 // A body, whose length is patched in at `len_at` when it is closed.
-fn write_block(
-    b: &[u8],
+fn write_block<'a>(
+    b: &'a [u8],
+    words: &'a [u8],
+    index: &[u32],
     terms: Terms,
     at: usize,
     depth: usize,
@@ -51,10 +53,10 @@ fn write_block(
     tab: &[usize],
     out: &mut [u8],
 ) -> Ends
-    requires { ⌜ Room (termsOf terms) (readBody (termsOf terms) (now b) depth) bodyLength nearOf (now b) at (pos .0) (now tab) (now out) × («len_at» .0 + 2 ≤ pos .0) ⌝ }
-    ensures { λ r. ⌜ Wrote (readBody (termsOf terms) (now (b .entry)) depth) bodyLength (closed (now (tab .entry)) (now (out .entry)) (pos .0) («len_at» .0)) at (pos .0) (now (out .exit)) r ⌝ }
+    requires { ⌜ Room (termsOf terms (now words) (now index)) (readBody (termsOf terms (now words) (now index)) (now b) depth) bodyLength nearOf (now b) at (pos .0) (now tab) (now out) × («len_at» .0 + 2 ≤ pos .0) ⌝ }
+    ensures { λ r. ⌜ Wrote (readBody (termsOf terms (now (words .entry)) (now (index .entry))) (now (b .entry)) depth) bodyLength (closed (now (tab .entry)) (now (out .entry)) (pos .0) («len_at» .0)) at (pos .0) (now (out .exit)) r ⌝ }
 {
-    let e = write_actions(b, terms, at, depth, pos, tab, out);
+    let e = write_actions(b, words, index, terms, at, depth, pos, tab, out);
     let end = e.pos;
     write_block_length_at(out, len_at, pos, end);
     Ends {
@@ -64,8 +66,10 @@ fn write_block(
 }
 
 // The same, if the body is present.
-fn write_block_if(
-    b: &[u8],
+fn write_block_if<'a>(
+    b: &'a [u8],
+    words: &'a [u8],
+    index: &[u32],
     terms: Terms,
     present: bool,
     at: usize,
@@ -75,13 +79,13 @@ fn write_block_if(
     tab: &[usize],
     out: &mut [u8],
 ) -> Ends
-    requires { ⌜ Room (termsOf terms) (readIf present (readBody (termsOf terms) (now b) depth)) lengthIf nearIf (now b) at (pos .0) (now tab) (now out) × («len_at» .0 + 2 ≤ pos .0) ⌝ }
-    ensures { λ r. ⌜ Wrote (readIf present (readBody (termsOf terms) (now (b .entry)) depth)) lengthIf (closedIf (now (tab .entry)) (now (out .entry)) (pos .0) («len_at» .0)) at (pos .0) (now (out .exit)) r ⌝ }
+    requires { ⌜ Room (termsOf terms (now words) (now index)) (readIf present (readBody (termsOf terms (now words) (now index)) (now b) depth)) lengthIf nearIf (now b) at (pos .0) (now tab) (now out) × («len_at» .0 + 2 ≤ pos .0) ⌝ }
+    ensures { λ r. ⌜ Wrote (readIf present (readBody (termsOf terms (now (words .entry)) (now (index .entry))) (now (b .entry)) depth)) lengthIf (closedIf (now (tab .entry)) (now (out .entry)) (pos .0) («len_at» .0)) at (pos .0) (now (out .exit)) r ⌝ }
 {
     if !present {
         return Ends { next: at, pos };
     }
-    let e = write_block(b, terms, at, depth, pos, len_at, tab, out);
+    let e = write_block(b, words, index, terms, at, depth, pos, len_at, tab, out);
     let end = e.pos;
     Ends {
         next: e.next,
@@ -90,8 +94,10 @@ fn write_block_if(
 }
 
 // The bodies of a Try; the first of their lengths stands at `len_at`.
-fn write_try_blocks(
-    b: &[u8],
+fn write_try_blocks<'a>(
+    b: &'a [u8],
+    words: &'a [u8],
+    index: &[u32],
     terms: Terms,
     shape: u8,
     at: usize,
@@ -101,14 +107,16 @@ fn write_try_blocks(
     tab: &[usize],
     out: &mut [u8],
 ) -> Ends
-    requires { ⌜ Room (termsOf terms) (readTried shape (readBody (termsOf terms) (now b) depth)) lengthTried nearTried (now b) at (pos .0) (now tab) (now out) × («len_at» .0 + 6 ≤ pos .0) ⌝ }
-    ensures { λ r. ⌜ Wrote (readTried shape (readBody (termsOf terms) (now (b .entry)) depth)) lengthTried (closedTried (now (tab .entry)) (now (out .entry)) (pos .0) («len_at» .0)) at (pos .0) (now (out .exit)) r ⌝ }
+    requires { ⌜ Room (termsOf terms (now words) (now index)) (readTried shape (readBody (termsOf terms (now words) (now index)) (now b) depth)) lengthTried nearTried (now b) at (pos .0) (now tab) (now out) × («len_at» .0 + 6 ≤ pos .0) ⌝ }
+    ensures { λ r. ⌜ Wrote (readTried shape (readBody (termsOf terms (now (words .entry)) (now (index .entry))) (now (b .entry)) depth)) lengthTried (closedTried (now (tab .entry)) (now (out .entry)) (pos .0) («len_at» .0)) at (pos .0) (now (out .exit)) r ⌝ }
 {
-    let t = write_block(b, terms, at, depth, pos, len_at, tab, out);
+    let t = write_block(b, words, index, terms, at, depth, pos, len_at, tab, out);
     let after_try = t.pos;
     let second = BytePosition(len_at.0 + 2);
     let c = write_block_if(
         b,
+        words,
+        index,
         terms,
         shape % 2 == 1,
         t.next,
@@ -122,6 +130,8 @@ fn write_try_blocks(
     let third = BytePosition(len_at.0 + 4);
     let f = write_block_if(
         b,
+        words,
+        index,
         terms,
         shape / 2 % 2 == 1,
         c.next,
@@ -141,8 +151,10 @@ fn write_try_blocks(
 // An action within which `depth` bodies may stand one in another. The length of an only body is the payload's last two bytes; the
 // three of a Try stand behind its shape. Each arm makes its result anew from a callee's: handed on as it is, a callee's result
 // would be kept in memory, also for actions without a body.
-fn write_action(
-    b: &[u8],
+fn write_action<'a>(
+    b: &'a [u8],
+    words: &'a [u8],
+    index: &[u32],
     terms: Terms,
     at: usize,
     depth: usize,
@@ -150,11 +162,11 @@ fn write_action(
     tab: &[usize],
     out: &mut [u8],
 ) -> Ends
-    requires { ⌜ Room (termsOf terms) (readAction (termsOf terms) (now b) (behind 1 (readBody (termsOf terms) (now b) depth))) actionSize nearAction (now b) at (pos .0) (now tab) (now out) ⌝ }
-    ensures { λ r. ⌜ Wrote (readAction (termsOf terms) (now (b .entry)) (behind 1 (readBody (termsOf terms) (now (b .entry)) depth))) actionSize (λ x. sets (now (out .entry)) (pos .0) (actionOf (now (tab .entry)) x (pos .0))) at (pos .0) (now (out .exit)) r ⌝ }
+    requires { ⌜ Room (termsOf terms (now words) (now index)) (readAction (termsOf terms (now words) (now index)) (now b) (behind 1 (readBody (termsOf terms (now words) (now index)) (now b) depth))) actionSize nearAction (now b) at (pos .0) (now tab) (now out) ⌝ }
+    ensures { λ r. ⌜ Wrote (readAction (termsOf terms (now (words .entry)) (now (index .entry))) (now (b .entry)) (behind 1 (readBody (termsOf terms (now (words .entry)) (now (index .entry))) (now (b .entry)) depth))) actionSize (λ x. sets (now (out .entry)) (pos .0) (actionOf (now (tab .entry)) x (pos .0))) at (pos .0) (now (out .exit)) r ⌝ }
 {
-    let a = action_at(b, at);
-    let e = write_head(b, terms, at, a, pos, tab, out);
+    let a = action_at(b, words, index, terms, at);
+    let e = write_head(b, words, index, terms, at, a, pos, tab, out);
     let end = e.pos;
     match bodies_of(a) {
         Bodies::Nothing => Ends {
@@ -163,7 +175,7 @@ fn write_action(
         },
         Bodies::One => {
             let last = BytePosition(end.0 - 2);
-            let x = write_block(b, terms, e.next, depth, end, last, tab, out);
+            let x = write_block(b, words, index, terms, e.next, depth, end, last, tab, out);
             let after = x.pos;
             Ends {
                 next: x.next,
@@ -172,7 +184,19 @@ fn write_action(
         }
         Bodies::OfTry(shape) => {
             let first = BytePosition(pos.0 + OpCode::HEADER_LEN + 1);
-            let x = write_try_blocks(b, terms, shape, e.next, depth, end, first, tab, out);
+            let x = write_try_blocks(
+                b,
+                words,
+                index,
+                terms,
+                shape,
+                e.next,
+                depth,
+                end,
+                first,
+                tab,
+                out,
+            );
             let after = x.pos;
             Ends {
                 next: x.next,
@@ -183,8 +207,10 @@ fn write_action(
 }
 
 // A body with `depth` levels allowed, itself included. Its label entries are stepped over.
-fn write_actions(
-    b: &[u8],
+fn write_actions<'a>(
+    b: &'a [u8],
+    words: &'a [u8],
+    index: &[u32],
     terms: Terms,
     at: usize,
     depth: usize,
@@ -192,15 +218,15 @@ fn write_actions(
     tab: &[usize],
     out: &mut [u8],
 ) -> Ends
-    requires { ⌜ Room (termsOf terms) (readBody (termsOf terms) (now b) depth) bodyLength nearOf (now b) at (pos .0) (now tab) (now out) ⌝ }
-    ensures { λ r. ⌜ Wrote (readBody (termsOf terms) (now (b .entry)) depth) bodyLength (λ x. sets (now (out .entry)) (pos .0) (bodyOf (now (tab .entry)) x (pos .0))) at (pos .0) (now (out .exit)) r ⌝ }
+    requires { ⌜ Room (termsOf terms (now words) (now index)) (readBody (termsOf terms (now words) (now index)) (now b) depth) bodyLength nearOf (now b) at (pos .0) (now tab) (now out) ⌝ }
+    ensures { λ r. ⌜ Wrote (readBody (termsOf terms (now (words .entry)) (now (index .entry))) (now (b .entry)) depth) bodyLength (λ x. sets (now (out .entry)) (pos .0) (bodyOf (now (tab .entry)) x (pos .0))) at (pos .0) (now (out .exit)) r ⌝ }
 {
     let front = at + 2 + 4 * u16_at(b, at);
     let mut left = u16_at(b, front);
     let mut p = front + 2;
     let mut w = pos;
     while 0 < left {
-        let e = write_action(b, terms, p, depth - 1, w, tab, out);
+        let e = write_action(b, words, index, terms, p, depth - 1, w, tab, out);
         p = e.next;
         w = e.pos;
         left -= 1;
@@ -209,21 +235,36 @@ fn write_actions(
 }
 
 // The actions of a main body from the block's start on, and the position after them.
-fn put_main(out: &mut [u8], at: BytePosition, b: &[u8], terms: Terms, tab: &[usize]) -> BytePosition
-    requires { ⌜ (at .0 ≡ 0) × MainWritable (termsOf terms) (now b) (now tab) (now out) ⌝ }
-    ensures { λ r. ⌜ PutMain (termsOf terms) (now (b .entry)) (now (out .entry)) (now (out .exit)) r ⌝ }
+fn put_main<'o, 'a>(
+    out: &'o mut [u8],
+    at: BytePosition,
+    b: &'a [u8],
+    words: &'a [u8],
+    index: &[u32],
+    terms: Terms,
+    tab: &[usize],
+) -> BytePosition
+    requires { ⌜ (at .0 ≡ 0) × MainWritable (termsOf terms (now words) (now index)) (now b) (now tab) (now out) ⌝ }
+    ensures { λ r. ⌜ PutMain (termsOf terms (now (words .entry)) (now (index .entry))) (now (b .entry)) (now (out .entry)) (now (out .exit)) r ⌝ }
 {
-    let e = write_actions(b, terms, 0, 16, at, tab, out);
+    let e = write_actions(b, words, index, terms, 0, 16, at, tab, out);
     e.pos
 }
 
 // The main body's actions are appended to a writer that stands at the block's start.
-fn append_main<'a>(w: Writer<'a>, b: &[u8], terms: Terms, tab: &[usize]) -> Writer<'a>
-    requires { ⌜ (w .at .0 ≡ 0) × MainWritable (termsOf terms) (now b) (now tab) (now (w .out)) ⌝ }
-    ensures { λ r. ⌜ AppendedMain (termsOf terms) (now (b .entry)) (w .entry) r ⌝ }
+fn append_main<'a, 'b>(
+    w: Writer<'a>,
+    b: &'b [u8],
+    words: &'b [u8],
+    index: &[u32],
+    terms: Terms,
+    tab: &[usize],
+) -> Writer<'a>
+    requires { ⌜ (w .at .0 ≡ 0) × MainWritable (termsOf terms (now words) (now index)) (now b) (now tab) (now (w .out)) ⌝ }
+    ensures { λ r. ⌜ AppendedMain (termsOf terms (now (words .entry)) (now (index .entry))) (now (b .entry)) (w .entry) r ⌝ }
 {
     let at = w.at;
-    let next = put_main(&mut *w.out, at, b, terms, tab);
+    let next = put_main(&mut *w.out, at, b, words, index, terms, tab);
     Writer {
         out: w.out,
         at: next,
@@ -232,12 +273,19 @@ fn append_main<'a>(w: Writer<'a>, b: &[u8], terms: Terms, tab: &[usize]) -> Writ
 
 // The block of a main body: one writer over the output takes its actions, then one End. Answers the position reached, which is the
 // block's length.
-pub fn write_main(b: &[u8], terms: Terms, tab: &[usize], out: &mut [u8]) -> BytePosition
-    requires { ⌜ MainWritable (termsOf terms) (now b) (now tab) (now out) ⌝ }
-    ensures { λ r. ⌜ WroteBlock (termsOf terms) (now (b .entry)) (now (out .entry)) (now (out .exit)) r ⌝ }
+pub fn write_main<'a>(
+    b: &'a [u8],
+    words: &'a [u8],
+    index: &[u32],
+    terms: Terms,
+    tab: &[usize],
+    out: &mut [u8],
+) -> BytePosition
+    requires { ⌜ MainWritable (termsOf terms (now words) (now index)) (now b) (now tab) (now out) ⌝ }
+    ensures { λ r. ⌜ WroteBlock (termsOf terms (now (words .entry)) (now (index .entry))) (now (b .entry)) (now (out .entry)) (now (out .exit)) r ⌝ }
 {
     finish(append_u8(
-        append_main(writer_at(out, BytePosition(0)), b, terms, tab),
+        append_main(writer_at(out, BytePosition(0)), b, words, index, terms, tab),
         OpCode::END,
     ))
 }

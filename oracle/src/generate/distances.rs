@@ -1,4 +1,4 @@
-//! Branches whose distance comes to both edges, within one body and through bodies, in both editions.
+//! Branches whose distance comes to both edges, within one body and through bodies, in every edition.
 
 use super::write::{
     Body, Catch, branch, define_function, define_function_2, jump, pop, sheet_in, try_, with,
@@ -8,7 +8,7 @@ use crate::sheet::Edition;
 /// A main body with n Pops between a branch and its label. Its label numbers are the LABELS that begin with k.
 type Shape = fn(u16, u16) -> Body;
 
-/// All of edition 1; of edition 2 the last ones.
+/// All of edition 1; of the others the last ones.
 const LABELS: u16 = Edition::One.labels();
 
 /// Forward, up to 32,767.

@@ -161,11 +161,11 @@ fn orders(give: &mut dyn FnMut(Body)) {
     give(bad_jump(Body::new()).action(set_target(&text(65_535))));
 }
 
-/// In each edition: as many label entries as either edition allows, one less and one more, and numbers at the bounds of both.
+/// In each edition: as many label entries as any edition allows, one less and one more, and numbers at all bounds.
 fn labels(give: &mut dyn FnMut(Vec<u8>)) {
     for edition in Edition::ALL {
         let give = &mut |main: Body| give(sheet_in(edition.number(), &[], &main.bytes()));
-        for bound in Edition::ALL.map(Edition::labels) {
+        for bound in BOUNDS {
             for count in bound - 1..=bound + 1 {
                 entries(count, bound, give);
             }
@@ -210,16 +210,18 @@ fn entries(count: u16, bound: u16, give: &mut dyn FnMut(Body)) {
     }
 }
 
-/// Label numbers at the bound of each edition, and at the ends of a u16.
+/// What label numbers are under: in edition 1, and in the others.
+pub const BOUNDS: [u16; 2] = [Edition::One.labels(), Edition::Two.labels()];
+
+/// Label numbers at the bounds, and at the ends of a u16.
 fn numbers() -> Vec<u16> {
-    let bounds = Edition::ALL.map(Edition::labels);
-    let at_bounds = bounds.into_iter().flat_map(|n| n - 2..=n + 1);
+    let at_bounds = BOUNDS.into_iter().flat_map(|n| n - 2..=n + 1);
     [0].into_iter().chain(at_bounds).chain([u16::MAX]).collect()
 }
 
-/// Both editions, and others near them or with their bytes.
-const EDITIONS: [u16; 13] = [
-    0, 1, 2, 3, 4, 5, 0x00FF, 0x0100, 0x0101, 0x0102, 0x0201, 0x8001, 0xFFFF,
+/// All editions, and others near them or with their bytes.
+const EDITIONS: [u16; 15] = [
+    0, 1, 2, 3, 4, 5, 0x00FF, 0x0100, 0x0101, 0x0102, 0x0103, 0x0201, 0x0300, 0x8001, 0xFFFF,
 ];
 
 /// The same sheets under each edition: no label, the first, one that edition 2 adds, one that none has, and a cut body.

@@ -1,6 +1,7 @@
-//! Random sheets of both editions that read whole, but for a depth now and then: all opcodes, nested bodies, labels in odd
-//! places.
+//! Random sheets of all editions that read whole, but for a depth now and then: all opcodes, nested bodies, labels in odd places;
+//! and books, of which those of edition 3 name entries.
 
+use super::books::{any_book, named_at_random};
 use super::random::Random;
 use super::write::{
     Body, Catch, branch, counted, define_function, define_function_2, push, set_target, sheet_in,
@@ -42,17 +43,20 @@ const DOUBLES: &[u64] = &[
     0x0123_4567_89AB_CDEF,
 ];
 
-/// Editions, and the bound of the label numbers in a sheet: the edition's, or in edition 2 that of edition 1.
+/// Editions, and the bound of the label numbers in a sheet: the edition's, or in editions 2 and 3 that of edition 1.
 const BOUNDS: &[(Edition, u16)] = &[
     (Edition::One, Edition::One.labels()),
     (Edition::One, Edition::One.labels()),
     (Edition::Two, Edition::Two.labels()),
     (Edition::Two, Edition::Two.labels()),
     (Edition::Two, Edition::One.labels()),
+    (Edition::Three, Edition::Three.labels()),
+    (Edition::Three, Edition::Three.labels()),
+    (Edition::Three, Edition::One.labels()),
 ];
 
-/// A random sheet of about as many actions, in all its bodies, as `actions`.
-pub fn random_sheet(random: &mut Random, actions: usize) -> Vec<u8> {
+/// A random sheet of about as many actions, in all its bodies, as `actions`, and a book.
+pub fn random_sheet(random: &mut Random, actions: usize) -> (Vec<u8>, Vec<u8>) {
     let (edition, bound) = random.pick(BOUNDS);
     let labels = 1 + random.below(5);
     let mut labels: Vec<u16> = (0..labels).map(|_| label_number(random, bound)).collect();
@@ -73,7 +77,12 @@ pub fn random_sheet(random: &mut Random, actions: usize) -> Vec<u8> {
     };
     let main = maker.body(1);
     let note = maker.note();
-    sheet_in(edition.number(), &note, &main.bytes())
+    let sheet = sheet_in(edition.number(), &note, &main.bytes());
+    let named = edition.has_book().then(|| named_at_random(&sheet, random));
+    named.flatten().unwrap_or_else(|| {
+        let book = any_book(edition, random);
+        (sheet, book)
+    })
 }
 
 /// A label number under the bound: near 0, the last, the first that edition 1 does not have, any.

@@ -1,6 +1,6 @@
 //! Families of small sheets, each without a gap.
 
-use super::limits::OWNERS;
+use super::limits::{BOUNDS, OWNERS};
 use super::write::{Body, branch, jump, pop, sheet, sheet_in, with};
 use crate::sheet::{Edition, TRAILER};
 use std::ops::RangeInclusive;
@@ -13,8 +13,8 @@ pub fn small(give: &mut dyn FnMut(Vec<u8>)) {
     every_record(give);
 }
 
-/// Every opcode, push kind, Try shape, flag byte and flags word, with too few, enough and too many zero bytes after it, in both
-/// editions.
+/// Every opcode, push kind, Try shape, flag byte and flags word, with too few, enough and too many zero bytes after it, in every
+/// edition.
 fn every_code(give: &mut dyn FnMut(Vec<u8>)) {
     let fronts: &[&[u8]] = &[
         &[],
@@ -68,11 +68,11 @@ fn every_trailer(give: &mut dyn FnMut(Vec<u8>)) {
     }
 }
 
-/// Every place of two labels in a body and of one in a body inside it, with branches before, inside and after; in both editions,
-/// with numbers at the bounds of both, and with two that a table of edition 1's length would take for one.
+/// Every place of two labels in a body and of one in a body inside it, with branches before, inside and after; in every edition,
+/// with numbers at all bounds, and with two that a table of edition 1's length would take for one.
 fn every_label(give: &mut dyn FnMut(Vec<u8>)) {
     let mut numbers = vec![(0, 1), (1, 1), (1, 0)];
-    for bound in Edition::ALL.map(Edition::labels) {
+    for bound in BOUNDS {
         numbers.extend([(0, bound - 1), (0, bound), (bound - 1, bound)]);
     }
     for (first, second) in numbers {
@@ -132,7 +132,9 @@ fn every_run<const N: usize>(bytes: [u8; N], longest: usize, give: &mut dyn FnMu
 /// a branch, and nowhere. Once with the first labels of edition 1, once with the first and the last that edition 2 adds.
 fn every_record(give: &mut dyn FnMut(Vec<u8>)) {
     let added = (Edition::One.labels(), Edition::Two.labels() - 1);
-    for (edition, (first, second)) in [(Edition::One, (0, 1)), (Edition::Two, added)] {
+    let first_labels = (Edition::One, (0, 1));
+    for (edition, (first, second)) in [first_labels, (Edition::Two, added), (Edition::Three, added)]
+    {
         for owner in OWNERS {
             for (inner, other_inner) in pairs(0..=3, &[2, 3]) {
                 for (outer, other_outer) in pairs(0..=4, &[1, 3, 4]) {

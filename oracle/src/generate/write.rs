@@ -1,6 +1,6 @@
-//! Writes sheets, right or wrong: nothing is checked here, so that faults can be written too.
+//! Writes sheets and books, right or wrong: nothing is checked here, so that faults can be written too.
 
-use crate::sheet::Edition;
+use crate::sheet::{Edition, NAMED};
 
 /// A body: label entries as given, and actions that are already bytes.
 #[derive(Clone, Default)]
@@ -68,6 +68,31 @@ pub fn sheet_in(edition: u16, note: &[u8], main: &[u8]) -> Vec<u8> {
 
 pub fn string(bytes: &[u8]) -> Vec<u8> {
     [&u16_of(bytes.len()), bytes].concat()
+}
+
+/// A string of edition 3 that is an entry of the book.
+pub fn named(entry: u16) -> Vec<u8> {
+    [NAMED.to_le_bytes(), entry.to_le_bytes()].concat()
+}
+
+/// A note, entries and the trailer that points back to the first of them.
+pub fn book(note: &[u8], entries: &[Vec<u8>]) -> Vec<u8> {
+    let count = u16::try_from(entries.len()).expect("a u16 count");
+    let entries: Vec<Vec<u8>> = entries.iter().map(|entry| string(entry)).collect();
+    let entries = entries.concat();
+    let distance = u32::try_from(entries.len()).expect("a u32 distance");
+    book_of(&[note, &entries].concat(), distance, count)
+}
+
+/// Any bytes and a trailer.
+pub fn book_of(front: &[u8], distance: u32, count: u16) -> Vec<u8> {
+    [
+        front,
+        &distance.to_le_bytes(),
+        &count.to_le_bytes(),
+        &[0x42, 0x31],
+    ]
+    .concat()
 }
 
 /// A u16 count, then the items.

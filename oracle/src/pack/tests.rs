@@ -1,5 +1,7 @@
 use super::*;
 use crate::answer::{Fault, action, number, value};
+use crate::book::EMPTY;
+use crate::generate::books::all_named;
 use crate::generate::write::{
     Body, Catch, branch, call, define_function, define_function_2, jump, pop, set_target, sheet,
     sheet_in, try_, with,
@@ -14,20 +16,28 @@ fn hex(text: &str) -> Vec<u8> {
         .collect()
 }
 
-/// The answer in each mode to a main body in an edition.
-fn answers_in(edition: u16, main: &[u8]) -> [(u8, i64); 4] {
-    let sheet = sheet_in(edition, &[], main);
+/// With an empty book.
+fn pack(sheet: &[u8], mode: Mode, room: usize) -> Answer {
+    super::pack(sheet, &EMPTY, mode, room)
+}
+
+/// Number, value and action number of the answer in each mode.
+fn told_of(sheet: &[u8], book: &[u8]) -> [(u8, i64, usize); 4] {
     Mode::ALL.map(|mode| {
-        let answer = pack(&sheet, mode, AMPLE);
-        (number(&answer), value(&answer))
+        let answer = super::pack(sheet, book, mode, AMPLE);
+        (number(&answer), value(&answer), action(&answer))
     })
 }
 
-/// The answer in each mode to a main body whose label numbers are small: they are the same in both editions.
+/// The answer in each mode to a main body in an edition.
+fn answers_in(edition: u16, main: &[u8]) -> [(u8, i64); 4] {
+    let told = told_of(&sheet_in(edition, &[], main), &EMPTY);
+    told.map(|(number, value, _)| (number, value))
+}
+
+/// The answer in each mode to a main body whose label numbers are small: they are the same in every edition.
 fn answers_to(main: &Body) -> [(u8, i64); 4] {
-    let [one, two] = [1, 2].map(|edition| answers_in(edition, &main.bytes()));
-    assert_eq!(one, two);
-    one
+    all_told(&main.bytes()).map(|(number, value, _)| (number, value))
 }
 
 /// The answer in every mode, which must be the same.
@@ -54,7 +64,7 @@ fn contained_answer_to(main: &Body) -> (u8, i64) {
 /// Its label is never recorded.
 const P7: &str = "01 00 00 00 02 00 01 00 99 00 00";
 
-/// Document 01, P1 to P12: main body and block, which is the same in both editions.
+/// Document 01, P1 to P12: main body and block, which is the same in every edition.
 #[test]
 fn sums_worked_by_hand() {
     let sums = [
@@ -85,7 +95,7 @@ fn sums_worked_by_hand() {
     ];
     for (main, block) in sums {
         let (block, room) = (hex(block), hex(block).len());
-        for edition in [1, 2] {
+        for edition in [1, 2, 3] {
             let sheet = sheet_in(edition, &[], &hex(main));
             for mode in Mode::ALL {
                 if mode.strict && main == P7 {
@@ -277,19 +287,19 @@ fn stray_among_the_answers() {
     );
 }
 
-/// Document 02, item 6: what the trailer's number is, and what its label numbers may be.
+/// Document 02, items 6 and 8: what the trailer's number is, and what its label numbers may be.
 #[test]
 fn editions_and_their_bounds() {
     let edition = Edition::from_number;
-    assert_eq!([1, 2].map(edition), Edition::ALL.map(Some));
-    for other in [0, 3, 4, 0x0100, 0x0101, 0x0102, 0x0200, u16::MAX] {
+    assert_eq!([1, 2, 3].map(edition), Edition::ALL.map(Some));
+    for other in [0, 4, 5, 0x0100, 0x0101, 0x0102, 0x0200, u16::MAX] {
         assert_eq!(edition(other), None);
     }
     let last = Edition::ALL.map(|edition| (edition.number(), edition.labels() - 1));
-    assert_eq!(last, [(1, 1_023), (2, 4_095)]);
+    assert_eq!(last, [(1, 1_023), (2, 4_095), (3, 4_095)]);
 }
 
-/// Main bodies, and their answers in edition 1 and in edition 2, in plain mode.
+/// Main bodies, and their answers in edition 1 and in editions 2 and 3, in plain mode.
 #[test]
 fn label_numbers_by_the_edition() {
     let cases = [
@@ -328,6 +338,7 @@ fn label_numbers_by_the_edition() {
     for (main, one, two) in cases {
         assert_eq!(answers_in(1, &hex(main))[0], one, "{main}");
         assert_eq!(answers_in(2, &hex(main))[0], two, "{main}");
+        assert_eq!(answers_in(3, &hex(main))[0], two, "{main}");
     }
     let noted = sheet_in(2, b"note", &hex("00 00 01 00 99 00 10"));
     assert_eq!(
@@ -342,12 +353,12 @@ fn label_numbers_by_the_edition() {
 fn other_editions_are_refused() {
     let p6 = "01 00 00 00 00 00 01 00 99 00 00";
     for main in [p6, "00 00 01 00 99 00 04", "00 00 01 00 99 00 10", "FF"] {
-        for edition in [0, 3, 4, 0x00FF, 0x0100, 0x0101, 0x0102, 0x0200, u16::MAX] {
+        for edition in [0, 4, 5, 0x00FF, 0x0100, 0x0101, 0x0102, 0x0200, u16::MAX] {
             assert_eq!(answers_in(edition, &hex(main)), [(2, 0); 4]);
         }
     }
     let too_long = vec![0; 1_048_577 - 8 - 11];
-    for edition in [2, 3] {
+    for edition in [2, 3, 4] {
         let sheet = sheet_in(edition, &too_long, &hex(p6));
         let answer = pack(&sheet, Mode::PLAIN, AMPLE);
         assert_eq!(answer, Err(Refusal::SheetTooLong(1_048_577)));
@@ -369,9 +380,9 @@ fn other_editions_are_refused() {
     );
 }
 
-/// Blocks of edition 2, worked by hand. Labels that have the same low bits are different labels.
+/// Blocks of editions 2 and 3, worked by hand. Labels that have the same low bits are different labels.
 #[test]
-fn blocks_of_edition_2() {
+fn blocks_of_labels_from_1024_on() {
     let jumps = |labels: [u16; 4]| labels.into_iter().map(jump).fold(Body::new(), Body::action);
     let alike = jumps([0, 1_024, 2_048, 3_072]);
     let falling = alike.label(0, 3).label(1_024, 2).label(2_048, 1);
@@ -404,21 +415,27 @@ fn blocks_of_edition_2() {
         ),
     ];
     for (main, block) in cases {
-        let sheet = sheet_in(2, &[], &main.bytes());
         let (block, room) = (hex(block), hex(block).len());
-        for mode in Mode::ALL {
-            assert_eq!(pack(&sheet, mode, room), Ok(block.clone()));
-            assert_eq!(pack(&sheet, mode, room - 1), Err(Refusal::NoRoom(room)));
+        for edition in [2, 3] {
+            let sheet = sheet_in(edition, &[], &main.bytes());
+            for mode in Mode::ALL {
+                assert_eq!(pack(&sheet, mode, room), Ok(block.clone()));
+                assert_eq!(pack(&sheet, mode, room - 1), Err(Refusal::NoRoom(room)));
+            }
         }
         let one = answers_in(1, &main.bytes());
         assert_eq!(one.map(|(number, _)| number), [5; 4]);
     }
 }
 
-/// 10, 14 and 15 for labels from 1,024 on.
+/// 10, 14 and 15 for labels from 1,024 on, in editions 2 and 3.
 #[test]
-fn branches_of_edition_2() {
-    let answers = |main: Body| answers_in(2, &main.bytes());
+fn branches_of_labels_from_1024_on() {
+    let answers = |main: Body| {
+        let [two, three] = [2, 3].map(|edition| answers_in(edition, &main.bytes()));
+        assert_eq!(two, three);
+        two
+    };
     let far = |label: u16, pops: u16| {
         let main = Body::new().label(label, pops + 1).action(jump(label));
         answers(main.times(pops, pop()))
@@ -457,7 +474,7 @@ fn branches_of_edition_2() {
     assert_eq!(answers(stays), [done; 4]);
 }
 
-/// As many entries as edition 2 has label numbers, and one more.
+/// As many entries as editions 2 and 3 have label numbers, and one more.
 #[test]
 fn entries_of_every_label() {
     let entries = |count: u16| (0..count).fold(Body::new(), |body, n| body.label(n, n % 4));
@@ -469,10 +486,12 @@ fn entries_of_every_label() {
     // behind 1,024 entries and two jumps, 4,095 is refused in edition 1
     assert_eq!(answers(1, 1_024), [(5, 4_107); 4]);
     let (done, lost) = ((0, 16), (14, 13));
-    assert_eq!(answers(2, 1_024), [done, lost, done, lost]);
-    assert_eq!(answers(2, 4_095), [done, lost, done, lost]);
-    assert_eq!(answers(2, 4_096), [done; 4]);
-    assert_eq!(answers(2, 4_097), [(5, 16_386); 4]);
+    for edition in [2, 3] {
+        assert_eq!(answers(edition, 1_024), [done, lost, done, lost]);
+        assert_eq!(answers(edition, 4_095), [done, lost, done, lost]);
+        assert_eq!(answers(edition, 4_096), [done; 4]);
+        assert_eq!(answers(edition, 4_097), [(5, 16_386); 4]);
+    }
     let block = pack(
         &sheet_in(2, &[], &jumps(entries(4_096)).bytes()),
         Mode::PLAIN,
@@ -552,16 +571,14 @@ fn strings_outside_utf8_pass_through() {
     assert_eq!(pack(&sheet, Mode::PLAIN, AMPLE), Ok(hex(block)));
 }
 
-/// Number, value and action number of the answer in each mode to a main body, which are the same in both editions.
+/// Number, value and action number of the answer in each mode to a main body, which are the same in every edition. If the main body
+/// reads whole, all its strings are named in edition 3; else none is.
 fn all_told(main: &[u8]) -> [(u8, i64, usize); 4] {
-    let [one, two] = [1, 2].map(|edition| {
-        let sheet = sheet_in(edition, &[], main);
-        Mode::ALL.map(|mode| {
-            let answer = pack(&sheet, mode, AMPLE);
-            (number(&answer), value(&answer), action(&answer))
-        })
-    });
+    let [one, two] = [1, 2].map(|edition| told_of(&sheet_in(edition, &[], main), &EMPTY));
     assert_eq!(one, two);
+    let (sheet, book) =
+        all_named(&sheet(&[], main)).unwrap_or_else(|| (sheet_in(3, &[], main), EMPTY.to_vec()));
+    assert_eq!(one, told_of(&sheet, &book));
     one
 }
 

@@ -1,6 +1,6 @@
 //! Sheets, and packing into an output whose every byte is looked at.
 #![allow(dead_code)]
-use merinovault::{Mode, Refusal, pack};
+use merinovault::{Mode, Refusal, pack, pack_with_book};
 
 /// By the bits of a mode in the list of crates/replay: bit 0 is strict, bit 1 contained.
 pub const MODES: [Mode; 4] = [
@@ -38,10 +38,36 @@ pub fn body(labels: &[(usize, usize)], actions: &[&[u8]]) -> Vec<u8> {
     .concat()
 }
 
+pub fn u32(n: usize) -> [u8; 4] {
+    u32::try_from(n).expect("a u32").to_le_bytes()
+}
+
 /// A main body, with its note and its trailer, which has this edition.
 pub fn sheet_in(edition: usize, note: &[u8], main: &[u8]) -> Vec<u8> {
-    let distance = u32::try_from(main.len()).expect("a u32").to_le_bytes();
+    let distance = u32(main.len());
     [note, main, &distance, &u16(edition), &[0x41, 0x31]].concat()
+}
+
+/// A string of a sheet of edition 3 that is this entry of the book.
+pub fn named(entry: usize) -> Vec<u8> {
+    [[0xFF, 0xFF], u16(entry)].concat()
+}
+
+/// The entries of a book, one after another.
+pub fn entries(words: &[&[u8]]) -> Vec<u8> {
+    let entry = |word: &&[u8]| [&u16(word.len())[..], word].concat();
+    words.iter().flat_map(entry).collect()
+}
+
+/// A book: bytes that are passed over, entries, and the trailer with this number of them.
+pub fn book_of(note: &[u8], entries: &[u8], count: usize) -> Vec<u8> {
+    let distance = u32(entries.len());
+    [note, entries, &distance, &u16(count), &[0x42, 0x31]].concat()
+}
+
+/// The book of these words.
+pub fn book(words: &[&[u8]]) -> Vec<u8> {
+    book_of(&[], &entries(words), words.len())
 }
 
 /// The same in edition 1.
@@ -136,9 +162,14 @@ fn all_sums() -> Vec<(Vec<u8>, Vec<u8>)> {
 /// More than the blocks of these tests need.
 pub const ROOM: usize = 200_000;
 
-/// The refusal in this mode, with its number, value and action number held to the documents'.
-pub fn refused_in(mode: Mode, sheet: &[u8], number: u32, value: i64, action: u64) -> Refusal {
-    let refusal = packed(sheet, mode, ROOM).expect_err("a refusal");
+/// The refusal of a packing, which is given its room, with number, value and action number held to the documents'.
+fn refused_by(
+    packing: impl Fn(usize) -> Result<Vec<u8>, Refusal>,
+    number: u32,
+    value: i64,
+    action: u64,
+) -> Refusal {
+    let refusal = packing(ROOM).expect_err("a refusal");
     // One that names no action has action number 0.
     let named = refusal.action().unwrap_or(0);
     assert_eq!(
@@ -147,8 +178,13 @@ pub fn refused_in(mode: Mode, sheet: &[u8], number: u32, value: i64, action: u64
         "{refusal:?}"
     );
     // What is wrong with a sheet comes before the room.
-    assert_eq!(packed(sheet, mode, 0), Err(refusal));
+    assert_eq!(packing(0), Err(refusal));
     refusal
+}
+
+/// The refusal in this mode.
+pub fn refused_in(mode: Mode, sheet: &[u8], number: u32, value: i64, action: u64) -> Refusal {
+    refused_by(|room| packed(sheet, mode, room), number, value, action)
 }
 
 /// The refusal, which is the same in every mode.
@@ -158,13 +194,44 @@ pub fn refused(sheet: &[u8], number: u32, value: i64, action: u64) -> Refusal {
     refusals[0]
 }
 
+/// The refusal with this book, which is the same in every mode.
+pub fn refused_with(book: &[u8], sheet: &[u8], number: u32, value: i64, action: u64) -> Refusal {
+    let refusals = MODES.map(|mode| {
+        let packing = |room| packed_with(book, sheet, mode, room);
+        refused_by(packing, number, value, action)
+    });
+    assert_eq!(refusals, [refusals[0]; 4]);
+    refusals[0]
+}
+
+/// The block with this book, which is the same in every mode.
+pub fn taken_with(book: &[u8], sheet: &[u8]) -> Vec<u8> {
+    let [block, others @ ..] =
+        MODES.map(|mode| packed_with(book, sheet, mode, ROOM).expect("a block"));
+    assert!(others.iter().all(|other| *other == block));
+    block
+}
+
+/// Packs without a book, into an output of this room, and looks at every byte (`looked_at`).
+pub fn packed(sheet: &[u8], mode: Mode, room: usize) -> Result<Vec<u8>, Refusal> {
+    looked_at(room, |out| pack(sheet, mode, out))
+}
+
+/// The same with a book.
+pub fn packed_with(book: &[u8], sheet: &[u8], mode: Mode, room: usize) -> Result<Vec<u8>, Refusal> {
+    looked_at(room, |out| pack_with_book(sheet, book, mode, out))
+}
+
 /// Packs into an output of this room, twice, over two fills. Fails if a byte changed that must keep its value: past a Done
 /// length, on a refusal any, and around the output.
-pub fn packed(sheet: &[u8], mode: Mode, room: usize) -> Result<Vec<u8>, Refusal> {
+fn looked_at(
+    room: usize,
+    packing: impl Fn(&mut [u8]) -> Result<usize, Refusal>,
+) -> Result<Vec<u8>, Refusal> {
     const AROUND: usize = 64;
     let once = |fill: u8| {
         let mut space = vec![fill; AROUND + room + AROUND];
-        let answer = pack(sheet, mode, &mut space[AROUND..AROUND + room]);
+        let answer = packing(&mut space[AROUND..AROUND + room]);
         let written = answer.unwrap_or(0);
         assert!(written <= room, "a Done length within the room");
         let block = space[AROUND..AROUND + written].to_vec();

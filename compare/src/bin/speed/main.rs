@@ -1,10 +1,10 @@
-//! Ratios in one run: the packer's C entry against the Rust's reading and encoding, and against its encoding alone; and strict
-//! and contained mode against plain.
+//! Ratios in one run: the packer's C entry against the Rust's reading and encoding, and against its encoding alone; strict and
+//! contained mode against plain; and strings that are entries of a book against the same strings spelt.
 //! No buffer is cleared between rounds; the Rust grows a new Vec each time, as it does in service.
 
 mod sheets;
 
-use merinovault::{Mode, pack};
+use merinovault::{EMPTY_BOOK, Mode, pack_with_book as pack};
 use oracle::answer;
 use oracle::sheet::Edition;
 use std::hint::black_box;
@@ -56,22 +56,22 @@ struct Times {
 }
 
 /// Times our entry in plain mode and the others, the Rust's reading and encoding, and its encoding alone.
-fn time(sheet: &[u8], rounds: u32) -> Times {
+fn time(sheet: &[u8], book: &[u8], rounds: u32) -> Times {
     let mut out = vec![0; 4 * sheet.len() + 64];
-    let whole = oracle::sheet::read(sheet, b'y').expect("a sheet that reads");
+    let whole = oracle::sheet::read(sheet, book, b'y').expect("a sheet that reads");
     let block = oracle::pack::encode(&whole).expect("a block");
-    let n = pack(sheet, Mode::PLAIN, &mut out).expect("a block");
+    let n = pack(sheet, book, Mode::PLAIN, &mut out).expect("a block");
     assert_eq!(&out[..n], &block[..], "the two blocks differ");
     let taken = OTHERS.map(|(_, mode, theirs)| {
-        let taken = oracle::pack::pack(sheet, theirs, out.len()).is_ok();
+        let taken = oracle::pack::pack(sheet, book, theirs, out.len()).is_ok();
         taken.then_some(mode)
     });
 
     let mut ours = |mode| {
-        black_box(pack(black_box(sheet), mode, &mut out).unwrap());
+        black_box(pack(black_box(sheet), black_box(book), mode, &mut out).unwrap());
     };
     let mut both = || {
-        let whole = oracle::sheet::read(black_box(sheet), b'y').unwrap();
+        let whole = oracle::sheet::read(black_box(sheet), black_box(book), b'y').unwrap();
         black_box(oracle::pack::encode(&whole).unwrap());
     };
     let mut encoding = || {
@@ -100,18 +100,40 @@ fn time(sheet: &[u8], rounds: u32) -> Times {
     }
 }
 
-/// The cases, by name; those with a 2 are of edition 2.
-const CASES: [(&str, fn() -> Vec<u8>); 9] = [
-    ("screen", || sheets::screen(50)),
-    ("recorded", || sheets::screen(500)),
-    ("large", || sheets::screen(2_570)),
-    ("tiny", || sheets::tiny(Edition::One)),
-    ("tiny2", || sheets::tiny(Edition::Two)),
-    ("strings", sheets::strings),
-    ("labels", sheets::labels),
-    ("form2", sheets::form),
-    ("deep", sheets::deep),
+/// A sheet and its book.
+type Lent = (Vec<u8>, Vec<u8>);
+
+/// With an empty book.
+fn alone(sheet: Vec<u8>) -> Lent {
+    (sheet, EMPTY_BOOK.to_vec())
+}
+
+/// With a book of as many entries as there can be.
+fn with_book(sheet: Vec<u8>) -> Lent {
+    (sheet, sheets::book())
+}
+
+/// The cases, by name; those with a 2 are of edition 2, with a 3 of edition 3.
+const CASES: [(&str, fn() -> Lent); 14] = [
+    ("screen", || alone(sheets::screen(50))),
+    ("recorded", || alone(sheets::screen(500))),
+    ("large", || alone(sheets::screen(2_570))),
+    ("tiny", || alone(sheets::tiny(Edition::One))),
+    ("tiny2", || alone(sheets::tiny(Edition::Two))),
+    ("tiny3", || alone(sheets::tiny(Edition::Three))),
+    ("strings", || alone(sheets::strings())),
+    ("labels", || alone(sheets::labels())),
+    ("form2", || alone(sheets::form())),
+    ("deep", || alone(sheets::deep())),
+    ("book3", || with_book(sheets::tiny(Edition::Three))),
+    ("named3", || with_book(sheets::named(sheets::SCATTERED))),
+    ("turn3", || with_book(sheets::named(sheets::IN_TURN))),
+    ("spelt2", || alone(sheets::spelt(sheets::SCATTERED))),
 ];
+
+/// What is timed for each byte: strings that are entries, and the same strings spelt.
+const NAMED: [&str; 2] = ["named3", "turn3"];
+const SPELT: &str = "spelt2";
 
 fn main() {
     let words: Vec<String> = std::env::args().skip(1).collect();
@@ -126,24 +148,32 @@ fn main() {
 
 /// One side of one case so many times, and nothing else: for a profiler or a counter of instructions.
 fn run(case: &str, side: &str, times: u32) {
-    let (_, made) = CASES
-        .iter()
-        .find(|(name, _)| *name == case)
-        .expect("a case");
-    let sheet = &made();
+    let (sheet, book) = &made(case);
     let mut out = vec![0; 4 * sheet.len() + 64];
-    let whole = oracle::sheet::read(sheet, b'y').expect("a sheet that reads");
+    let whole = oracle::sheet::read(sheet, book, b'y').expect("a sheet that reads");
     for _ in 0..times {
         match side {
-            "ours" => drop(black_box(pack(black_box(sheet), Mode::PLAIN, &mut out))),
+            "ours" => drop(black_box(pack(
+                black_box(sheet),
+                black_box(book),
+                Mode::PLAIN,
+                &mut out,
+            ))),
             "both" => {
-                let whole = oracle::sheet::read(black_box(sheet), b'y').unwrap();
+                let whole = oracle::sheet::read(black_box(sheet), black_box(book), b'y').unwrap();
                 drop(black_box(oracle::pack::encode(&whole)));
             }
             "encoding" => drop(black_box(oracle::pack::encode(black_box(&whole)))),
             _ => panic!("ours, both or encoding"),
         }
     }
+}
+
+/// The sheet and the book of a case.
+fn made(case: &str) -> Lent {
+    let found = CASES.iter().find(|(name, _)| *name == case);
+    let (_, made) = found.expect("a case");
+    made()
 }
 
 fn ratios(rounds: u32) {
@@ -155,8 +185,8 @@ fn ratios(rounds: u32) {
         "case", "sheet", "block", "(i)", "(ii)"
     );
     for (name, made) in CASES {
-        let sheet = made();
-        let times = time(&sheet, rounds);
+        let (sheet, book) = made();
+        let times = time(&sheet, &book, rounds);
         let [strict, contained] = times.others.map(|other| {
             other.map_or("refused".into(), |other| {
                 format!("{:.2}", other / times.ours)
@@ -174,12 +204,30 @@ fn ratios(rounds: u32) {
     println!("\ntime for each byte of the block, against the first");
     let mut first = None;
     for handlers in [70, 140, 450, 1_400, 4_500, 8_000] {
-        let times = time(&sheets::screen(handlers), rounds.min(5));
+        let times = time(&sheets::screen(handlers), &EMPTY_BOOK, rounds.min(5));
         let each = times.ours / times.block as f64;
         println!(
             "{:>9} {:>7.2}",
             times.block,
             each / *first.get_or_insert(each)
         );
+    }
+    named_against_spelt(rounds);
+}
+
+/// How long a byte of the block takes where strings are entries of a book of 65,535, in nanoseconds and against the same strings
+/// spelt. In `named3` each entry is far from the one before, in `turn3` it is the next one.
+fn named_against_spelt(rounds: u32) {
+    println!("\nnanoseconds for each byte of the block, and against the same strings spelt");
+    let each = |case: &str| {
+        let (sheet, book) = made(case);
+        let times = time(&sheet, &book, rounds);
+        (times.block, 1e9 * times.ours / times.block as f64)
+    };
+    let (length, spelt) = each(SPELT);
+    println!("{SPELT:<10} {length:>9} {spelt:>7.3} {:>7.2}", 1.0);
+    for case in NAMED {
+        let (length, named) = each(case);
+        println!("{case:<10} {length:>9} {named:>7.3} {:>7.2}", named / spelt);
     }
 }

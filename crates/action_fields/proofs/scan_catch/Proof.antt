@@ -15,14 +15,14 @@ add-p c = search needs
 try-len-requires : tie.Need-try-len-requires
 try-len-requires c κs = search needs
 
-add-t11 : tie.Need-add-t11
-add-t11 c = search needs
+add-t13 : tie.Need-add-t13
+add-t13 c = search needs
 
 try-len-requires-2 : tie.Need-try-len-requires-2
 try-len-requires-2 c κs = search needs
 
-add-t11-2 : tie.Need-add-t11-2
-add-t11-2 c = search needs
+add-t13-2 : tie.Need-add-t13-2
+add-t13-2 c = search needs
 
 shared-slice-read-match : tie.Need-shared-slice-read-match
 shared-slice-read-match c = search needs
@@ -73,9 +73,9 @@ scan-catch-spec =
     returns
     add-p
     try-len-requires
-    add-t11
+    add-t13
     try-len-requires-2
-    add-t11-2
+    add-t13-2
     shared-slice-read-match
     scan-string-requires
     scan-string-requires-2

@@ -1,9 +1,8 @@
-use mathlib.Core.Path.{refl, sym, ap, _∙_}
-use Prim.Native.Nat.{ℕ, _+_}
+use mathlib.Core.Path.{refl}
 use Rattle.operands.proofs.Scans.{ends-is}
-use Rattle.operands.proofs.Reading.{string-read}
 use Rattle.action_fields.specs.Fields.{readGetUrl}
 use native.Mathlib.Omega.{arith}
+use Rattle.editions.proofs.Listed.{terms-short}
 use Rattle.lists.proofs.Lists as lists
 use Rattle.action_fields.proofs.Steps as steps
 use borrow.Author.Needs.{needs}
@@ -20,7 +19,7 @@ enum-known-p : tie.Need-enum-known-p
 enum-known-p c = search needs
 
 scan-string-requires-2 : tie.Need-scan-string-requires-2
-scan-string-requires-2 c κs = lists.text-after _ _ 0 (omega arith) _ _ _ _ _ _ (c .before .before .before .before .before .pre) (c .before .before .before .scan-string .ensures) (c .before .p .given .1) (omega arith)
+scan-string-requires-2 c κs = lists.text-after _ (terms-short (c .before .before .before .before .before .before .before .args .terms) _ _) _ 0 (omega arith) _ _ _ _ _ _ (c .before .before .before .before .before .before .before .pre) (c .before .before .before .scan-string .ensures) (c .before .p .given .1) (omega arith)
 
 enum-known-f-2 : tie.Need-enum-known-f-2
 enum-known-f-2 c = search needs
@@ -28,17 +27,23 @@ enum-known-f-2 c = search needs
 enum-known-q : tie.Need-enum-known-q
 enum-known-q c = search needs
 
-u16-at-requires : tie.Need-u16-at-requires
-u16-at-requires c κs = lists.text-told _ _ _ _ _ _ _ (c .before .before .before .before .before .before .before .scan-string .ensures) (c .before .before .before .before .before .p .given .1) .0
+text-len-requires : tie.Need-text-len-requires
+text-len-requires c κs = lists.text-some _ _ _ _ _ _ _ (c .before .before .before .before .before .before .before .scan-string .ensures) (c .before .before .before .before .before .p .given .1)
 
-u16-at-requires-2 : tie.Need-u16-at-requires-2
-u16-at-requires-2 c κs = lists.text-told _ _ _ _ _ _ _ (c .before .before .before .before .scan-string2 .ensures) (c .before .before .q .given .1) .0
+text-len-requires-2 : tie.Need-text-len-requires-2
+text-len-requires-2 c κs = lists.text-some _ _ _ _ _ _ _ (c .before .before .before .before .scan-string2 .ensures) (c .before .before .q .given .1)
 
 get-url-len-requires : tie.Need-get-url-len-requires
-get-url-len-requires c κs = search needs
+get-url-len-requires c κs =
+    let y = lists.text-after _ (terms-short (c .before .before .before .before .before .before .before .before .before .before .before .before .before .args .terms) _ _) _ 0 (omega arith) _ _ _ _ (c .before .before .before .before .before .before .before .p .given .0 .1 .0) _ (c .before .before .before .before .before .before .before .before .before .before .before .before .before .pre) (c .before .before .before .before .before .before .before .before .before .scan-string .ensures) (c .before .before .before .before .before .before .before .p .given .1) (omega arith) in
+    let z = lists.text-room _ (terms-short (c .before .before .before .before .before .before .before .before .before .before .before .before .before .args .terms) _ _) _ _ _ _ _ _ y (c .before .before .before .before .before .scan-string2 .ensures) (c .before .before .before .q .given .1) in
+    (omega (arith, y .room, c .before .text-len .ensures), omega (arith, z, c .text-len2 .ensures))
 
-add-t17 : tie.Need-add-t17
-add-t17 c = omega (arith, c .before .before .before .before .before .before .before .before .before .before .before .before .before .pre .room, c .before .get-url-len .ensures)
+add-t20 : tie.Need-add-t20
+add-t20 c =
+    let y = lists.text-after _ (terms-short (c .before .before .before .before .before .before .before .before .before .before .before .before .before .before .before .args .terms) _ _) _ 0 (omega arith) _ _ _ _ (c .before .before .before .before .before .before .before .before .before .p .given .0 .1 .0) _ (c .before .before .before .before .before .before .before .before .before .before .before .before .before .before .before .pre) (c .before .before .before .before .before .before .before .before .before .before .before .scan-string .ensures) (c .before .before .before .before .before .before .before .before .before .p .given .1) (omega arith) in
+    let z = lists.text-room _ (terms-short (c .before .before .before .before .before .before .before .before .before .before .before .before .before .before .before .args .terms) _ _) _ _ _ _ _ _ y (c .before .before .before .before .before .before .before .scan-string2 .ensures) (c .before .before .before .before .before .q .given .1) in
+    omega (arith, z, c .before .get-url-len .ensures, c .before .before .text-len2 .ensures, c .before .before .before .text-len .ensures)
 
 returns : tie.Need-returns
 unfolding readGetUrl
@@ -53,7 +58,7 @@ unfolding readGetUrl
 returns-3 c =
     let e = ends-is _ _ _ (c .before .before .before .before .before .before .before .scan-string2 .ensures) (c .before .before .before .before .before .q .given .1) in
     steps.then-ends _ _ _ _ _ _ _ (c .before .before .before .before .before .before .before .before .before .before .before .scan-string .ensures) (c .before .before .before .before .before .before .before .before .before .p .given .1)
-    (λ s g h. steps.url-in _ _ _ s (e .0) _ _ _ _ _ (e .1) (string-read _ _ _ g .1 ∙ ap (λ (n : ℕ). n + 1) (sym (c .before .before .before .u16-at .ensures .0))) (string-read _ _ _ (e .1) .1 ∙ ap (λ (n : ℕ). n + 1) (sym (c .before .before .u16-at2 .ensures .0))) (c .before .get-url-len .ensures) refl)
+    (λ s g h. steps.url-in _ _ _ s (e .0) _ _ _ _ _ (e .1) (omega (arith, h, lists.text-some _ _ _ _ _ _ _ (c .before .before .before .before .before .before .before .before .before .before .before .scan-string .ensures) (c .before .before .before .before .before .before .before .before .before .p .given .1), c .before .before .before .text-len .ensures)) (omega (arith, e .2, lists.text-some _ _ _ _ _ _ _ (c .before .before .before .before .before .before .before .scan-string2 .ensures) (c .before .before .before .before .before .q .given .1), c .before .before .text-len2 .ensures)) (c .before .get-url-len .ensures) refl)
 
 pub scan-get-url-spec : {M : Type 1} → statement M
 scan-get-url-spec =
@@ -65,10 +70,10 @@ scan-get-url-spec =
     scan-string-requires-2
     enum-known-f-2
     enum-known-q
-    u16-at-requires
-    u16-at-requires-2
+    text-len-requires
+    text-len-requires-2
     get-url-len-requires
-    add-t17
+    add-t20
     returns
     returns-2
     returns-3)

@@ -46,6 +46,9 @@ enum-known-a-9 c = search needs
 enum-known-a-10 : tie.Need-enum-known-a-10
 enum-known-a-10 c = search needs
 
+enum-told-5 : tie.Need-enum-told-5
+enum-told-5 c = search needs
+
 returns : tie.Need-returns
 unfolding action
 returns c = rw (c .enum-told .given .1)
@@ -102,6 +105,10 @@ returns-14 : tie.Need-returns-14
 unfolding action
 returns-14 c = rw (c .before .a10 .given .1)
 
+returns-15 : tie.Need-returns-15
+unfolding action
+returns-15 c = rw (c .enum-told5 .given .1)
+
 pub action-of-spec : {M : Type 1} → statement M
 action-of-spec =
     tie.close
@@ -120,6 +127,7 @@ action-of-spec =
     enum-told-4
     enum-known-a-9
     enum-known-a-10
+    enum-told-5
     returns
     returns-2
     returns-3
@@ -133,4 +141,5 @@ action-of-spec =
     returns-11
     returns-12
     returns-13
-    returns-14)
+    returns-14
+    returns-15)

@@ -50,6 +50,9 @@ enum-known-a-12 c = search needs
 enum-known-a-13 : tie.Need-enum-known-a-13
 enum-known-a-13 c = search needs
 
+enum-told-2 : tie.Need-enum-told-2
+enum-told-2 c = search needs
+
 returns : tie.Need-returns
 unfolding value number valueBy pick
 returns c = rw (c .before .a .given .1) (natural-bits _ (omega arith), refl)
@@ -106,6 +109,10 @@ returns-14 : tie.Need-returns-14
 unfolding value number valueBy pick
 returns-14 c = rw (c .before .a13 .given .1) (natural-bits _ (omega arith), refl)
 
+returns-15 : tie.Need-returns-15
+unfolding value number valueBy pick
+returns-15 c = rw (c .enum-told2 .given .1) (unfold bits64 in refl, refl)
+
 pub value-of-spec : {M : Type 1} → statement M
 value-of-spec =
     tie.close
@@ -124,6 +131,7 @@ value-of-spec =
     enum-known-a-11
     enum-known-a-12
     enum-known-a-13
+    enum-told-2
     returns
     returns-2
     returns-3
@@ -137,4 +145,5 @@ value-of-spec =
     returns-11
     returns-12
     returns-13
-    returns-14)
+    returns-14
+    returns-15)

@@ -7,6 +7,7 @@ use Rattle.positions.specs.Scanned.{faultOf}
 use Rattle.layout.specs.Read.{readBody}
 use Rattle.layout.specs.Tree.{bodyCount}
 use Rattle.editions.specs.Allowed.{termsOf}
+use Rattle.editions.proofs.Listed.{terms-short}
 use Rattle.labels.proofs.Labels.{slots-kept}
 use mathlib.Core.Path.{refl, sym, _∙_}
 use native.Mathlib.Omega.{arith}
@@ -37,52 +38,52 @@ use Rattle.front.proofs.scan_front.Reads as scan-front-reads
 use Rattle.bodies.proofs.+scan_action+scan_actions+scan_bodies+scan_body.{statement}
 use Rattle.bodies.proofs.+scan_action+scan_actions+scan_bodies+scan_body.Tie.{close}
 
-abbrev μ-scan-action : Measures 4 scan-action-kinds.ps ℕ
-μ-scan-action κs a = a .1 .1 .1 .0 * 4 + 2
+abbrev μ-scan-action : Measures 6 scan-action-kinds.ps ℕ
+μ-scan-action κs a = a .1 .1 .1 .1 .1 .0 * 4 + 2
 
-abbrev μ-scan-actions : Measures 4 scan-actions-kinds.ps ℕ
-μ-scan-actions κs a = a .1 .1 .1 .1 .0 * 4 + 3
+abbrev μ-scan-actions : Measures 6 scan-actions-kinds.ps ℕ
+μ-scan-actions κs a = a .1 .1 .1 .1 .1 .1 .0 * 4 + 3
 
-abbrev μ-scan-bodies : Measures 4 scan-bodies-kinds.ps ℕ
-μ-scan-bodies κs a = a .1 .1 .1 .0 * 4 + 1
+abbrev μ-scan-bodies : Measures 6 scan-bodies-kinds.ps ℕ
+μ-scan-bodies κs a = a .1 .1 .1 .1 .1 .0 * 4 + 1
 
-abbrev μ-scan-body : Measures 4 scan-body-kinds.ps ℕ
-μ-scan-body κs a = a .1 .1 .1 .0 * 4
+abbrev μ-scan-body : Measures 6 scan-body-kinds.ps ℕ
+μ-scan-body κs a = a .1 .1 .1 .1 .1 .0 * 4
 
-abbrev scan-action-at : ℕ → In 4 scan-action-kinds.ps
+abbrev scan-action-at : ℕ → In 6 scan-action-kinds.ps
 scan-action-at t =
-    and 4 scan-action-kinds.ps (is 4 scan-action-kinds.ps μ-scan-action t) scan-action.Pre
+    and 6 scan-action-kinds.ps (is 6 scan-action-kinds.ps μ-scan-action t) scan-action.Pre
 
-abbrev scan-action-below : ℕ → In 4 scan-action-kinds.ps
+abbrev scan-action-below : ℕ → In 6 scan-action-kinds.ps
 scan-action-below t =
-    and 4 scan-action-kinds.ps (falls 4 scan-action-kinds.ps _<_ μ-scan-action t) scan-action.Pre
+    and 6 scan-action-kinds.ps (falls 6 scan-action-kinds.ps _<_ μ-scan-action t) scan-action.Pre
 
-abbrev scan-actions-at : ℕ → In 4 scan-actions-kinds.ps
+abbrev scan-actions-at : ℕ → In 6 scan-actions-kinds.ps
 scan-actions-at t =
-    and 4 scan-actions-kinds.ps (is 4 scan-actions-kinds.ps μ-scan-actions t) scan-actions.Pre
+    and 6 scan-actions-kinds.ps (is 6 scan-actions-kinds.ps μ-scan-actions t) scan-actions.Pre
 
-abbrev scan-actions-below : ℕ → In 4 scan-actions-kinds.ps
+abbrev scan-actions-below : ℕ → In 6 scan-actions-kinds.ps
 scan-actions-below t =
     and
-    4
+    6
     scan-actions-kinds.ps
-    (falls 4 scan-actions-kinds.ps _<_ μ-scan-actions t)
+    (falls 6 scan-actions-kinds.ps _<_ μ-scan-actions t)
     scan-actions.Pre
 
-abbrev scan-bodies-at : ℕ → In 4 scan-bodies-kinds.ps
+abbrev scan-bodies-at : ℕ → In 6 scan-bodies-kinds.ps
 scan-bodies-at t =
-    and 4 scan-bodies-kinds.ps (is 4 scan-bodies-kinds.ps μ-scan-bodies t) scan-bodies.Pre
+    and 6 scan-bodies-kinds.ps (is 6 scan-bodies-kinds.ps μ-scan-bodies t) scan-bodies.Pre
 
-abbrev scan-bodies-below : ℕ → In 4 scan-bodies-kinds.ps
+abbrev scan-bodies-below : ℕ → In 6 scan-bodies-kinds.ps
 scan-bodies-below t =
-    and 4 scan-bodies-kinds.ps (falls 4 scan-bodies-kinds.ps _<_ μ-scan-bodies t) scan-bodies.Pre
+    and 6 scan-bodies-kinds.ps (falls 6 scan-bodies-kinds.ps _<_ μ-scan-bodies t) scan-bodies.Pre
 
-abbrev scan-body-at : ℕ → In 4 scan-body-kinds.ps
-scan-body-at t = and 4 scan-body-kinds.ps (is 4 scan-body-kinds.ps μ-scan-body t) scan-body.Pre
+abbrev scan-body-at : ℕ → In 6 scan-body-kinds.ps
+scan-body-at t = and 6 scan-body-kinds.ps (is 6 scan-body-kinds.ps μ-scan-body t) scan-body.Pre
 
-abbrev scan-body-below : ℕ → In 4 scan-body-kinds.ps
+abbrev scan-body-below : ℕ → In 6 scan-body-kinds.ps
 scan-body-below t =
-    and 4 scan-body-kinds.ps (falls 4 scan-body-kinds.ps _<_ μ-scan-body t) scan-body.Pre
+    and 6 scan-body-kinds.ps (falls 6 scan-body-kinds.ps _<_ μ-scan-body t) scan-body.Pre
 
 -- what scan-body is told of the functions that it calls
 abbrev scan-body-calls : ℕ → scan-body-lts.Claims
@@ -108,16 +109,16 @@ scan-action-shared-slice-read-op : (t : ℕ) → scan-action-lts.Need-shared-sli
 scan-action-shared-slice-read-op t c = search needs
 
 scan-action-add-next : (t : ℕ) → scan-action-lts.Need-add-next (scan-action-calls t) (scan-action-at t) scan-action.Post
-scan-action-add-next t c = let p = c .before .before .before .before .before .before .before .pre .1 in omega (arith, p .before, p .roomy .inside, c .before .before .if1 .left)
+scan-action-add-next t c = let p = c .before .before .before .before .before .before .before .before .before .pre .1 in omega (arith, p .before, p .roomy .inside, c .before .before .if1 .left)
 
 scan-action-is-listed-requires : (t : ℕ) → scan-action-lts.Need-is-listed-requires (scan-action-calls t) (scan-action-at t) scan-action.Post
 scan-action-is-listed-requires t c κs = search needs
 
-scan-action-add-t31 : (t : ℕ) → scan-action-lts.Need-add-t31 (scan-action-calls t) (scan-action-at t) scan-action.Post
-scan-action-add-t31 t c = search needs
+scan-action-add-t33 : (t : ℕ) → scan-action-lts.Need-add-t33 (scan-action-calls t) (scan-action-at t) scan-action.Post
+scan-action-add-t33 t c = search needs
 
 scan-action-add-after : (t : ℕ) → scan-action-lts.Need-add-after (scan-action-calls t) (scan-action-at t) scan-action.Post
-scan-action-add-after t c = omega (arith, c .before .before .before .before .before .before .before .before .before .before .before .pre .1 .roomy .room)
+scan-action-add-after t c = omega (arith, c .before .before .before .before .before .before .before .before .before .before .before .before .before .pre .1 .roomy .room)
 
 scan-action-returns-2 : (t : ℕ) → scan-action-lts.Need-returns-2 (scan-action-calls t) (scan-action-at t) scan-action.Post
 scan-action-returns-2 t c = walk.did-small _ _ _ _ _ _ _ _ _ (c .before .before .before .before .before .before .if1 .left) (c .before .before .before .if2 .taken) (sym (c .before .before .is-listed .ensures) ∙ c .before .if3 .taken)
@@ -127,7 +128,7 @@ unfolding faultOf
 scan-action-returns-3 t c = walk.did-unknown _ _ _ _ _ _ _ _ _ (c .before .before .before .before .before .if1 .left) (sym (c .before .is-listed .ensures) ∙ c .if3 .left)
 
 scan-action-scan-payload-requires : (t : ℕ) → scan-action-lts.Need-scan-payload-requires (scan-action-calls t) (scan-action-at t) scan-action.Post
-scan-action-scan-payload-requires t c κs = (c .before .if2 .left, c .before .before .before .before .if1 .left, c .before .before .before .before .before .before .before .before .before .pre .1 .three, c .before .before .before .before .before .before .before .before .before .pre .1 .roomy)
+scan-action-scan-payload-requires t c κs = (c .before .if2 .left, c .before .before .before .before .if1 .left, c .before .before .before .before .before .before .before .before .before .before .before .pre .1 .three, c .before .before .before .before .before .before .before .before .before .before .before .pre .1 .roomy)
 
 scan-action-enum-known-f : (t : ℕ) → scan-action-lts.Need-enum-known-f (scan-action-calls t) (scan-action-at t) scan-action.Post
 scan-action-enum-known-f t c = search needs
@@ -143,89 +144,89 @@ scan-action-enum-known-p-3 t c = search needs
 
 scan-action-scan-bodies-requires : (t : ℕ) → scan-action-lts.Need-scan-bodies-requires (scan-action-calls t) (scan-action-at t) scan-action.Post
 scan-action-scan-bodies-requires t c κs =
-    let p = c .before .before .before .before .before .before .before .before .before .before .before .before .before .before .before .before .before .before .pre .1 in
-    (omega arith, record { roomy = walk.owned-place (walk.did-bodies (c .before .before .before .before .before .before .before .before .scan-payload .ensures) (c .before .before .before .before .p3 .given .1)) (p .roomy); before = omega (arith, p .before, (walk.did-bodies (c .before .before .before .before .before .before .before .before .scan-payload .ensures) (c .before .before .before .before .p3 .given .1)) .onward .beyond); slots = p .slots; three = c .before .before .before .before .before .before .before .before .scan-payload .kept .1 .1 .1 .1 .1 .1 .0 ∙ p .three })
+    let p = c .before .before .before .before .before .before .before .before .before .before .before .before .before .before .before .before .before .before .before .before .pre .1 in
+    (omega arith, record { roomy = walk.owned-place (walk.did-bodies (c .before .before .before .before .before .before .before .before .scan-payload .ensures) (c .before .before .before .before .p3 .given .1)) (p .roomy); before = omega (arith, p .before, (walk.did-bodies (c .before .before .before .before .before .before .before .before .scan-payload .ensures) (c .before .before .before .before .p3 .given .1)) .onward .beyond); slots = p .slots; three = c .before .before .before .before .before .before .before .before .scan-payload .kept .1 .1 .1 .1 .1 .1 .1 .1 .0 ∙ p .three })
 
 scan-action-enum-known-p-4 : (t : ℕ) → scan-action-lts.Need-enum-known-p-4 (scan-action-calls t) (scan-action-at t) scan-action.Post
 scan-action-enum-known-p-4 t c = search needs
 
 scan-action-scan-bodies-requires-2 : (t : ℕ) → scan-action-lts.Need-scan-bodies-requires-2 (scan-action-calls t) (scan-action-at t) scan-action.Post
 scan-action-scan-bodies-requires-2 t c κs =
-    let p = c .before .before .before .before .before .before .before .before .before .before .before .before .before .before .before .before .before .before .pre .1 in
-    (omega arith, record { roomy = walk.owned-place (walk.did-function (c .before .before .before .before .before .before .before .before .scan-payload .ensures) (c .before .before .before .before .p4 .given .1)) (p .roomy); before = omega (arith, p .before, (walk.did-function (c .before .before .before .before .before .before .before .before .scan-payload .ensures) (c .before .before .before .before .p4 .given .1)) .onward .beyond); slots = p .slots; three = c .before .before .before .before .before .before .before .before .scan-payload .kept .1 .1 .1 .1 .1 .1 .0 ∙ p .three })
+    let p = c .before .before .before .before .before .before .before .before .before .before .before .before .before .before .before .before .before .before .before .before .pre .1 in
+    (omega arith, record { roomy = walk.owned-place (walk.did-function (c .before .before .before .before .before .before .before .before .scan-payload .ensures) (c .before .before .before .before .p4 .given .1)) (p .roomy); before = omega (arith, p .before, (walk.did-function (c .before .before .before .before .before .before .before .before .scan-payload .ensures) (c .before .before .before .before .p4 .given .1)) .onward .beyond); slots = p .slots; three = c .before .before .before .before .before .before .before .before .scan-payload .kept .1 .1 .1 .1 .1 .1 .1 .1 .0 ∙ p .three })
 
 scan-action-same-length : (t : ℕ) → scan-action-lts.Need-same-length (scan-action-calls t) (scan-action-at t) scan-action.Post
-scan-action-same-length t c = c .before .before .before .before .before .scan-payload .kept .1 .1 .1 .1 .1 .1 .0
+scan-action-same-length t c = c .before .before .before .before .before .scan-payload .kept .1 .1 .1 .1 .1 .1 .1 .1 .0
 
 scan-action-returns-4 : (t : ℕ) → scan-action-lts.Need-returns-4 (scan-action-calls t) (scan-action-at t) scan-action.Post
 scan-action-returns-4 t c = walk.did-stops _ _ _ _ _ _ _ _ _ (c .before .before .before .before .before .before .before .before .before .before .if1 .left) _ _ (c .before .before .before .before .before .scan-payload .ensures) _ _ (c .before .f .given .1)
 
 scan-action-same-length-2 : (t : ℕ) → scan-action-lts.Need-same-length-2 (scan-action-calls t) (scan-action-at t) scan-action.Post
-scan-action-same-length-2 t c = c .before .before .before .before .before .scan-payload .kept .1 .1 .1 .1 .1 .1 .0
+scan-action-same-length-2 t c = c .before .before .before .before .before .scan-payload .kept .1 .1 .1 .1 .1 .1 .1 .1 .0
 
 scan-action-returns-5 : (t : ℕ) → scan-action-lts.Need-returns-5 (scan-action-calls t) (scan-action-at t) scan-action.Post
 scan-action-returns-5 t c = walk.did-flat _ _ _ _ _ _ _ _ _ (c .before .before .before .before .before .before .before .before .before .before .if1 .left) _ _ (c .before .before .before .before .before .scan-payload .ensures) _ _ (c .before .p .given .1)
 
 scan-action-same-length-3 : (t : ℕ) → scan-action-lts.Need-same-length-3 (scan-action-calls t) (scan-action-at t) scan-action.Post
-scan-action-same-length-3 t c = c .before .before .before .before .before .scan-payload .kept .1 .1 .1 .1 .1 .1 .0
+scan-action-same-length-3 t c = c .before .before .before .before .before .scan-payload .kept .1 .1 .1 .1 .1 .1 .1 .1 .0
 
 scan-action-returns-6 : (t : ℕ) → scan-action-lts.Need-returns-6 (scan-action-calls t) (scan-action-at t) scan-action.Post
 scan-action-returns-6 t c = walk.did-branch _ _ _ _ _ _ _ _ _ (c .before .before .before .before .before .before .before .before .before .before .if1 .left) _ _ (c .before .before .before .before .before .scan-payload .ensures) _ _ _ (c .before .p2 .given .1)
 
 scan-action-same-length-4 : (t : ℕ) → scan-action-lts.Need-same-length-4 (scan-action-calls t) (scan-action-at t) scan-action.Post
-scan-action-same-length-4 t c = c .before .before .before .before .before .before .scan-bodies .kept .1 .1 .1 .1 .1 .1 .1 .1 .0
+scan-action-same-length-4 t c = c .before .before .before .before .before .before .scan-bodies .kept .1 .1 .1 .1 .1 .1 .1 .1 .1 .1 .0
 
 scan-action-same-length-5 : (t : ℕ) → scan-action-lts.Need-same-length-5 (scan-action-calls t) (scan-action-at t) scan-action.Post
-scan-action-same-length-5 t c = c .before .before .before .before .before .before .scan-bodies .kept .1 .1 .1 .1 .1 .1 .1 .1 .1 .0
+scan-action-same-length-5 t c = c .before .before .before .before .before .before .scan-bodies .kept .1 .1 .1 .1 .1 .1 .1 .1 .1 .1 .1 .0
 
 scan-action-same-length-6 : (t : ℕ) → scan-action-lts.Need-same-length-6 (scan-action-calls t) (scan-action-at t) scan-action.Post
-scan-action-same-length-6 t c = c .before .before .before .before .before .before .scan-bodies .kept .1 .1 .1 .1 .1 .1 .1 .1 .1 .1 .0 ∙ c .before .before .before .before .before .before .before .before .before .before .before .before .before .before .before .scan-payload .kept .1 .1 .1 .1 .1 .1 .0
+scan-action-same-length-6 t c = c .before .before .before .before .before .before .scan-bodies .kept .1 .1 .1 .1 .1 .1 .1 .1 .1 .1 .1 .1 .0 ∙ c .before .before .before .before .before .before .before .before .before .before .before .before .before .before .before .scan-payload .kept .1 .1 .1 .1 .1 .1 .1 .1 .0
 
 scan-action-returns-7 : (t : ℕ) → scan-action-lts.Need-returns-7 (scan-action-calls t) (scan-action-at t) scan-action.Post
 scan-action-returns-7 t c = walk.owned-ran _ _ _ _ _ _ _ _ _ (c .before .before .before .before .before .before .before .before .before .before .before .before .before .before .before .before .before .before .before .before .if1 .left) (walk.did-bodies (c .before .before .before .before .before .before .before .before .before .before .before .before .before .before .before .scan-payload .ensures) (c .before .before .before .before .before .before .before .before .before .before .before .p3 .given .1)) (c .before .before .before .before .before .before .scan-bodies .ensures)
 
 scan-action-same-length-7 : (t : ℕ) → scan-action-lts.Need-same-length-7 (scan-action-calls t) (scan-action-at t) scan-action.Post
-scan-action-same-length-7 t c = c .before .before .before .before .before .before .scan-bodies2 .kept .1 .1 .1 .1 .1 .1 .1 .1 .0
+scan-action-same-length-7 t c = c .before .before .before .before .before .before .scan-bodies2 .kept .1 .1 .1 .1 .1 .1 .1 .1 .1 .1 .0
 
 scan-action-same-length-8 : (t : ℕ) → scan-action-lts.Need-same-length-8 (scan-action-calls t) (scan-action-at t) scan-action.Post
-scan-action-same-length-8 t c = c .before .before .before .before .before .before .scan-bodies2 .kept .1 .1 .1 .1 .1 .1 .1 .1 .1 .0
+scan-action-same-length-8 t c = c .before .before .before .before .before .before .scan-bodies2 .kept .1 .1 .1 .1 .1 .1 .1 .1 .1 .1 .1 .0
 
 scan-action-same-length-9 : (t : ℕ) → scan-action-lts.Need-same-length-9 (scan-action-calls t) (scan-action-at t) scan-action.Post
-scan-action-same-length-9 t c = c .before .before .before .before .before .before .scan-bodies2 .kept .1 .1 .1 .1 .1 .1 .1 .1 .1 .1 .0 ∙ c .before .before .before .before .before .before .before .before .before .before .before .before .before .before .before .scan-payload .kept .1 .1 .1 .1 .1 .1 .0
+scan-action-same-length-9 t c = c .before .before .before .before .before .before .scan-bodies2 .kept .1 .1 .1 .1 .1 .1 .1 .1 .1 .1 .1 .1 .0 ∙ c .before .before .before .before .before .before .before .before .before .before .before .before .before .before .before .scan-payload .kept .1 .1 .1 .1 .1 .1 .1 .1 .0
 
 scan-action-returns-8 : (t : ℕ) → scan-action-lts.Need-returns-8 (scan-action-calls t) (scan-action-at t) scan-action.Post
 scan-action-returns-8 t c = walk.owned-ran _ _ _ _ _ _ _ _ _ (c .before .before .before .before .before .before .before .before .before .before .before .before .before .before .before .before .before .before .before .before .if1 .left) (walk.did-function (c .before .before .before .before .before .before .before .before .before .before .before .before .before .before .before .scan-payload .ensures) (c .before .before .before .before .before .before .before .before .before .before .before .p4 .given .1)) (c .before .before .before .before .before .before .scan-bodies2 .ensures)
 
 abbrev scan-actions-Inv-loop : scan-actions-lts.InvT-loop
-scan-actions-Inv-loop b terms at front depth home tab₀ homes₀ over₀ n list count next₀ i₀ p₀ w₀ action₀ tab homes over next i p w action =
-    walk.Going (termsOf terms) b at depth w₀ home action₀ (state (tables tab₀ homes₀) over₀) n count next i p w action (tables tab homes) over
+scan-actions-Inv-loop b words index terms at front depth home tab₀ homes₀ over₀ n list count next₀ i₀ p₀ w₀ action₀ tab homes over next i p w action =
+    walk.Going (termsOf terms words index) b at depth w₀ home action₀ (state (tables tab₀ homes₀) over₀) n count next i p w action (tables tab homes) over
 
 abbrev scan-actions-μ-loop : scan-actions-lts.MeasureT-loop
-scan-actions-μ-loop b terms at front depth home tab₀ homes₀ over₀ n list count next₀ i₀ p₀ w₀ action₀ tab homes over next i p w action = count - i
+scan-actions-μ-loop b words index terms at front depth home tab₀ homes₀ over₀ n list count next₀ i₀ p₀ w₀ action₀ tab homes over next i p w action = count - i
 
 scan-actions-u16-at-requires : (t : ℕ) → scan-actions-lts.Need-u16-at-requires (scan-actions-calls t) (scan-actions-at t) scan-actions.Post scan-actions-Inv-loop scan-actions-μ-loop
-scan-actions-u16-at-requires t c κs = let f = walk.facts _ _ _ _ _ 0 (c .before .before .before .before .pre .1 .0 .roomy .inside) (c .before .before .before .before .pre .1 .1) refl in omega (arith, f .place, f .inside)
+scan-actions-u16-at-requires t c κs = let f = walk.facts _ _ _ _ _ 0 (c .before .before .before .before .before .before .pre .1 .0 .roomy .inside) (c .before .before .before .before .before .before .pre .1 .1) refl in omega (arith, f .place, f .inside)
 
 scan-actions-add-list : (t : ℕ) → scan-actions-lts.Need-add-list (scan-actions-calls t) (scan-actions-at t) scan-actions.Post scan-actions-Inv-loop scan-actions-μ-loop
-scan-actions-add-list t c = let f = walk.facts _ _ _ _ _ 0 (c .before .before .before .before .before .pre .1 .0 .roomy .inside) (c .before .before .before .before .before .pre .1 .1) refl in omega (arith, f .place, f .inside)
+scan-actions-add-list t c = let f = walk.facts _ _ _ _ _ 0 (c .before .before .before .before .before .before .before .pre .1 .0 .roomy .inside) (c .before .before .before .before .before .before .before .pre .1 .1) refl in omega (arith, f .place, f .inside)
 
 scan-actions-sub-u16-at : (t : ℕ) → scan-actions-lts.Need-sub-u16-at (scan-actions-calls t) (scan-actions-at t) scan-actions.Post scan-actions-Inv-loop scan-actions-μ-loop
-scan-actions-sub-u16-at t c = let f = walk.facts _ _ _ _ _ 0 (c .before .before .before .before .before .pre .1 .0 .roomy .inside) (c .before .before .before .before .before .pre .1 .1) refl in omega (arith, f .place, f .inside)
+scan-actions-sub-u16-at t c = let f = walk.facts _ _ _ _ _ 0 (c .before .before .before .before .before .before .before .pre .1 .0 .roomy .inside) (c .before .before .before .before .before .before .before .pre .1 .1) refl in omega (arith, f .place, f .inside)
 
 scan-actions-u16-at-requires-2 : (t : ℕ) → scan-actions-lts.Need-u16-at-requires-2 (scan-actions-calls t) (scan-actions-at t) scan-actions.Post scan-actions-Inv-loop scan-actions-μ-loop
-scan-actions-u16-at-requires-2 t c κs = let f = walk.facts _ _ _ _ _ 0 (c .before .before .before .before .before .pre .1 .0 .roomy .inside) (c .before .before .before .before .before .pre .1 .1) refl in omega (arith, f .place, f .inside)
+scan-actions-u16-at-requires-2 t c κs = let f = walk.facts _ _ _ _ _ 0 (c .before .before .before .before .before .before .before .pre .1 .0 .roomy .inside) (c .before .before .before .before .before .before .before .pre .1 .1) refl in omega (arith, f .place, f .inside)
 
 scan-actions-cast-count : (t : ℕ) → scan-actions-lts.Need-cast-count (scan-actions-calls t) (scan-actions-at t) scan-actions.Post scan-actions-Inv-loop scan-actions-μ-loop
 scan-actions-cast-count t c = search needs
 
 scan-actions-due-entry-requires : (t : ℕ) → scan-actions-lts.Need-due-entry-requires (scan-actions-calls t) (scan-actions-at t) scan-actions.Post scan-actions-Inv-loop scan-actions-μ-loop
-scan-actions-due-entry-requires t c κs = let f = walk.facts _ _ _ _ _ 0 (c .before .before .before .before .before .before .pre .1 .0 .roomy .inside) (c .before .before .before .before .before .before .pre .1 .1) (c .before .u16-at .ensures .0) in omega (arith, f .place, f .inside)
+scan-actions-due-entry-requires t c κs = let f = walk.facts _ _ _ _ _ 0 (c .before .before .before .before .before .before .before .before .pre .1 .0 .roomy .inside) (c .before .before .before .before .before .before .before .before .pre .1 .1) (c .before .u16-at .ensures .0) in omega (arith, f .place, f .inside)
 
 scan-actions-loop-holds : (t : ℕ) → scan-actions-lts.Need-loop-holds (scan-actions-calls t) (scan-actions-at t) scan-actions.Post scan-actions-Inv-loop scan-actions-μ-loop
-scan-actions-loop-holds t c = walk.going-start _ _ _ _ _ _ _ _ _ _ _ _ (walk.facts _ _ _ _ _ _ (c .before .before .before .before .before .before .before .pre .1 .0 .roomy .inside) (c .before .before .before .before .before .before .before .pre .1 .1) (c .before .before .u16-at .ensures .0)) _ (c .before .before .before .before .before .before .before .pre .1 .0) (c .before .u16-at2 .ensures .0) (c .due-entry .ensures)
+scan-actions-loop-holds t c = walk.going-start _ _ _ _ _ _ _ _ _ _ _ _ (walk.facts _ _ _ _ _ _ (c .before .before .before .before .before .before .before .before .before .pre .1 .0 .roomy .inside) (c .before .before .before .before .before .before .before .before .before .pre .1 .1) (c .before .before .u16-at .ensures .0)) _ (c .before .before .before .before .before .before .before .before .before .pre .1 .0) (c .before .u16-at2 .ensures .0) (c .due-entry .ensures)
 
 scan-actions-record-labels-requires : (t : ℕ) → scan-actions-lts.Need-record-labels-requires (scan-actions-calls t) (scan-actions-at t) scan-actions.Post scan-actions-Inv-loop scan-actions-μ-loop
-scan-actions-record-labels-requires t c κs = let f = walk.facts _ _ _ _ _ 0 (c .before .before .before .before .before .before .before .before .before .before .before .pre .1 .0 .roomy .inside) (c .before .before .before .before .before .before .before .before .before .before .before .pre .1 .1) (c .before .before .before .before .before .before .u16-at .ensures .0) in let g = c .before .before .before .loop .inv in (omega (arith, f .place, f .inside), record { is-due = g .is-due; terms = _; rising = f .rising; slots = g .slots; index-fits = omega (arith, c .before .before .loop-test .taken, c .before .before .before .before .before .u16-at2 .ensures .1); position-fits = omega (arith, g .roomy .room) })
+scan-actions-record-labels-requires t c κs = let f = walk.facts _ _ _ _ _ 0 (c .before .before .before .before .before .before .before .before .before .before .before .before .before .pre .1 .0 .roomy .inside) (c .before .before .before .before .before .before .before .before .before .before .before .before .before .pre .1 .1) (c .before .before .before .before .before .before .u16-at .ensures .0) in let g = c .before .before .before .loop .inv in (omega (arith, f .place, f .inside), record { is-due = g .is-due; terms = _; rising = f .rising; slots = g .slots; index-fits = omega (arith, c .before .before .loop-test .taken, c .before .before .before .before .before .u16-at2 .ensures .1); position-fits = omega (arith, g .roomy .room) })
 
 scan-actions-scan-action-requires : (t : ℕ) → scan-actions-lts.Need-scan-action-requires (scan-actions-calls t) (scan-actions-at t) scan-actions.Post scan-actions-Inv-loop scan-actions-μ-loop
 scan-actions-scan-action-requires t c κs = let g = c .before .before .before .before .before .before .before .before .before .before .before .loop .inv in (omega arith, record { roomy = g .roomy; before = g .before; slots = slots-kept (g .slots) (c .before .before .before .before .before .before .before .record-labels .kept .1 .1 .1 .1 .1 .1 .1 .0); three = g .three })
@@ -234,31 +235,31 @@ scan-actions-enum-known-f : (t : ℕ) → scan-actions-lts.Need-enum-known-f (sc
 scan-actions-enum-known-f t c = search needs
 
 scan-actions-same-length : (t : ℕ) → scan-actions-lts.Need-same-length (scan-actions-calls t) (scan-actions-at t) scan-actions.Post scan-actions-Inv-loop scan-actions-μ-loop
-scan-actions-same-length t c = c .before .before .before .before .before .before .before .before .before .scan-action .kept .1 .1 .1 .1 .1 .1 .1 .0 ∙ c .before .before .before .before .before .before .before .before .before .before .before .before .before .before .before .before .before .record-labels .kept .1 .1 .1 .1 .1 .1 .1 .0 ∙ c .before .before .before .before .before .before .before .before .before .before .before .before .before .before .before .before .before .before .before .before .before .loop .inv .full
+scan-actions-same-length t c = c .before .before .before .before .before .before .before .before .before .scan-action .kept .1 .1 .1 .1 .1 .1 .1 .1 .1 .0 ∙ c .before .before .before .before .before .before .before .before .before .before .before .before .before .before .before .before .before .record-labels .kept .1 .1 .1 .1 .1 .1 .1 .0 ∙ c .before .before .before .before .before .before .before .before .before .before .before .before .before .before .before .before .before .before .before .before .before .loop .inv .full
 
 scan-actions-same-length-2 : (t : ℕ) → scan-actions-lts.Need-same-length-2 (scan-actions-calls t) (scan-actions-at t) scan-actions.Post scan-actions-Inv-loop scan-actions-μ-loop
-scan-actions-same-length-2 t c = c .before .before .before .before .before .before .before .before .before .scan-action .kept .1 .1 .1 .1 .1 .1 .1 .1 .0 ∙ c .before .before .before .before .before .before .before .before .before .before .before .before .before .before .before .before .before .record-labels .kept .1 .1 .1 .1 .1 .1 .1 .1 .0 ∙ c .before .before .before .before .before .before .before .before .before .before .before .before .before .before .before .before .before .before .before .before .before .loop .inv .homes-full
+scan-actions-same-length-2 t c = c .before .before .before .before .before .before .before .before .before .scan-action .kept .1 .1 .1 .1 .1 .1 .1 .1 .1 .1 .0 ∙ c .before .before .before .before .before .before .before .before .before .before .before .before .before .before .before .before .before .record-labels .kept .1 .1 .1 .1 .1 .1 .1 .1 .0 ∙ c .before .before .before .before .before .before .before .before .before .before .before .before .before .before .before .before .before .before .before .before .before .loop .inv .homes-full
 
 scan-actions-same-length-3 : (t : ℕ) → scan-actions-lts.Need-same-length-3 (scan-actions-calls t) (scan-actions-at t) scan-actions.Post scan-actions-Inv-loop scan-actions-μ-loop
-scan-actions-same-length-3 t c = c .before .before .before .before .before .before .before .before .before .scan-action .kept .1 .1 .1 .1 .1 .1 .1 .1 .1 .0 ∙ c .before .before .before .before .before .before .before .before .before .before .before .before .before .before .before .before .before .before .before .before .before .loop .inv .three ∙ sym (c .before .before .before .before .before .before .before .before .before .before .before .before .before .before .before .before .before .before .before .before .before .before .before .before .before .before .before .before .before .pre .1 .0 .three)
+scan-actions-same-length-3 t c = c .before .before .before .before .before .before .before .before .before .scan-action .kept .1 .1 .1 .1 .1 .1 .1 .1 .1 .1 .1 .0 ∙ c .before .before .before .before .before .before .before .before .before .before .before .before .before .before .before .before .before .before .before .before .before .loop .inv .three ∙ sym (c .before .before .before .before .before .before .before .before .before .before .before .before .before .before .before .before .before .before .before .before .before .before .before .before .before .before .before .before .before .before .before .pre .1 .0 .three)
 
 scan-actions-returns : (t : ℕ) → scan-actions-lts.Need-returns (scan-actions-calls t) (scan-actions-at t) scan-actions.Post scan-actions-Inv-loop scan-actions-μ-loop
-scan-actions-returns t c = walk.going-bad _ _ _ _ _ _ _ _ _ _ _ _ (walk.facts _ _ _ _ _ _ (c .before .before .before .before .before .before .before .before .before .before .before .before .before .before .before .before .before .before .before .before .before .before .before .before .before .before .before .before .before .pre .1 .0 .roomy .inside) (c .before .before .before .before .before .before .before .before .before .before .before .before .before .before .before .before .before .before .before .before .before .before .before .before .before .before .before .before .before .pre .1 .1) (c .before .before .before .before .before .before .before .before .before .before .before .before .before .before .before .before .before .before .before .before .before .before .before .before .u16-at .ensures .0)) _ _ _ _ _ _ _ _ (c .before .before .before .before .before .before .before .before .before .before .before .before .before .before .before .before .before .before .before .before .before .loop .inv) (c .before .before .before .before .before .before .before .before .before .before .before .before .before .before .before .before .before .record-labels .ensures .table) _ _ _ (c .before .before .before .before .before .before .before .before .before .before .before .before .before .before .before .before .before .before .before .before .loop-test .taken) (c .before .before .before .before .before .before .before .before .before .scan-action .ensures) _ _ _ (c .before .f .given .1)
+scan-actions-returns t c = walk.going-bad _ _ _ _ _ _ _ _ _ _ _ _ (walk.facts _ _ _ _ _ _ (c .before .before .before .before .before .before .before .before .before .before .before .before .before .before .before .before .before .before .before .before .before .before .before .before .before .before .before .before .before .before .before .pre .1 .0 .roomy .inside) (c .before .before .before .before .before .before .before .before .before .before .before .before .before .before .before .before .before .before .before .before .before .before .before .before .before .before .before .before .before .before .before .pre .1 .1) (c .before .before .before .before .before .before .before .before .before .before .before .before .before .before .before .before .before .before .before .before .before .before .before .before .u16-at .ensures .0)) _ _ _ _ _ _ _ _ (c .before .before .before .before .before .before .before .before .before .before .before .before .before .before .before .before .before .before .before .before .before .loop .inv) (c .before .before .before .before .before .before .before .before .before .before .before .before .before .before .before .before .before .record-labels .ensures .table) _ _ _ (c .before .before .before .before .before .before .before .before .before .before .before .before .before .before .before .before .before .before .before .before .loop-test .taken) (c .before .before .before .before .before .before .before .before .before .scan-action .ensures) _ _ _ (c .before .f .given .1)
 
 scan-actions-enum-known-q : (t : ℕ) → scan-actions-lts.Need-enum-known-q (scan-actions-calls t) (scan-actions-at t) scan-actions.Post scan-actions-Inv-loop scan-actions-μ-loop
 scan-actions-enum-known-q t c = search needs
 
 scan-actions-add-i : (t : ℕ) → scan-actions-lts.Need-add-i (scan-actions-calls t) (scan-actions-at t) scan-actions.Post scan-actions-Inv-loop scan-actions-μ-loop
-scan-actions-add-i t c = search needs
+scan-actions-add-i t c = omega (arith, c .before .before .before .before .before .before .before .before .before .before .before .before .before .before .before .before .before .before .before .before .loop-test .taken, c .before .before .before .before .before .before .before .before .before .before .before .before .before .before .before .before .before .before .before .before .before .before .before .u16-at2 .ensures .1)
 
 scan-actions-loop-less : (t : ℕ) → scan-actions-lts.Need-loop-less (scan-actions-calls t) (scan-actions-at t) scan-actions.Post scan-actions-Inv-loop scan-actions-μ-loop
 scan-actions-loop-less t c = search needs
 
 scan-actions-loop-again : (t : ℕ) → scan-actions-lts.Need-loop-again (scan-actions-calls t) (scan-actions-at t) scan-actions.Post scan-actions-Inv-loop scan-actions-μ-loop
-scan-actions-loop-again t c = let g = c .before .before .before .before .before .before .before .before .before .before .before .before .before .before .before .before .before .before .before .before .before .loop .inv in walk.going-more _ _ _ _ _ _ _ _ _ _ _ _ (walk.facts _ _ _ _ _ _ (c .before .before .before .before .before .before .before .before .before .before .before .before .before .before .before .before .before .before .before .before .before .before .before .before .before .before .before .before .before .pre .1 .0 .roomy .inside) (c .before .before .before .before .before .before .before .before .before .before .before .before .before .before .before .before .before .before .before .before .before .before .before .before .before .before .before .before .before .pre .1 .1) (c .before .before .before .before .before .before .before .before .before .before .before .before .before .before .before .before .before .before .before .before .before .before .before .before .u16-at .ensures .0)) _ _ _ _ _ _ _ _ g (c .before .before .before .before .before .before .before .before .before .before .before .before .before .before .before .before .before .record-labels .ensures .table) _ _ _ (c .before .before .before .before .before .before .before .before .before .before .before .before .before .before .before .before .before .before .before .before .loop-test .taken) (c .before .before .before .before .before .before .before .before .before .scan-action .ensures) _ _ _ _ (c .before .q .given .1) (c .before .before .before .before .before .before .before .before .before .before .before .before .before .before .before .before .before .record-labels .ensures .is-due) (c .before .before .before .before .before .before .before .before .before .scan-action .kept .1 .1 .1 .1 .1 .1 .1 .0 ∙ c .before .before .before .before .before .before .before .before .before .before .before .before .before .before .before .before .before .record-labels .kept .1 .1 .1 .1 .1 .1 .1 .0) (c .before .before .before .before .before .before .before .before .before .scan-action .kept .1 .1 .1 .1 .1 .1 .1 .1 .0 ∙ c .before .before .before .before .before .before .before .before .before .before .before .before .before .before .before .before .before .record-labels .kept .1 .1 .1 .1 .1 .1 .1 .1 .0) (c .before .before .before .before .before .before .before .before .before .scan-action .kept .1 .1 .1 .1 .1 .1 .1 .1 .1 .0 ∙ g .three)
+scan-actions-loop-again t c = let g = c .before .before .before .before .before .before .before .before .before .before .before .before .before .before .before .before .before .before .before .before .before .loop .inv in walk.going-more _ _ _ _ _ _ _ _ _ _ _ _ (walk.facts _ _ _ _ _ _ (c .before .before .before .before .before .before .before .before .before .before .before .before .before .before .before .before .before .before .before .before .before .before .before .before .before .before .before .before .before .before .before .pre .1 .0 .roomy .inside) (c .before .before .before .before .before .before .before .before .before .before .before .before .before .before .before .before .before .before .before .before .before .before .before .before .before .before .before .before .before .before .before .pre .1 .1) (c .before .before .before .before .before .before .before .before .before .before .before .before .before .before .before .before .before .before .before .before .before .before .before .before .u16-at .ensures .0)) _ _ _ _ _ _ _ _ g (c .before .before .before .before .before .before .before .before .before .before .before .before .before .before .before .before .before .record-labels .ensures .table) _ _ _ (c .before .before .before .before .before .before .before .before .before .before .before .before .before .before .before .before .before .before .before .before .loop-test .taken) (c .before .before .before .before .before .before .before .before .before .scan-action .ensures) (terms-short (c .before .before .before .before .before .before .before .before .before .before .before .before .before .before .before .before .before .before .before .before .before .before .before .before .before .before .before .before .before .before .before .args .terms) _ _) _ _ _ _ (c .before .q .given .1) (c .before .before .before .before .before .before .before .before .before .before .before .before .before .before .before .before .before .record-labels .ensures .is-due) (c .before .before .before .before .before .before .before .before .before .scan-action .kept .1 .1 .1 .1 .1 .1 .1 .1 .1 .0 ∙ c .before .before .before .before .before .before .before .before .before .before .before .before .before .before .before .before .before .record-labels .kept .1 .1 .1 .1 .1 .1 .1 .0) (c .before .before .before .before .before .before .before .before .before .scan-action .kept .1 .1 .1 .1 .1 .1 .1 .1 .1 .1 .0 ∙ c .before .before .before .before .before .before .before .before .before .before .before .before .before .before .before .before .before .record-labels .kept .1 .1 .1 .1 .1 .1 .1 .1 .0) (c .before .before .before .before .before .before .before .before .before .scan-action .kept .1 .1 .1 .1 .1 .1 .1 .1 .1 .1 .1 .0 ∙ g .three)
 
 scan-actions-record-labels-requires-2 : (t : ℕ) → scan-actions-lts.Need-record-labels-requires-2 (scan-actions-calls t) (scan-actions-at t) scan-actions.Post scan-actions-Inv-loop scan-actions-μ-loop
-scan-actions-record-labels-requires-2 t c κs = let f = walk.facts _ _ _ _ _ 0 (c .before .before .before .before .before .before .before .before .before .before .before .pre .1 .0 .roomy .inside) (c .before .before .before .before .before .before .before .before .before .before .before .pre .1 .1) (c .before .before .before .before .before .before .u16-at .ensures .0) in let g = c .before .before .before .loop .inv in (omega (arith, f .place, f .inside), record { is-due = g .is-due; terms = _; rising = f .rising; slots = g .slots; index-fits = omega (arith, g .counted, c .before .before .before .before .before .u16-at2 .ensures .1); position-fits = omega (arith, g .roomy .room) })
+scan-actions-record-labels-requires-2 t c κs = let f = walk.facts _ _ _ _ _ 0 (c .before .before .before .before .before .before .before .before .before .before .before .before .before .pre .1 .0 .roomy .inside) (c .before .before .before .before .before .before .before .before .before .before .before .before .before .pre .1 .1) (c .before .before .before .before .before .before .u16-at .ensures .0) in let g = c .before .before .before .loop .inv in (omega (arith, f .place, f .inside), record { is-due = g .is-due; terms = _; rising = f .rising; slots = g .slots; index-fits = omega (arith, g .counted, c .before .before .before .before .before .u16-at2 .ensures .1); position-fits = omega (arith, g .roomy .room) })
 
 scan-actions-same-length-4 : (t : ℕ) → scan-actions-lts.Need-same-length-4 (scan-actions-calls t) (scan-actions-at t) scan-actions.Post scan-actions-Inv-loop scan-actions-μ-loop
 scan-actions-same-length-4 t c = c .before .before .before .before .record-labels2 .kept .1 .1 .1 .1 .1 .1 .1 .0 ∙ c .before .before .before .before .before .before .before .before .loop .inv .full
@@ -267,23 +268,23 @@ scan-actions-same-length-5 : (t : ℕ) → scan-actions-lts.Need-same-length-5 (
 scan-actions-same-length-5 t c = c .before .before .before .before .record-labels2 .kept .1 .1 .1 .1 .1 .1 .1 .1 .0 ∙ c .before .before .before .before .before .before .before .before .loop .inv .homes-full
 
 scan-actions-same-length-6 : (t : ℕ) → scan-actions-lts.Need-same-length-6 (scan-actions-calls t) (scan-actions-at t) scan-actions.Post scan-actions-Inv-loop scan-actions-μ-loop
-scan-actions-same-length-6 t c = c .before .before .before .before .before .before .before .before .loop .inv .three ∙ sym (c .before .before .before .before .before .before .before .before .before .before .before .before .before .before .before .before .pre .1 .0 .three)
+scan-actions-same-length-6 t c = c .before .before .before .before .before .before .before .before .loop .inv .three ∙ sym (c .before .before .before .before .before .before .before .before .before .before .before .before .before .before .before .before .before .before .pre .1 .0 .three)
 
 scan-actions-returns-2 : (t : ℕ) → scan-actions-lts.Need-returns-2 (scan-actions-calls t) (scan-actions-at t) scan-actions.Post scan-actions-Inv-loop scan-actions-μ-loop
-scan-actions-returns-2 t c = walk.going-end _ _ _ _ _ _ _ _ _ _ _ _ (walk.facts _ _ _ _ _ _ (c .before .before .before .before .before .before .before .before .before .before .before .before .before .before .before .before .pre .1 .0 .roomy .inside) (c .before .before .before .before .before .before .before .before .before .before .before .before .before .before .before .before .pre .1 .1) (c .before .before .before .before .before .before .before .before .before .before .before .u16-at .ensures .0)) _ _ _ _ _ _ _ _ (c .before .before .before .before .before .before .before .before .loop .inv) (c .before .before .before .before .record-labels2 .ensures .table) (c .before .before .before .before .before .before .before .loop-test .left)
+scan-actions-returns-2 t c = walk.going-end _ _ _ _ _ _ _ _ _ _ _ _ (walk.facts _ _ _ _ _ _ (c .before .before .before .before .before .before .before .before .before .before .before .before .before .before .before .before .before .before .pre .1 .0 .roomy .inside) (c .before .before .before .before .before .before .before .before .before .before .before .before .before .before .before .before .before .before .pre .1 .1) (c .before .before .before .before .before .before .before .before .before .before .before .u16-at .ensures .0)) _ _ _ _ _ _ _ _ (c .before .before .before .before .before .before .before .before .loop .inv) (c .before .before .before .before .record-labels2 .ensures .table) (c .before .before .before .before .before .before .before .loop-test .left)
 
 abbrev scan-bodies-Inv-loop : scan-bodies-lts.InvT-loop
-scan-bodies-Inv-loop b terms at depth home action n tab₀ homes₀ over₀ left₀ p₀ w₀ number₀ long₀ tab homes over left p w number long =
-    walk.Bodying (termsOf terms) (readBody (termsOf terms) b depth) b n at w₀ home action (state (tables tab₀ homes₀) over₀) left p w number long (tables tab homes) over
+scan-bodies-Inv-loop b words index terms at depth home action n tab₀ homes₀ over₀ left₀ p₀ w₀ number₀ long₀ tab homes over left p w number long =
+    walk.Bodying (termsOf terms words index) (readBody (termsOf terms words index) b depth) b n at w₀ home action (state (tables tab₀ homes₀) over₀) left p w number long (tables tab homes) over
 
 abbrev scan-bodies-μ-loop : scan-bodies-lts.MeasureT-loop
-scan-bodies-μ-loop b terms at depth home action n tab₀ homes₀ over₀ left₀ p₀ w₀ number₀ long₀ tab homes over left p w number long = left
+scan-bodies-μ-loop b words index terms at depth home action n tab₀ homes₀ over₀ left₀ p₀ w₀ number₀ long₀ tab homes over left p w number long = left
 
-scan-bodies-add-t23 : (t : ℕ) → scan-bodies-lts.Need-add-t23 (scan-bodies-calls t) (scan-bodies-at t) scan-bodies.Post scan-bodies-Inv-loop scan-bodies-μ-loop
-scan-bodies-add-t23 t c = let p = c .before .before .before .before .before .pre .1 in omega (arith, p .before, p .roomy .inside)
+scan-bodies-add-t25 : (t : ℕ) → scan-bodies-lts.Need-add-t25 (scan-bodies-calls t) (scan-bodies-at t) scan-bodies.Post scan-bodies-Inv-loop scan-bodies-μ-loop
+scan-bodies-add-t25 t c = let p = c .before .before .before .before .before .before .before .pre .1 in omega (arith, p .before, p .roomy .inside)
 
 scan-bodies-loop-holds : (t : ℕ) → scan-bodies-lts.Need-loop-holds (scan-bodies-calls t) (scan-bodies-at t) scan-bodies.Post scan-bodies-Inv-loop scan-bodies-μ-loop
-scan-bodies-loop-holds t c = walk.bodying-start _ _ _ _ _ _ _ _ _ _ (c .before .before .before .before .before .pre .1)
+scan-bodies-loop-holds t c = walk.bodying-start _ _ _ _ _ _ _ _ _ _ (c .before .before .before .before .before .before .before .pre .1)
 
 scan-bodies-scan-body-requires : (t : ℕ) → scan-bodies-lts.Need-scan-body-requires (scan-bodies-calls t) (scan-bodies-at t) scan-bodies.Post scan-bodies-Inv-loop scan-bodies-μ-loop
 scan-bodies-scan-body-requires t c κs = let g = c .before .before .before .before .loop .inv in (omega arith, record { roomy = g .roomy; before = g .before; slots = g .slots; three = g .three })
@@ -292,13 +293,13 @@ scan-bodies-enum-known-f : (t : ℕ) → scan-bodies-lts.Need-enum-known-f (scan
 scan-bodies-enum-known-f t c = search needs
 
 scan-bodies-same-length : (t : ℕ) → scan-bodies-lts.Need-same-length (scan-bodies-calls t) (scan-bodies-at t) scan-bodies.Post scan-bodies-Inv-loop scan-bodies-μ-loop
-scan-bodies-same-length t c = c .before .before .before .before .before .before .before .before .before .scan-body .kept .1 .1 .1 .1 .1 .1 .1 .0 ∙ c .before .before .before .before .before .before .before .before .before .before .before .before .before .before .loop .inv .full
+scan-bodies-same-length t c = c .before .before .before .before .before .before .before .before .before .scan-body .kept .1 .1 .1 .1 .1 .1 .1 .1 .1 .0 ∙ c .before .before .before .before .before .before .before .before .before .before .before .before .before .before .loop .inv .full
 
 scan-bodies-same-length-2 : (t : ℕ) → scan-bodies-lts.Need-same-length-2 (scan-bodies-calls t) (scan-bodies-at t) scan-bodies.Post scan-bodies-Inv-loop scan-bodies-μ-loop
-scan-bodies-same-length-2 t c = c .before .before .before .before .before .before .before .before .before .scan-body .kept .1 .1 .1 .1 .1 .1 .1 .1 .0 ∙ c .before .before .before .before .before .before .before .before .before .before .before .before .before .before .loop .inv .homes-full
+scan-bodies-same-length-2 t c = c .before .before .before .before .before .before .before .before .before .scan-body .kept .1 .1 .1 .1 .1 .1 .1 .1 .1 .1 .0 ∙ c .before .before .before .before .before .before .before .before .before .before .before .before .before .before .loop .inv .homes-full
 
 scan-bodies-same-length-3 : (t : ℕ) → scan-bodies-lts.Need-same-length-3 (scan-bodies-calls t) (scan-bodies-at t) scan-bodies.Post scan-bodies-Inv-loop scan-bodies-μ-loop
-scan-bodies-same-length-3 t c = c .before .before .before .before .before .before .before .before .before .scan-body .kept .1 .1 .1 .1 .1 .1 .1 .1 .1 .0 ∙ c .before .before .before .before .before .before .before .before .before .before .before .before .before .before .loop .inv .three ∙ sym (c .before .before .before .before .before .before .before .before .before .before .before .before .before .before .before .before .before .before .before .before .pre .1 .three)
+scan-bodies-same-length-3 t c = c .before .before .before .before .before .before .before .before .before .scan-body .kept .1 .1 .1 .1 .1 .1 .1 .1 .1 .1 .1 .0 ∙ c .before .before .before .before .before .before .before .before .before .before .before .before .before .before .loop .inv .three ∙ sym (c .before .before .before .before .before .before .before .before .before .before .before .before .before .before .before .before .before .before .before .before .before .before .pre .1 .three)
 
 scan-bodies-returns : (t : ℕ) → scan-bodies-lts.Need-returns (scan-bodies-calls t) (scan-bodies-at t) scan-bodies.Post scan-bodies-Inv-loop scan-bodies-μ-loop
 scan-bodies-returns t c = walk.bodying-bad _ _ _ _ _ _ _ _ _ _ _ _ _ _ _ _ _ (c .before .before .before .before .before .before .before .before .before .before .before .before .before .before .loop .inv) (c .before .before .before .before .before .before .before .before .before .before .before .before .before .loop-test .taken) _ _ _ (c .before .before .before .before .before .before .before .before .before .scan-body .ensures) _ _ _ (c .before .f .given .1)
@@ -319,7 +320,7 @@ scan-bodies-loop-less : (t : ℕ) → scan-bodies-lts.Need-loop-less (scan-bodie
 scan-bodies-loop-less t c = search needs
 
 scan-bodies-loop-again : (t : ℕ) → scan-bodies-lts.Need-loop-again (scan-bodies-calls t) (scan-bodies-at t) scan-bodies.Post scan-bodies-Inv-loop scan-bodies-μ-loop
-scan-bodies-loop-again t c = let g = c .before .before .before .before .before .before .before .before .before .before .before .before .before .before .before .before .before .loop .inv in walk.bodying-more _ _ _ _ _ _ _ _ _ _ _ _ _ _ _ _ _ g (c .before .before .before .before .before .before .before .before .before .before .before .before .before .before .before .before .loop-test .taken) _ _ _ (c .before .before .before .before .before .before .before .before .before .before .before .before .scan-body .ensures) _ _ _ _ (c .before .before .before .before .q .given .1) (c .first-long .ensures) (c .before .before .before .before .before .before .before .before .before .before .before .before .scan-body .kept .1 .1 .1 .1 .1 .1 .1 .0) (c .before .before .before .before .before .before .before .before .before .before .before .before .scan-body .kept .1 .1 .1 .1 .1 .1 .1 .1 .0) (c .before .before .before .before .before .before .before .before .before .before .before .before .scan-body .kept .1 .1 .1 .1 .1 .1 .1 .1 .1 .0 ∙ g .three)
+scan-bodies-loop-again t c = let g = c .before .before .before .before .before .before .before .before .before .before .before .before .before .before .before .before .before .loop .inv in walk.bodying-more _ _ _ _ _ _ _ _ _ _ _ _ _ _ _ _ _ g (c .before .before .before .before .before .before .before .before .before .before .before .before .before .before .before .before .loop-test .taken) _ _ _ (c .before .before .before .before .before .before .before .before .before .before .before .before .scan-body .ensures) (terms-short (c .before .before .before .before .before .before .before .before .before .before .before .before .before .before .before .before .before .before .before .before .before .before .before .before .before .args .terms) _ _) _ _ _ _ (c .before .before .before .before .q .given .1) (c .first-long .ensures) (c .before .before .before .before .before .before .before .before .before .before .before .before .scan-body .kept .1 .1 .1 .1 .1 .1 .1 .1 .1 .0) (c .before .before .before .before .before .before .before .before .before .before .before .before .scan-body .kept .1 .1 .1 .1 .1 .1 .1 .1 .1 .1 .0) (c .before .before .before .before .before .before .before .before .before .before .before .before .scan-body .kept .1 .1 .1 .1 .1 .1 .1 .1 .1 .1 .1 .0 ∙ g .three)
 
 scan-bodies-note-long-requires : (t : ℕ) → scan-bodies-lts.Need-note-long-requires (scan-bodies-calls t) (scan-bodies-at t) scan-bodies.Post scan-bodies-Inv-loop scan-bodies-μ-loop
 scan-bodies-note-long-requires t c κs = c .before .before .loop .inv .three
@@ -331,7 +332,7 @@ scan-bodies-same-length-5 : (t : ℕ) → scan-bodies-lts.Need-same-length-5 (sc
 scan-bodies-same-length-5 t c = c .before .before .before .before .before .loop .inv .homes-full
 
 scan-bodies-same-length-6 : (t : ℕ) → scan-bodies-lts.Need-same-length-6 (scan-bodies-calls t) (scan-bodies-at t) scan-bodies.Post scan-bodies-Inv-loop scan-bodies-μ-loop
-scan-bodies-same-length-6 t c = c .before .before .note-long .kept .0 ∙ c .before .before .before .before .before .loop .inv .three ∙ sym (c .before .before .before .before .before .before .before .before .before .before .before .pre .1 .three)
+scan-bodies-same-length-6 t c = c .before .before .note-long .kept .0 ∙ c .before .before .before .before .before .loop .inv .three ∙ sym (c .before .before .before .before .before .before .before .before .before .before .before .before .before .pre .1 .three)
 
 scan-bodies-returns-2 : (t : ℕ) → scan-bodies-lts.Need-returns-2 (scan-bodies-calls t) (scan-bodies-at t) scan-bodies.Post scan-bodies-Inv-loop scan-bodies-μ-loop
 scan-bodies-returns-2 t c = walk.bodying-end _ _ _ _ _ _ _ _ _ _ _ _ _ _ _ _ _ (c .before .before .before .before .before .loop .inv) (c .before .before .before .before .loop-test .left) _ (c .before .before .note-long .ensures)
@@ -341,7 +342,7 @@ unfolding faultOf
 scan-body-returns t c = walk.ran-fault _ (walk.outcome-no bodyLength bodyCount bodyEvents _ _ (walk.body-deep _ _ _ _ (c .if1 .taken)))
 
 scan-body-scan-front-requires : (t : ℕ) → scan-body-lts.Need-scan-front-requires (scan-body-calls t) (scan-body-at t) scan-body.Post
-scan-body-scan-front-requires t c κs = c .before .before .before .before .before .pre .1 .roomy .inside
+scan-body-scan-front-requires t c κs = c .before .before .before .before .before .before .before .pre .1 .roomy .inside
 
 scan-body-enum-known-f : (t : ℕ) → scan-body-lts.Need-enum-known-f (scan-body-calls t) (scan-body-at t) scan-body.Post
 scan-body-enum-known-f t c = search needs
@@ -353,21 +354,23 @@ scan-body-sub-scan-actions : (t : ℕ) → scan-body-lts.Need-sub-scan-actions (
 scan-body-sub-scan-actions t c = search needs
 
 scan-body-scan-actions-requires : (t : ℕ) → scan-body-lts.Need-scan-actions-requires (scan-body-calls t) (scan-body-at t) scan-body.Post
-scan-body-scan-actions-requires t c κs =
-    let s = ends-is (λ _. 0) _ _ (c .before .before .before .before .before .before .scan-front .ensures) (c .before .before .before .before .front .given .1) in
-    (omega arith, (c .before .before .before .before .before .before .before .before .before .before .before .before .pre .1, record { front = s .0; reads = s .1 }))
+scan-body-scan-actions-requires t c κs = (
+  omega arith,
+  let s = ends-is (λ _. 0) _ _ (c .before .before .before .before .before .before .scan-front .ensures _) (c .before .before .before .before .front .given .1) in
+      (c .before .before .before .before .before .before .before .before .before .before .before .before .before .before .pre .1, record { front = s .0; reads = s .1 }),
+)
 
 scan-body-returns-2 : (t : ℕ) → scan-body-lts.Need-returns-2 (scan-body-calls t) (scan-body-at t) scan-body.Post
-scan-body-returns-2 t c = walk.body-stops _ _ _ _ _ _ _ refl _ _ _ _ _ (c .before .before .before .before .if1 .left) (c .before .before .before .scan-front .ensures) (c .before .f .given .1)
+scan-body-returns-2 t c = walk.body-stops _ _ _ _ _ _ _ refl _ _ _ _ _ (c .before .before .before .before .if1 .left) (c .before .before .before .scan-front .ensures _) (c .before .f .given .1)
 
 scan-body-same-length : (t : ℕ) → scan-body-lts.Need-same-length (scan-body-calls t) (scan-body-at t) scan-body.Post
-scan-body-same-length t c = c .before .before .before .before .before .before .scan-actions .kept .1 .1 .1 .1 .1 .1 .1 .1 .0
+scan-body-same-length t c = c .before .before .before .before .before .before .scan-actions .kept .1 .1 .1 .1 .1 .1 .1 .1 .1 .1 .0
 
 scan-body-same-length-2 : (t : ℕ) → scan-body-lts.Need-same-length-2 (scan-body-calls t) (scan-body-at t) scan-body.Post
-scan-body-same-length-2 t c = c .before .before .before .before .before .before .scan-actions .kept .1 .1 .1 .1 .1 .1 .1 .1 .1 .0
+scan-body-same-length-2 t c = c .before .before .before .before .before .before .scan-actions .kept .1 .1 .1 .1 .1 .1 .1 .1 .1 .1 .1 .0
 
 scan-body-same-length-3 : (t : ℕ) → scan-body-lts.Need-same-length-3 (scan-body-calls t) (scan-body-at t) scan-body.Post
-scan-body-same-length-3 t c = c .before .before .before .before .before .before .scan-actions .kept .1 .1 .1 .1 .1 .1 .1 .1 .1 .1 .0
+scan-body-same-length-3 t c = c .before .before .before .before .before .before .scan-actions .kept .1 .1 .1 .1 .1 .1 .1 .1 .1 .1 .1 .1 .0
 
 scan-body-returns-3 : (t : ℕ) → scan-body-lts.Need-returns-3 (scan-body-calls t) (scan-body-at t) scan-body.Post
 scan-body-returns-3 t c = walk.body-ran _ _ _ _ _ _ _ _ (c .before .before .before .before .before .before .before .before .before .before .before .before .before .before .if1 .left) (c .before .before .before .before .before .before .scan-actions .ensures)
@@ -381,7 +384,7 @@ pub +scan-action+scan-actions+scan-bodies+scan-body-spec : {M : Type 1} → stat
     (scan-action-add-next t)
     (scan-action-is-listed-requires t)
     (scan-action-add-after t)
-    (scan-action-add-t31 t)
+    (scan-action-add-t33 t)
     (scan-action-returns-2 t)
     (scan-action-returns-3 t)
     (scan-action-scan-payload-requires t)
@@ -437,7 +440,7 @@ pub +scan-action+scan-actions+scan-bodies+scan-body-spec : {M : Type 1} → stat
     scan-bodies.Post
     scan-bodies-Inv-loop
     scan-bodies-μ-loop
-    (scan-bodies-add-t23 t)
+    (scan-bodies-add-t25 t)
     (scan-bodies-loop-holds t)
     (scan-bodies-scan-body-requires t)
     (scan-bodies-enum-known-f t)

@@ -4,7 +4,7 @@ use native.Mathlib.Omega.{arith}
 use lib.ListN.{length}
 use denote.Ref.{now}
 use borrow.Author.Tests.{le-leb, lt-leb}
-use Rattle.layout.specs.Cut.{First, Second, editionNumber, cut, cutIfShort, cutIfTrailer, sheetLimit}
+use Rattle.layout.specs.Cut.{First, Second, Third, editionNumber, cut, cutIfShort, cutIfTrailer, sheetLimit}
 use Rattle.editions.specs.Allowed.{meant}
 use Rattle.cut.specs.Cuts.{said}
 use Rattle.cut.proofs.Trailer.{bad-edition, bad-first, bad-second, bad-distance, main-body}
@@ -79,8 +79,14 @@ returns-7 c =
     (main-body _ (omega arith) (omega arith) Second _ (m .u32-at .ensures) (sym (c .before .u16-at .ensures .0) ∙ c .match .keys2) (m .before .before .before .if3 .left) (m .before .if4 .left) (c .before .before .if5 .left), (omega arith, omega arith))
 
 returns-8 : tie.Need-returns-8
+unfolding said meant editionNumber
+returns-8 c =
+    let m = c .before .before .before in
+    (main-body _ (omega arith) (omega arith) Third _ (m .u32-at .ensures) (sym (c .before .u16-at .ensures .0) ∙ c .match .keys3) (m .before .before .before .if3 .left) (m .before .if4 .left) (c .before .before .if5 .left), (omega arith, omega arith))
+
+returns-9 : tie.Need-returns-9
 unfolding said
-returns-8 c = (bad-edition _ (omega arith) (omega arith) _ (c .before .u16-at .ensures .0) (c .match .rest .0 .1) (c .match .rest .1), tt)
+returns-9 c = (bad-edition _ (omega arith) (omega arith) _ (c .before .u16-at .ensures .0) (c .match .rest .0 .0 .1) (c .match .rest .0 .1) (c .match .rest .1), tt)
 
 pub cut-main-spec : {M : Type 1} → statement M
 cut-main-spec =
@@ -101,4 +107,5 @@ cut-main-spec =
     u16-at-requires
     returns-6
     returns-7
-    returns-8)
+    returns-8
+    returns-9)

@@ -13,30 +13,30 @@ enum-told c = search needs
 
 write-byte-requires : tie.Need-write-byte-requires
 unfolding targetBytes
-write-byte-requires c κs = rw (c .before .enum-told .given .1) at (c .before .before .before .before .before .pre .1)
+write-byte-requires c κs = rw (c .before .enum-told .given .1) at (c .before .before .before .before .before .before .pre .1)
 
 enum-known-t : tie.Need-enum-known-t
 enum-known-t c = search needs
 
-write-string-requires : tie.Need-write-string-requires
+write-text-requires : tie.Need-write-text-requires
 unfolding targetBytes TargetWithin
-write-string-requires c κs =
-    let p = rw (c .before .before .t .given .1) at (c .before .before .before .before .before .before .pre) in
-    let l = values.length-span (now (c .before .before .before .before .before .before .args .b)) (c .before .before .t .given .0 .0) (p .0) in
-    (omega (arith, p .1 .room), omega (arith, p .0))
+write-text-requires c κs =
+    let p = rw (c .before .before .t .given .1) at (c .before .before .before .before .before .before .before .pre) in
+    let l = values.length-span (now (c .before .before .before .before .before .before .before .args .b)) (now (c .before .before .before .before .before .before .before .args .words)) (c .before .before .t .given .0 .0) (p .0) in
+    (p .0, omega (arith, p .1 .room))
 
 string-len-requires : tie.Need-string-len-requires
 unfolding targetBytes TargetWithin
 string-len-requires c κs =
-    let p = rw (c .before .before .before .before .before .t .given .1) at (c .before .before .before .before .before .before .before .before .before .pre) in
-    let l = values.length-span (now (c .before .before .before .before .before .before .before .before .before .args .b)) (c .before .before .before .before .before .t .given .0 .0) (p .0) in
+    let p = rw (c .before .before .before .before .before .t .given .1) at (c .before .before .before .before .before .before .before .before .before .before .pre) in
+    let l = values.length-span (now (c .before .before .before .before .before .before .before .before .before .before .args .b)) (now (c .before .before .before .before .before .before .before .before .before .before .args .words)) (c .before .before .before .before .before .t .given .0 .0) (p .0) in
     omega (arith, p .1 .room, p .1 .sums)
 
-add-t15 : tie.Need-add-t15
+add-t16 : tie.Need-add-t16
 unfolding targetBytes TargetWithin
-add-t15 c =
-    let p = rw (c .before .before .before .before .before .before .before .t .given .1) at (c .before .before .before .before .before .before .before .before .before .before .before .pre) in
-    let l = values.length-span (now (c .before .before .before .before .before .before .before .before .before .before .before .args .b)) (c .before .before .before .before .before .before .before .t .given .0 .0) (p .0) in
+add-t16 c =
+    let p = rw (c .before .before .before .before .before .before .before .t .given .1) at (c .before .before .before .before .before .before .before .before .before .before .before .before .pre) in
+    let l = values.length-span (now (c .before .before .before .before .before .before .before .before .before .before .before .before .args .b)) (now (c .before .before .before .before .before .before .before .before .before .before .before .before .args .words)) (c .before .before .before .before .before .before .before .t .given .0 .0) (p .0) in
     omega (arith, p .1 .room, p .1 .sums)
 
 enum-known-t-2 : tie.Need-enum-known-t-2
@@ -44,7 +44,7 @@ enum-known-t-2 c = search needs
 
 write-byte-requires-2 : tie.Need-write-byte-requires-2
 unfolding targetBytes
-write-byte-requires-2 c κs = rw (c .before .before .t2 .given .1) at (c .before .before .before .before .before .before .pre .1)
+write-byte-requires-2 c κs = rw (c .before .before .t2 .given .1) at (c .before .before .before .before .before .before .before .pre .1)
 
 same-length : tie.Need-same-length
 same-length c = search needs
@@ -59,9 +59,9 @@ same-length-2 c = search needs
 returns-2 : tie.Need-returns-2
 unfolding targetBytes TargetWithin
 returns-2 c =
-    let p = rw (c .before .before .before .before .before .before .before .t .given .1) at (c .before .before .before .before .before .before .before .before .before .before .before .pre) in
-    let l = values.length-span (now (c .before .before .before .before .before .before .before .before .before .before .before .args .b)) (c .before .before .before .before .before .before .before .t .given .0 .0) (p .0) in
-    rw (c .before .before .before .before .before .before .before .t .given .1) (record { wrote = c .before .before .before .before .write-string .ensures; end = omega arith; next = refl })
+    let p = rw (c .before .before .before .before .before .before .before .t .given .1) at (c .before .before .before .before .before .before .before .before .before .before .before .before .pre) in
+    let l = values.length-span (now (c .before .before .before .before .before .before .before .before .before .before .before .before .args .b)) (now (c .before .before .before .before .before .before .before .before .before .before .before .before .args .words)) (c .before .before .before .before .before .before .before .t .given .0 .0) (p .0) in
+    rw (c .before .before .before .before .before .before .before .t .given .1) (record { wrote = c .before .before .before .before .write-text .ensures; end = omega arith; next = refl })
 
 same-length-3 : tie.Need-same-length-3
 same-length-3 c = search needs
@@ -77,9 +77,9 @@ write-catch-target-spec =
     enum-told
     write-byte-requires
     enum-known-t
-    write-string-requires
+    write-text-requires
     string-len-requires
-    add-t15
+    add-t16
     enum-known-t-2
     write-byte-requires-2
     same-length

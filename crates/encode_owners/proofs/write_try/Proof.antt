@@ -13,8 +13,8 @@ add-start c = search needs
 
 write-u8-requires : tie.Need-write-u8-requires
 write-u8-requires c κs =
-    let s = c .before .before .before .before in
-    let h = wholes.try-space (s .args .shape) (targetBytes (now (s .args .b)) (s .args .t)) (s .pre .1) in
+    let s = c .before .before .before .before .before in
+    let h = wholes.try-space (s .args .shape) (targetBytes (now (s .args .b)) (now (s .args .words)) (s .args .t)) (s .pre .1) in
     omega arith
 
 add-write-u16 : tie.Need-add-write-u16
@@ -22,8 +22,8 @@ add-write-u16 c = search needs
 
 write-u16-requires : tie.Need-write-u16-requires
 write-u16-requires c κs =
-    let s = c .before .before .before .before .before .before .before .before in
-    let h = wholes.try-space (s .args .shape) (targetBytes (now (s .args .b)) (s .args .t)) (s .pre .1) in
+    let s = c .before .before .before .before .before .before .before .before .before in
+    let h = wholes.try-space (s .args .shape) (targetBytes (now (s .args .b)) (now (s .args .words)) (s .args .t)) (s .pre .1) in
     omega (arith, c .before .before .before .write-u8 .kept .0)
 
 add-write-u16-2 : tie.Need-add-write-u16-2
@@ -31,8 +31,8 @@ add-write-u16-2 c = search needs
 
 write-u16-requires-2 : tie.Need-write-u16-requires-2
 write-u16-requires-2 c κs =
-    let s = c .before .before .before .before .before .before .before .before .before .before .before .before in
-    let h = wholes.try-space (s .args .shape) (targetBytes (now (s .args .b)) (s .args .t)) (s .pre .1) in
+    let s = c .before .before .before .before .before .before .before .before .before .before .before .before .before in
+    let h = wholes.try-space (s .args .shape) (targetBytes (now (s .args .b)) (now (s .args .words)) (s .args .t)) (s .pre .1) in
     omega (arith, c .before .before .before .write-u16 .kept .0, c .before .before .before .before .before .before .before .write-u8 .kept .0)
 
 add-write-u16-3 : tie.Need-add-write-u16-3
@@ -40,8 +40,8 @@ add-write-u16-3 c = search needs
 
 write-u16-requires-3 : tie.Need-write-u16-requires-3
 write-u16-requires-3 c κs =
-    let s = c .before .before .before .before .before .before .before .before .before .before .before .before .before .before .before .before in
-    let h = wholes.try-space (s .args .shape) (targetBytes (now (s .args .b)) (s .args .t)) (s .pre .1) in
+    let s = c .before .before .before .before .before .before .before .before .before .before .before .before .before .before .before .before .before in
+    let h = wholes.try-space (s .args .shape) (targetBytes (now (s .args .b)) (now (s .args .words)) (s .args .t)) (s .pre .1) in
     omega (arith, c .before .before .before .write-u162 .kept .0, c .before .before .before .before .before .before .before .write-u16 .kept .0, c .before .before .before .before .before .before .before .before .before .before .before .write-u8 .kept .0)
 
 try-len-requires : tie.Need-try-len-requires
@@ -52,8 +52,8 @@ add-target c = search needs
 
 write-catch-target-requires : tie.Need-write-catch-target-requires
 write-catch-target-requires c κs =
-    let s = c .before .before .before .before .before .before .before .before .before .before .before .before .before .before .before .before .before .before .before .before .before in
-    let h = wholes.try-space (s .args .shape) (targetBytes (now (s .args .b)) (s .args .t)) (s .pre .1) in
+    let s = c .before .before .before .before .before .before .before .before .before .before .before .before .before .before .before .before .before .before .before .before .before .before in
+    let h = wholes.try-space (s .args .shape) (targetBytes (now (s .args .b)) (now (s .args .words)) (s .args .t)) (s .pre .1) in
     let k = c .before .before .before .before .write-u163 .kept .0 ∙ c .before .before .before .before .before .before .before .before .write-u162 .kept .0 ∙ c .before .before .before .before .before .before .before .before .before .before .before .before .write-u16 .kept .0 ∙ c .before .before .before .before .before .before .before .before .before .before .before .before .before .before .before .before .write-u8 .kept .0 in
     (s .pre .0, record { known = tt; room = omega (arith, k); sums = omega (arith, k, s .pre .1 .sums) })
 
@@ -62,14 +62,14 @@ sub-try-len c = search needs
 
 try-len-requires-2 : tie.Need-try-len-requires-2
 try-len-requires-2 c κs =
-    let s = c .before .before .before .before .before .before .before .before .before .before .before .before .before .before .before .before .before .before .before .before .before .before .before .before .before in
-    let h = wholes.try-space (s .args .shape) (targetBytes (now (s .args .b)) (s .args .t)) (s .pre .1) in
+    let s = c .before .before .before .before .before .before .before .before .before .before .before .before .before .before .before .before .before .before .before .before .before .before .before .before .before .before in
+    let h = wholes.try-space (s .args .shape) (targetBytes (now (s .args .b)) (now (s .args .words)) (s .args .t)) (s .pre .1) in
     omega (arith, c .before .before .before .write-catch-target .ensures .end)
 
 write-action-header-requires : tie.Need-write-action-header-requires
 write-action-header-requires c κs =
-    let s = c .before .before .before .before .before .before .before .before .before .before .before .before .before .before .before .before .before .before .before .before .before .before .before .before .before .before .before in
-    let h = wholes.try-space (s .args .shape) (targetBytes (now (s .args .b)) (s .args .t)) (s .pre .1) in
+    let s = c .before .before .before .before .before .before .before .before .before .before .before .before .before .before .before .before .before .before .before .before .before .before .before .before .before .before .before .before in
+    let h = wholes.try-space (s .args .shape) (targetBytes (now (s .args .b)) (now (s .args .words)) (s .args .t)) (s .pre .1) in
     omega (arith, c .before .before .before .before .before .write-catch-target .kept .0, c .before .before .before .before .before .before .before .before .before .before .write-u163 .kept .0, c .before .before .before .before .before .before .before .before .before .before .before .before .before .before .write-u162 .kept .0, c .before .before .before .before .before .before .before .before .before .before .before .before .before .before .before .before .before .before .write-u16 .kept .0, c .before .before .before .before .before .before .before .before .before .before .before .before .before .before .before .before .before .before .before .before .before .before .write-u8 .kept .0)
 
 same-length : tie.Need-same-length

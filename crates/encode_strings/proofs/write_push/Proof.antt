@@ -12,7 +12,7 @@ add-values : tie.Need-add-values
 add-values c = search needs
 
 write-push-values-requires : tie.Need-write-push-values-requires
-write-push-values-requires c κs = wholes.push-room _ (c .before .before .before .before .pre)
+write-push-values-requires c κs = wholes.push-room _ (c .before .before .before .before .before .before .pre)
 
 sub-push-len : tie.Need-sub-push-len
 sub-push-len c = search needs
@@ -22,14 +22,14 @@ push-len-requires c κs = search needs
 
 write-action-header-requires : tie.Need-write-action-header-requires
 write-action-header-requires c κs =
-    let a = c .before .before .before .before .before .before .before .before .before .before .args in
-    omega (arith, wholes.push-room (valuesAt (termsOf (a .terms)) (now (a .b)) (a .n) (a .at)) (c .before .before .before .before .before .before .before .before .before .before .pre) .room, c .before .before .before .before .before .write-push-values .kept .0)
+    let a = c .before .before .before .before .before .before .before .before .before .before .before .before .args in
+    omega (arith, wholes.push-room (valuesAt (termsOf (a .terms) (now (a .words)) (now (a .index))) (now (a .b)) (a .n) (a .at)) (c .before .before .before .before .before .before .before .before .before .before .before .before .pre) .room, c .before .before .before .before .before .write-push-values .kept .0)
 
 same-length : tie.Need-same-length
 same-length c = search needs
 
 returns : tie.Need-returns
-returns c = wholes.push-put _ (c .before .before .before .before .before .before .before .before .before .before .before .before .before .pre) (c .before .before .before .before .before .before .before .before .write-push-values .ensures) (c .before .before .before .push-len .ensures) (c .before .before .write-action-header .ensures .1)
+returns c = wholes.push-put _ (c .before .before .before .before .before .before .before .before .before .before .before .before .before .before .before .pre) (c .before .before .before .before .before .before .before .before .write-push-values .ensures) (c .before .before .before .push-len .ensures) (c .before .before .write-action-header .ensures .1)
 
 pub write-push-spec : {M : Type 1} → statement M
 write-push-spec =

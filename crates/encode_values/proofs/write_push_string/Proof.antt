@@ -12,28 +12,30 @@ write-u8-requires c κs = search needs
 add-w : tie.Need-add-w
 add-w c = search needs
 
-write-string-requires : tie.Need-write-string-requires
-write-string-requires c κs =
-    let a = c .before .before .before .before .before .before .before .before .args in
-    let l = puts.length-span (now (a .b)) (a .s) (c .before .before .before .before .before .before .before .before .pre .0) in
-    (omega (arith, c .before .before .before .before .write-u8 .kept .0), omega arith)
+write-text-requires : tie.Need-write-text-requires
+write-text-requires c κs =
+    let a = c .before .before .before .before .before .before .before .before .before .args in
+    let l = puts.length-span (now (a .b)) (now (a .words)) (a .s) (c .before .before .before .before .before .before .before .before .before .pre .0) in
+    (c .before .before .before .before .before .before .before .before .before .pre .0, omega (arith, c .before .before .before .before .write-u8 .kept .0))
 
 string-len-requires : tie.Need-string-len-requires
 string-len-requires c κs =
-    let a = c .before .before .before .before .before .before .before .before .before .before .before .args in
-    omega (arith, puts.length-span (now (a .b)) (a .s) (c .before .before .before .before .before .before .before .before .before .before .before .pre .0))
+    let a = c .before .before .before .before .before .before .before .before .before .before .before .before .args in
+    omega (arith, puts.length-span (now (a .b)) (now (a .words)) (a .s) (c .before .before .before .before .before .before .before .before .before .before .before .before .pre .0))
 
-add-t13 : tie.Need-add-t13
-add-t13 c = search needs
+add-t14 : tie.Need-add-t14
+add-t14 c =
+    let a = c .before .before .before .before .before .before .before .before .before .before .before .before .before .args in
+    omega (arith, puts.length-span (now (a .b)) (now (a .words)) (a .s) (c .before .before .before .before .before .before .before .before .before .before .before .before .before .pre .0))
 
 same-length : tie.Need-same-length
 same-length c = search needs
 
 returns : tie.Need-returns
 returns c =
-    let a = c .before .before .before .before .before .before .before .before .before .before .before .before .args in
-    let l = puts.length-span (now (a .b)) (a .s) (c .before .before .before .before .before .before .before .before .before .before .before .before .pre .0) in
-    puts.byte-put (c .before .before .before .before .before .before .before .before .write-u8 .ensures) (c .before .before .before .write-string .ensures) (omega arith)
+    let a = c .before .before .before .before .before .before .before .before .before .before .before .before .before .args in
+    let l = puts.length-span (now (a .b)) (now (a .words)) (a .s) (c .before .before .before .before .before .before .before .before .before .before .before .before .before .pre .0) in
+    puts.byte-put (c .before .before .before .before .before .before .before .before .write-u8 .ensures) (c .before .before .before .write-text .ensures) (omega arith)
 
 pub write-push-string-spec : {M : Type 1} → statement M
 write-push-string-spec =
@@ -41,8 +43,8 @@ write-push-string-spec =
     (tie.spec
     write-u8-requires
     add-w
-    write-string-requires
+    write-text-requires
     string-len-requires
-    add-t13
+    add-t14
     same-length
     returns)

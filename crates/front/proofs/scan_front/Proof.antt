@@ -1,6 +1,7 @@
 use Rattle.front.proofs.Fronts.{front-cut, front-stops, front-place, front-ends}
 use Rattle.positions.specs.Scanned.{faultOf}
 use native.Mathlib.Omega.{arith}
+use mathlib.Core.Option.{none}
 use borrow.Author.Needs.{needs}
 use Rattle.front.proofs.scan_front.Statement.{statement}
 use Rattle.front.proofs.scan_front.Tie as tie
@@ -10,7 +11,7 @@ sub-if1 c = search needs
 
 returns : tie.Need-returns
 unfolding faultOf
-returns c = front-cut _ _ _ _ (omega arith)
+returns c o = front-cut _ _ _ _ (omega arith)
 
 add-scan-entries : tie.Need-add-scan-entries
 add-scan-entries c = search needs
@@ -28,13 +29,13 @@ enum-known-p : tie.Need-enum-known-p
 enum-known-p c = search needs
 
 scan-bytes-requires : tie.Need-scan-bytes-requires
-scan-bytes-requires c κs = front-place _ _ _ _ (omega arith) _ (c .before .before .before .before .u16-at .ensures .0) _ (c .before .before .before .scan-entries .ensures) _ _ (c .before .p .given .1)
+scan-bytes-requires c κs = front-place _ _ _ _ (omega arith) _ (c .before .before .before .before .u16-at .ensures .0) _ (c .before .before .before .scan-entries .ensures none) _ _ (c .before .p .given .1)
 
 returns-2 : tie.Need-returns-2
-returns-2 c = front-stops _ _ _ _ (omega arith) _ (c .before .before .before .before .u16-at .ensures .0) _ (c .before .before .before .scan-entries .ensures) _ _ (c .before .f .given .1)
+returns-2 c o = front-stops _ _ _ _ (omega arith) _ (c .before .before .before .before .u16-at .ensures .0) _ (c .before .before .before .scan-entries .ensures o) _ _ (c .before .f .given .1)
 
 returns-3 : tie.Need-returns-3
-returns-3 c = front-ends _ _ _ _ (omega arith) _ (c .before .before .before .before .before .u16-at .ensures .0) _ (c .before .before .before .before .scan-entries .ensures) _ _ _ (c .before .before .p .given .1) (c .scan-bytes .ensures)
+returns-3 c o = front-ends _ _ _ _ (omega arith) _ (c .before .before .before .before .before .u16-at .ensures .0) _ (c .before .before .before .before .scan-entries .ensures o) _ _ _ (c .before .before .p .given .1) (c .scan-bytes .ensures)
 
 pub scan-front-spec : {M : Type 1} → statement M
 scan-front-spec =

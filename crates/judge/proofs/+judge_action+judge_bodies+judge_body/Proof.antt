@@ -5,6 +5,7 @@ use Rattle.laws.specs.Resolved.{bodyLength, bodyEvents}
 use Rattle.measure.specs.Walk.{standing, measured, inTurn, inBodies}
 use Rattle.layout.specs.Tree.{bodyCount}
 use Rattle.editions.specs.Allowed.{termsOf}
+use Rattle.editions.proofs.Listed.{terms-short}
 use Rattle.layout.specs.Read.{placed, readBody}
 use Rattle.layout.specs.Lengths.{total}
 use mathlib.Core.Path.{refl}
@@ -28,46 +29,46 @@ use Rattle.payload.proofs.scan_payload.Reads as scan-payload-reads
 use Rattle.judge.proofs.+judge_action+judge_bodies+judge_body.{statement}
 use Rattle.judge.proofs.+judge_action+judge_bodies+judge_body.Tie.{close}
 
-abbrev μ-judge-action : Measures 3 judge-action-kinds.ps ℕ
-μ-judge-action κs a = a .1 .1 .1 .0 * 4 + 2
+abbrev μ-judge-action : Measures 5 judge-action-kinds.ps ℕ
+μ-judge-action κs a = a .1 .1 .1 .1 .1 .0 * 4 + 2
 
-abbrev μ-judge-bodies : Measures 3 judge-bodies-kinds.ps ℕ
-μ-judge-bodies κs a = a .1 .1 .1 .0 * 4 + 1
+abbrev μ-judge-bodies : Measures 5 judge-bodies-kinds.ps ℕ
+μ-judge-bodies κs a = a .1 .1 .1 .1 .1 .0 * 4 + 1
 
-abbrev μ-judge-body : Measures 3 judge-body-kinds.ps ℕ
-μ-judge-body κs a = a .1 .1 .1 .0 * 4
+abbrev μ-judge-body : Measures 5 judge-body-kinds.ps ℕ
+μ-judge-body κs a = a .1 .1 .1 .1 .1 .0 * 4
 
-abbrev judge-action-at : ℕ → In 3 judge-action-kinds.ps
+abbrev judge-action-at : ℕ → In 5 judge-action-kinds.ps
 judge-action-at t =
-    and 3 judge-action-kinds.ps (is 3 judge-action-kinds.ps μ-judge-action t) judge-action.Pre
+    and 5 judge-action-kinds.ps (is 5 judge-action-kinds.ps μ-judge-action t) judge-action.Pre
 
-abbrev judge-action-below : ℕ → In 3 judge-action-kinds.ps
+abbrev judge-action-below : ℕ → In 5 judge-action-kinds.ps
 judge-action-below t =
     and
-    3
+    5
     judge-action-kinds.ps
-    (falls 3 judge-action-kinds.ps _<_ μ-judge-action t)
+    (falls 5 judge-action-kinds.ps _<_ μ-judge-action t)
     judge-action.Pre
 
-abbrev judge-bodies-at : ℕ → In 3 judge-bodies-kinds.ps
+abbrev judge-bodies-at : ℕ → In 5 judge-bodies-kinds.ps
 judge-bodies-at t =
-    and 3 judge-bodies-kinds.ps (is 3 judge-bodies-kinds.ps μ-judge-bodies t) judge-bodies.Pre
+    and 5 judge-bodies-kinds.ps (is 5 judge-bodies-kinds.ps μ-judge-bodies t) judge-bodies.Pre
 
-abbrev judge-bodies-below : ℕ → In 3 judge-bodies-kinds.ps
+abbrev judge-bodies-below : ℕ → In 5 judge-bodies-kinds.ps
 judge-bodies-below t =
     and
-    3
+    5
     judge-bodies-kinds.ps
-    (falls 3 judge-bodies-kinds.ps _<_ μ-judge-bodies t)
+    (falls 5 judge-bodies-kinds.ps _<_ μ-judge-bodies t)
     judge-bodies.Pre
 
-abbrev judge-body-at : ℕ → In 3 judge-body-kinds.ps
+abbrev judge-body-at : ℕ → In 5 judge-body-kinds.ps
 judge-body-at t =
-    and 3 judge-body-kinds.ps (is 3 judge-body-kinds.ps μ-judge-body t) judge-body.Pre
+    and 5 judge-body-kinds.ps (is 5 judge-body-kinds.ps μ-judge-body t) judge-body.Pre
 
-abbrev judge-body-below : ℕ → In 3 judge-body-kinds.ps
+abbrev judge-body-below : ℕ → In 5 judge-body-kinds.ps
 judge-body-below t =
-    and 3 judge-body-kinds.ps (falls 3 judge-body-kinds.ps _<_ μ-judge-body t) judge-body.Pre
+    and 5 judge-body-kinds.ps (falls 5 judge-body-kinds.ps _<_ μ-judge-body t) judge-body.Pre
 
 -- what judge-body is told of the functions that it calls
 abbrev judge-body-calls : ℕ → judge-body-lts.Claims
@@ -82,26 +83,26 @@ abbrev judge-action-calls : ℕ → judge-action-lts.Claims
 judge-action-calls t = (scan-payload-reads.Asked, scan-payload-reads.Learnt, judge-branch-reads.Asked, judge-branch-reads.Learnt, judge-bodies-below t, judge-bodies.Post)
 
 judge-action-shared-slice-read-op : (t : ℕ) → judge-action-lts.Need-shared-slice-read-op (judge-action-calls t) (judge-action-at t) judge-action.Post
-judge-action-shared-slice-read-op t c = laws.opcode-inside _ _ _ _ _ _ _ _ _ (c .before .before .before .before .pre .1)
+judge-action-shared-slice-read-op t c = laws.opcode-inside _ _ _ _ _ _ _ _ _ (c .before .before .before .before .before .before .pre .1)
 
 judge-action-add-later : (t : ℕ) → judge-action-lts.Need-add-later (judge-action-calls t) (judge-action-at t) judge-action.Post
-judge-action-add-later t c = let p = c .before .before .before .before .before .pre .1 in omega (arith, p .before, p .roomy .room, p .roomy .inside)
+judge-action-add-later t c = let p = c .before .before .before .before .before .before .before .pre .1 in omega (arith, p .before, p .roomy .room, p .roomy .inside)
 
 judge-action-add-next : (t : ℕ) → judge-action-lts.Need-add-next (judge-action-calls t) (judge-action-at t) judge-action.Post
-judge-action-add-next t c = omega (arith, laws.opcode-inside _ _ _ _ _ _ _ _ _ (c .before .before .before .before .before .before .pre .1), c .before .before .before .before .before .before .pre .1 .roomy .room)
+judge-action-add-next t c = omega (arith, laws.opcode-inside _ _ _ _ _ _ _ _ _ (c .before .before .before .before .before .before .before .before .pre .1), c .before .before .before .before .before .before .before .before .pre .1 .roomy .room)
 
 judge-action-add-after : (t : ℕ) → judge-action-lts.Need-add-after (judge-action-calls t) (judge-action-at t) judge-action.Post
-judge-action-add-after t c = omega (arith, c .before .before .before .before .before .before .before .pre .1 .roomy .room)
+judge-action-add-after t c = omega (arith, c .before .before .before .before .before .before .before .before .before .pre .1 .roomy .room)
 
 judge-action-returns : (t : ℕ) → judge-action-lts.Need-returns (judge-action-calls t) (judge-action-at t) judge-action.Post
-judge-action-returns t c = laws.small-passed _ _ _ _ _ _ _ _ _ (c .before .before .before .before .before .before .before .pre .1) _ (c .before .if1 .taken)
+judge-action-returns t c = laws.small-passed _ _ _ _ _ _ _ _ _ (c .before .before .before .before .before .before .before .before .before .pre .1) _ (c .before .if1 .taken)
 
 judge-action-slice-aggregate-scan-payload :
     (t : ℕ) → judge-action-lts.Need-slice-aggregate-scan-payload (judge-action-calls t) (judge-action-at t) judge-action.Post
 judge-action-slice-aggregate-scan-payload t c = search needs
 
 judge-action-scan-payload-requires : (t : ℕ) → judge-action-lts.Need-scan-payload-requires (judge-action-calls t) (judge-action-at t) judge-action.Post
-judge-action-scan-payload-requires t c κs = (c .before .if1 .left, laws.opcode-inside _ _ _ _ _ _ _ _ _ (c .before .before .before .before .before .before .before .pre .1), refl, c .before .before .before .before .before .before .before .pre .1 .roomy)
+judge-action-scan-payload-requires t c κs = (c .before .if1 .left, laws.opcode-inside _ _ _ _ _ _ _ _ _ (c .before .before .before .before .before .before .before .before .before .pre .1), refl, c .before .before .before .before .before .before .before .before .before .pre .1 .roomy)
 
 judge-action-enum-known-p : (t : ℕ) → judge-action-lts.Need-enum-known-p (judge-action-calls t) (judge-action-at t) judge-action.Post
 judge-action-enum-known-p t c = search needs
@@ -113,46 +114,46 @@ judge-action-enum-known-p-3 : (t : ℕ) → judge-action-lts.Need-enum-known-p-3
 judge-action-enum-known-p-3 t c = search needs
 
 judge-action-add-operand : (t : ℕ) → judge-action-lts.Need-add-operand (judge-action-calls t) (judge-action-at t) judge-action.Post
-judge-action-add-operand t c = omega (arith, c .before .before .before .before .before .before .before .before .before .before .before .before .before .pre .1 .roomy .room)
+judge-action-add-operand t c = omega (arith, c .before .before .before .before .before .before .before .before .before .before .before .before .before .before .before .pre .1 .roomy .room)
 
 judge-action-judge-branch-requires : (t : ℕ) → judge-action-lts.Need-judge-branch-requires (judge-action-calls t) (judge-action-at t) judge-action.Post
-judge-action-judge-branch-requires t c κs = let q = laws.branch-asks _ _ _ _ _ _ _ _ _ (c .before .before .before .before .before .before .before .before .before .before .before .before .before .pre .1) _ _ _ (c .before .before .before .before .before .scan-payload .ensures) _ _ _ (c .before .before .p3 .given .1) in let j = c .before .before .before .before .before .before .before .before .before .before .before .before .before .pre .1 in (omega (arith, q .0, j .slots), λ e. omega (arith, q .0, j .lent e), j .small, omega (arith, q .1), omega (arith, j .before, j .roomy .room, j .roomy .inside))
+judge-action-judge-branch-requires t c κs = let q = laws.branch-asks _ _ _ _ _ _ _ _ _ (c .before .before .before .before .before .before .before .before .before .before .before .before .before .before .before .pre .1) _ _ _ (c .before .before .before .before .before .scan-payload .ensures) _ _ _ (c .before .before .p3 .given .1) in let j = c .before .before .before .before .before .before .before .before .before .before .before .before .before .before .before .pre .1 in (omega (arith, q .0, j .slots), λ e. omega (arith, q .0, j .lent e), j .small, omega (arith, q .1), omega (arith, j .before, j .roomy .room, j .roomy .inside))
 
 judge-action-enum-known-p-4 : (t : ℕ) → judge-action-lts.Need-enum-known-p-4 (judge-action-calls t) (judge-action-at t) judge-action.Post
 judge-action-enum-known-p-4 t c = search needs
 
 judge-action-judge-bodies-requires : (t : ℕ) → judge-action-lts.Need-judge-bodies-requires (judge-action-calls t) (judge-action-at t) judge-action.Post
-judge-action-judge-bodies-requires t c κs = (omega arith, laws.bodies-asks _ _ _ _ _ _ _ _ _ (c .before .before .before .before .before .before .before .before .before .before .before .before .pre .1) _ _ _ (c .before .before .before .before .scan-payload .ensures) _ _ _ (c .before .p4 .given .1))
+judge-action-judge-bodies-requires t c κs = (omega arith, laws.bodies-asks _ _ _ _ _ _ _ _ _ (c .before .before .before .before .before .before .before .before .before .before .before .before .before .before .pre .1) _ _ _ (c .before .before .before .before .scan-payload .ensures) _ _ _ (c .before .p4 .given .1))
 
 judge-action-enum-known-p-5 : (t : ℕ) → judge-action-lts.Need-enum-known-p-5 (judge-action-calls t) (judge-action-at t) judge-action.Post
 judge-action-enum-known-p-5 t c = search needs
 
 judge-action-judge-bodies-requires-2 : (t : ℕ) → judge-action-lts.Need-judge-bodies-requires-2 (judge-action-calls t) (judge-action-at t) judge-action.Post
-judge-action-judge-bodies-requires-2 t c κs = (omega arith, laws.function-asks _ _ _ _ _ _ _ _ _ (c .before .before .before .before .before .before .before .before .before .before .before .before .pre .1) _ _ _ (c .before .before .before .before .scan-payload .ensures) _ _ (c .before .p5 .given .1))
+judge-action-judge-bodies-requires-2 t c κs = (omega arith, laws.function-asks _ _ _ _ _ _ _ _ _ (c .before .before .before .before .before .before .before .before .before .before .before .before .before .before .pre .1) _ _ _ (c .before .before .before .before .scan-payload .ensures) _ _ (c .before .p5 .given .1))
 
 judge-action-returns-2 : (t : ℕ) → judge-action-lts.Need-returns-2 (judge-action-calls t) (judge-action-at t) judge-action.Post
-judge-action-returns-2 t c = laws.never-stops _ _ _ _ _ _ _ _ _ (c .before .before .before .before .before .before .before .before .before .before .before .before .pre .1) _ _ _ (c .before .before .before .before .scan-payload .ensures) _ _ (c .before .p .given .1)
+judge-action-returns-2 t c = laws.never-stops _ _ _ _ _ _ _ _ _ (c .before .before .before .before .before .before .before .before .before .before .before .before .before .before .pre .1) _ _ _ (c .before .before .before .before .scan-payload .ensures) _ _ (c .before .p .given .1)
 
 judge-action-returns-3 : (t : ℕ) → judge-action-lts.Need-returns-3 (judge-action-calls t) (judge-action-at t) judge-action.Post
-judge-action-returns-3 t c = laws.flat-passed _ _ _ _ _ _ _ _ _ (c .before .before .before .before .before .before .before .before .before .before .before .before .pre .1) _ _ _ (c .before .before .before .before .scan-payload .ensures) _ _ _ (c .before .p2 .given .1)
+judge-action-returns-3 t c = laws.flat-passed _ _ _ _ _ _ _ _ _ (c .before .before .before .before .before .before .before .before .before .before .before .before .before .before .pre .1) _ _ _ (c .before .before .before .before .scan-payload .ensures) _ _ _ (c .before .p2 .given .1)
 
 judge-action-returns-4 : (t : ℕ) → judge-action-lts.Need-returns-4 (judge-action-calls t) (judge-action-at t) judge-action.Post
-judge-action-returns-4 t c = laws.branch-found _ _ _ _ _ _ _ _ _ (c .before .before .before .before .before .before .before .before .before .before .before .before .before .before .pre .1) _ _ _ (c .before .before .before .before .before .before .scan-payload .ensures) _ _ _ _ _ (c .before .before .before .p3 .given .1) (c .judge-branch .ensures)
+judge-action-returns-4 t c = laws.branch-found _ _ _ _ _ _ _ _ _ (c .before .before .before .before .before .before .before .before .before .before .before .before .before .before .before .before .pre .1) _ _ _ (c .before .before .before .before .before .before .scan-payload .ensures) _ _ _ _ _ (c .before .before .before .p3 .given .1) (c .judge-branch .ensures)
 
 judge-action-returns-5 : (t : ℕ) → judge-action-lts.Need-returns-5 (judge-action-calls t) (judge-action-at t) judge-action.Post
-judge-action-returns-5 t c = laws.bodies-found _ _ _ _ _ _ _ _ _ (c .before .before .before .before .before .before .before .before .before .before .before .before .before .pre .1) _ _ _ (c .before .before .before .before .before .scan-payload .ensures) _ _ _ _ _ (c .before .before .p4 .given .1) (c .judge-bodies .ensures)
+judge-action-returns-5 t c = laws.bodies-found _ _ _ _ _ _ _ _ _ (c .before .before .before .before .before .before .before .before .before .before .before .before .before .before .before .pre .1) _ _ _ (c .before .before .before .before .before .scan-payload .ensures) _ _ _ _ _ (c .before .before .p4 .given .1) (c .judge-bodies .ensures)
 
 judge-action-returns-6 : (t : ℕ) → judge-action-lts.Need-returns-6 (judge-action-calls t) (judge-action-at t) judge-action.Post
-judge-action-returns-6 t c = laws.function-found _ _ _ _ _ _ _ _ _ (c .before .before .before .before .before .before .before .before .before .before .before .before .before .pre .1) _ _ _ (c .before .before .before .before .before .scan-payload .ensures) _ _ _ _ (c .before .before .p5 .given .1) (c .judge-bodies2 .ensures)
+judge-action-returns-6 t c = laws.function-found _ _ _ _ _ _ _ _ _ (c .before .before .before .before .before .before .before .before .before .before .before .before .before .before .before .pre .1) _ _ _ (c .before .before .before .before .before .scan-payload .ensures) _ _ _ _ (c .before .before .p5 .given .1) (c .judge-bodies2 .ensures)
 
 abbrev judge-bodies-Inv-loop : judge-bodies-lts.InvT-loop
-judge-bodies-Inv-loop b terms at depth home n mode tab homes left₀ p₀ w₀ action₀ left p w action = laws.Inner (termsOf terms) b depth home (modeOf mode) tab homes (λ r. Judging (modeOf mode) tab homes (measured (total bodyLength) (total bodyCount) inBodies (standing w₀ home action₀) (inTurn (readBody (termsOf terms) b depth) n (placed at))) r) left p w action
+judge-bodies-Inv-loop b words index terms at depth home n mode tab homes left₀ p₀ w₀ action₀ left p w action = laws.Inner (termsOf terms words index) b depth (terms-short terms words index) home (modeOf mode) tab homes (λ r. Judging (modeOf mode) tab homes (measured (total bodyLength) (total bodyCount) inBodies (standing w₀ home action₀) (inTurn (readBody (termsOf terms words index) b depth) n (placed at))) r) left p w action
 
 abbrev judge-bodies-μ-loop : judge-bodies-lts.MeasureT-loop
-judge-bodies-μ-loop b terms at depth home n mode tab homes left₀ p₀ w₀ action₀ left p w action = left
+judge-bodies-μ-loop b words index terms at depth home n mode tab homes left₀ p₀ w₀ action₀ left p w action = left
 
 judge-bodies-loop-holds : (t : ℕ) → judge-bodies-lts.Need-loop-holds (judge-bodies-calls t) (judge-bodies-at t) judge-bodies.Post judge-bodies-Inv-loop judge-bodies-μ-loop
-judge-bodies-loop-holds t c = laws.bodies-start _ _ _ _ _ _ _ _ _ _ _ (c .before .before .before .pre .1)
+judge-bodies-loop-holds t c = laws.bodies-start _ _ _ _ _ _ _ _ _ _ _ _ (c .before .before .before .before .before .pre .1)
 
 judge-bodies-judge-body-requires : (t : ℕ) → judge-bodies-lts.Need-judge-body-requires (judge-bodies-calls t) (judge-bodies-at t) judge-bodies.Post judge-bodies-Inv-loop judge-bodies-μ-loop
 judge-bodies-judge-body-requires t c κs = (omega arith, loops.loop-one _ _ _ _ _ _ _ _ _ _ _ _ _ _ _ _ _ (c .before .loop .inv) (c .loop-test .taken))
@@ -179,37 +180,37 @@ judge-bodies-returns-2 : (t : ℕ) → judge-bodies-lts.Need-returns-2 (judge-bo
 judge-bodies-returns-2 t c = loops.loop-end _ _ _ _ _ _ _ _ _ _ _ _ _ _ _ _ _ (c .before .loop .inv) (c .loop-test .left)
 
 abbrev judge-body-Inv-loop : judge-body-lts.InvT-loop
-judge-body-Inv-loop b terms at depth home mode tab homes front left₀ p₀ w₀ action₀ left p w action = laws.Acting (termsOf terms) b (depth - 1) home (modeOf mode) tab homes (λ r. Judging (modeOf mode) tab homes (measured bodyLength bodyCount bodyEvents (standing w₀ home action₀) (readBody (termsOf terms) b depth (placed at))) r) left p w action
+judge-body-Inv-loop b words index terms at depth home mode tab homes front left₀ p₀ w₀ action₀ left p w action = laws.Acting (termsOf terms words index) b (depth - 1) (terms-short terms words index) home (modeOf mode) tab homes (λ r. Judging (modeOf mode) tab homes (measured bodyLength bodyCount bodyEvents (standing w₀ home action₀) (readBody (termsOf terms words index) b depth (placed at))) r) left p w action
 
 abbrev judge-body-μ-loop : judge-body-lts.MeasureT-loop
-judge-body-μ-loop b terms at depth home mode tab homes front left₀ p₀ w₀ action₀ left p w action = left
+judge-body-μ-loop b words index terms at depth home mode tab homes front left₀ p₀ w₀ action₀ left p w action = left
 
 judge-body-add-front : (t : ℕ) → judge-body-lts.Need-add-front (judge-body-calls t) (judge-body-at t) judge-body.Post judge-body-Inv-loop judge-body-μ-loop
-judge-body-add-front t c = omega (arith, laws.front-inside _ _ _ _ _ _ _ _ _ (c .before .before .before .pre .1), c .before .before .before .pre .1 .roomy .room)
+judge-body-add-front t c = omega (arith, laws.front-inside _ _ _ _ _ _ _ _ _ (c .before .before .before .before .before .pre .1), c .before .before .before .before .before .pre .1 .roomy .room)
 
 judge-body-u16-at-requires : (t : ℕ) → judge-body-lts.Need-u16-at-requires (judge-body-calls t) (judge-body-at t) judge-body.Post judge-body-Inv-loop judge-body-μ-loop
-judge-body-u16-at-requires t c κs = omega (arith, laws.front-inside _ _ _ _ _ _ _ _ _ (c .before .before .before .pre .1))
+judge-body-u16-at-requires t c κs = omega (arith, laws.front-inside _ _ _ _ _ _ _ _ _ (c .before .before .before .before .before .pre .1))
 
 judge-body-mul-front : (t : ℕ) → judge-body-lts.Need-mul-front (judge-body-calls t) (judge-body-at t) judge-body.Post judge-body-Inv-loop judge-body-μ-loop
 judge-body-mul-front t c = omega (arith, c .u16-at .ensures .1)
 
 judge-body-add-front-2 : (t : ℕ) → judge-body-lts.Need-add-front-2 (judge-body-calls t) (judge-body-at t) judge-body.Post judge-body-Inv-loop judge-body-μ-loop
-judge-body-add-front-2 t c = omega (arith, laws.front-inside _ _ _ _ _ _ _ _ _ (c .before .before .before .before .pre .1), c .u16-at .ensures .0, c .u16-at .ensures .1, c .before .before .before .before .pre .1 .roomy .room)
+judge-body-add-front-2 t c = omega (arith, laws.front-inside _ _ _ _ _ _ _ _ _ (c .before .before .before .before .before .before .pre .1), c .u16-at .ensures .0, c .u16-at .ensures .1, c .before .before .before .before .before .before .pre .1 .roomy .room)
 
 judge-body-u16-at-requires-2 : (t : ℕ) → judge-body-lts.Need-u16-at-requires-2 (judge-body-calls t) (judge-body-at t) judge-body.Post judge-body-Inv-loop judge-body-μ-loop
-judge-body-u16-at-requires-2 t c κs = omega (arith, laws.front-inside _ _ _ _ _ _ _ _ _ (c .before .before .before .before .pre .1), c .u16-at .ensures .0)
+judge-body-u16-at-requires-2 t c κs = omega (arith, laws.front-inside _ _ _ _ _ _ _ _ _ (c .before .before .before .before .before .before .pre .1), c .u16-at .ensures .0)
 
 judge-body-add-p : (t : ℕ) → judge-body-lts.Need-add-p (judge-body-calls t) (judge-body-at t) judge-body.Post judge-body-Inv-loop judge-body-μ-loop
-judge-body-add-p t c = omega (arith, laws.front-inside _ _ _ _ _ _ _ _ _ (c .before .before .before .before .before .pre .1), c .before .u16-at .ensures .0, c .before .before .before .before .before .pre .1 .roomy .room)
+judge-body-add-p t c = omega (arith, laws.front-inside _ _ _ _ _ _ _ _ _ (c .before .before .before .before .before .before .before .pre .1), c .before .u16-at .ensures .0, c .before .before .before .before .before .before .before .pre .1 .roomy .room)
 
 judge-body-loop-holds : (t : ℕ) → judge-body-lts.Need-loop-holds (judge-body-calls t) (judge-body-at t) judge-body.Post judge-body-Inv-loop judge-body-μ-loop
-judge-body-loop-holds t c = laws.body-start _ _ _ _ _ _ _ _ _ (c .before .before .before .before .before .pre .1) _ _ _ _ _ (c .before .u16-at .ensures .0) refl (c .u16-at2 .ensures .0) refl
+judge-body-loop-holds t c = laws.body-start _ _ _ _ _ _ _ _ _ (c .before .before .before .before .before .before .before .pre .1) _ _ _ _ _ _ (c .before .u16-at .ensures .0) refl (c .u16-at2 .ensures .0) refl
 
 judge-body-sub-judge-action : (t : ℕ) → judge-body-lts.Need-sub-judge-action (judge-body-calls t) (judge-body-at t) judge-body.Post judge-body-Inv-loop judge-body-μ-loop
-judge-body-sub-judge-action t c = laws.is-deep _ _ _ _ _ _ _ _ _ (c .before .before .before .before .before .before .before .pre .1)
+judge-body-sub-judge-action t c = laws.is-deep _ _ _ _ _ _ _ _ _ (c .before .before .before .before .before .before .before .before .before .pre .1)
 
 judge-body-judge-action-requires : (t : ℕ) → judge-body-lts.Need-judge-action-requires (judge-body-calls t) (judge-body-at t) judge-body.Post judge-body-Inv-loop judge-body-μ-loop
-judge-body-judge-action-requires t c κs = (omega (arith, laws.is-deep _ _ _ _ _ _ _ _ _ (c .before .before .before .before .before .before .before .pre .1), c .before .before .before .before .before .before .before .pre .0), loops.loop-one _ _ _ _ _ _ _ _ _ _ _ _ _ _ _ _ _ (c .before .loop .inv) (c .loop-test .taken))
+judge-body-judge-action-requires t c κs = (omega (arith, laws.is-deep _ _ _ _ _ _ _ _ _ (c .before .before .before .before .before .before .before .before .before .pre .1), c .before .before .before .before .before .before .before .before .before .pre .0), loops.loop-one _ _ _ _ _ _ _ _ _ _ _ _ _ _ _ _ _ (c .before .loop .inv) (c .loop-test .taken))
 
 judge-body-enum-known-bad : (t : ℕ) → judge-body-lts.Need-enum-known-bad (judge-body-calls t) (judge-body-at t) judge-body.Post judge-body-Inv-loop judge-body-μ-loop
 judge-body-enum-known-bad t c = search needs

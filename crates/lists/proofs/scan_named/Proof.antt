@@ -13,8 +13,8 @@ returns c = values.named-out _ _ _ _ _ (omega arith)
 add-scan-string : tie.Need-add-scan-string
 add-scan-string c = search needs
 
-add-t7 : tie.Need-add-t7
-add-t7 c = search needs
+add-t9 : tie.Need-add-t9
+add-t9 c = search needs
 
 scan-string-requires : tie.Need-scan-string-requires
 scan-string-requires c κs = search needs
@@ -24,4 +24,4 @@ returns-2 c = values.named-in _ _ _ _ _ _ (omega arith) (c .scan-string .ensures
 
 pub scan-named-spec : {M : Type 1} → statement M
 scan-named-spec =
-    tie.close (tie.spec sub-if1 returns add-scan-string add-t7 scan-string-requires returns-2)
+    tie.close (tie.spec sub-if1 returns add-scan-string add-t9 scan-string-requires returns-2)

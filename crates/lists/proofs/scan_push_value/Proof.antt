@@ -13,14 +13,11 @@ add-p c = search needs
 shared-slice-read-match : tie.Need-shared-slice-read-match
 shared-slice-read-match c = search needs
 
-add-t13 : tie.Need-add-t13
-add-t13 c = search needs
+add-t15 : tie.Need-add-t15
+add-t15 c = search needs
 
 scan-string-requires : tie.Need-scan-string-requires
 scan-string-requires c κs = search needs
-
-add-t15 : tie.Need-add-t15
-add-t15 c = search needs
 
 add-t17 : tie.Need-add-t17
 add-t17 c = search needs
@@ -28,23 +25,26 @@ add-t17 c = search needs
 add-t19 : tie.Need-add-t19
 add-t19 c = search needs
 
-scan-bytes-requires : tie.Need-scan-bytes-requires
-scan-bytes-requires c κs = search needs
-
 add-t21 : tie.Need-add-t21
 add-t21 c = search needs
 
-scan-flag-requires : tie.Need-scan-flag-requires
-scan-flag-requires c κs = search needs
+scan-bytes-requires : tie.Need-scan-bytes-requires
+scan-bytes-requires c κs = search needs
 
 add-t23 : tie.Need-add-t23
 add-t23 c = search needs
 
-scan-bytes-requires-2 : tie.Need-scan-bytes-requires-2
-scan-bytes-requires-2 c κs = search needs
+scan-flag-requires : tie.Need-scan-flag-requires
+scan-flag-requires c κs = search needs
 
 add-t25 : tie.Need-add-t25
 add-t25 c = search needs
+
+scan-bytes-requires-2 : tie.Need-scan-bytes-requires-2
+scan-bytes-requires-2 c κs = search needs
+
+add-t27 : tie.Need-add-t27
+add-t27 c = search needs
 
 scan-bytes-requires-3 : tie.Need-scan-bytes-requires-3
 scan-bytes-requires-3 c κs = search needs
@@ -86,17 +86,17 @@ scan-push-value-spec =
     returns
     add-p
     shared-slice-read-match
-    add-t13
-    scan-string-requires
     add-t15
+    scan-string-requires
     add-t17
     add-t19
-    scan-bytes-requires
     add-t21
-    scan-flag-requires
+    scan-bytes-requires
     add-t23
-    scan-bytes-requires-2
+    scan-flag-requires
     add-t25
+    scan-bytes-requires-2
+    add-t27
     scan-bytes-requires-3
     scan-constant-requires
     returns-2

@@ -1,4 +1,5 @@
 use Rattle.editions.specs.Allowed.{termsOf}
+use Rattle.editions.proofs.Listed.{terms-short}
 use borrow.Author.Needs.{needs}
 use Rattle.layout.specs.Read.{placed, readCounted}
 use Rattle.layout.specs.Lengths.{total}
@@ -10,11 +11,11 @@ use Rattle.lists.proofs.scan_strings.Statement.{statement}
 use Rattle.lists.proofs.scan_strings.Tie as tie
 
 abbrev Inv-loop : tie.InvT-loop
-Inv-loop b terms at skip left₀ p₀ w₀ left p w =
-    lists.Going (readNamed (termsOf terms) b skip) (namedSize skip) b (scanned (total (namedSize skip)) (w₀ .0) (readCounted b (readNamed (termsOf terms) b skip) (placed at))) left p w
+Inv-loop b words index terms at skip left₀ p₀ w₀ left p w =
+    lists.Going (readNamed (termsOf terms words index) b skip) (namedSize skip) b (scanned (total (namedSize skip)) (w₀ .0) (readCounted b (readNamed (termsOf terms words index) b skip) (placed at))) left p w
 
 abbrev μ-loop : tie.MeasureT-loop
-μ-loop b terms at skip left₀ p₀ w₀ left p w = left
+μ-loop b words index terms at skip left₀ p₀ w₀ left p w = left
 
 sub-if1 : tie.Need-sub-if1 Inv-loop μ-loop
 sub-if1 c = search needs
@@ -30,7 +31,7 @@ add-p : tie.Need-add-p Inv-loop μ-loop
 add-p c = search needs
 
 loop-holds : tie.Need-loop-holds Inv-loop μ-loop
-loop-holds c = lists.counted-start _ _ _ _ _ _ (omega arith) (c .u16-at .ensures .0) (c .before .before .before .pre .0)
+loop-holds c = lists.counted-start _ _ _ _ _ _ (omega arith) (c .u16-at .ensures .0) (c .before .before .before .before .before .pre .0)
 
 scan-named-requires : tie.Need-scan-named-requires Inv-loop μ-loop
 scan-named-requires c κs = (c .before .loop .inv .roomy, search needs)
@@ -51,7 +52,7 @@ loop-less : tie.Need-loop-less Inv-loop μ-loop
 loop-less c = search needs
 
 loop-again : tie.Need-loop-again Inv-loop μ-loop
-loop-again c = let g = c .before .before .before .before .before .loop .inv in lists.going-ends _ _ _ _ _ _ _ g (c .before .before .before .before .loop-test .taken) _ (c .before .before .before .scan-named .ensures) (lists.named-grows _ _ (g .roomy .bytes) _) _ _ (c .before .q .given .1)
+loop-again c = let g = c .before .before .before .before .before .loop .inv in lists.going-ends _ _ _ _ _ _ _ g (c .before .before .before .before .loop-test .taken) _ (c .before .before .before .scan-named .ensures) (lists.named-grows _ _ (g .roomy .bytes) (terms-short (c .before .before .before .before .before .before .before .before .before .before .before .args .terms) _ _) _) _ _ (c .before .q .given .1)
 
 returns-3 : tie.Need-returns-3 Inv-loop μ-loop
 returns-3 c = lists.going-end _ _ _ _ _ _ _ (c .before .loop .inv) (c .loop-test .left)

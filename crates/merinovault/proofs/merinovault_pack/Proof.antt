@@ -13,10 +13,13 @@ use Rattle.merinovault.proofs.merinovault_pack.Tie as tie
 is-lent : (c : tie.After-shared-slice-known) → Lent (c .before .args .sheet .now)
 is-lent c = record { bytes = all-bytes (c .before .args .sheet .now) (λ i l. omega (arith, c .shared-slice-known .given i)); short = search needs }
 
+is-book : (c : tie.After-shared-slice-known2) → Lent (c .before .before .args .book .now)
+is-book c = record { bytes = all-bytes (c .before .before .args .book .now) (λ i l. omega (arith, c .shared-slice-known2 .given i)); short = search needs }
+
 returns : tie.Need-returns
 returns c =
     let e = c .if1 .taken in
-    record { is-lent = is-lent (c .before .before .before); is-number = sym (other _ _ _ e); is-value = sym (other _ _ _ e); is-output = sym (other _ _ _ e) }
+    record { is-lent = is-lent (c .before .before .before .before); is-book = is-book (c .before .before .before); is-number = sym (other _ _ _ e); is-value = sym (other _ _ _ e); is-output = sym (other _ _ _ e) }
 
 pack-requires : tie.Need-pack-requires
 pack-requires c κs = search needs
@@ -44,7 +47,8 @@ returns-2 c =
     let e = c .before .before .before .before .before .before .before .before .before .before .before .if1 .left in
     let o = c .before .before .before .before .before .before .before .before .before .pack .ensures in
     record {
-      is-lent = is-lent (c .before .before .before .before .before .before .before .before .before .before .before .before .before .before);
+      is-lent = is-lent (c .before .before .before .before .before .before .before .before .before .before .before .before .before .before .before);
+      is-book = is-book (c .before .before .before .before .before .before .before .before .before .before .before .before .before .before);
       is-number = c .number-of .ensures ∙ o .told .is-number ∙ sym (sixteen _ _ _ e);
       is-value = told-bytes lengthOf _ (c .before .before .before .fill-value .ensures) (c .before .before .before .before .before .value-of .ensures .0) (o .told .is-value) (omega arith) (c .before .before .before .before .action-of .ensures ∙ o .told .is-action) ∙ sym (sixteen _ _ _ e);
       is-output = o .holds ∙ sym (sixteen _ _ _ e);

@@ -11,20 +11,20 @@ sub-if1 c = search needs
 
 returns : tie.Need-returns
 unfolding faultOf
-returns c = stops _ _ (reading.label-out _ _ _ 0 (omega arith))
+returns c o = stops _ _ (reading.label-out _ _ _ 0 (omega arith))
 
 u16-at-requires : tie.Need-u16-at-requires
 u16-at-requires c κs = search needs
 
 returns-2 : tie.Need-returns-2
 unfolding faultOf
-returns-2 c = stops _ _ (reading.label-big _ _ _ 0 (omega arith) (omega arith))
+returns-2 c o = stops _ _ (reading.label-big _ _ _ 0 (omega arith) (omega arith))
 
 add-t6 : tie.Need-add-t6
 add-t6 c = search needs
 
 returns-3 : tie.Need-returns-3
-returns-3 c = ends _ _ (reading.label-in _ _ _ 0 (omega arith) (omega arith) (omega arith)) (omega arith)
+returns-3 c o = ends _ _ (reading.label-in _ _ _ 0 (omega arith) (omega arith) (omega arith)) (omega arith)
 
 pub scan-label-spec : {M : Type 1} → statement M
 scan-label-spec = tie.close (tie.spec sub-if1 returns u16-at-requires returns-2 add-t6 returns-3)

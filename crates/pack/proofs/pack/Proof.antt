@@ -21,7 +21,7 @@ enum-known-edition : tie.Need-enum-known-edition
 enum-known-edition c = search needs
 
 -- the main body lies in the sheet
-lies : (c : tie.After-known-told2) → (c .before .edition .given .0 .1 .0 ≤ c .before .edition .given .0 .1 .1 .0) × (c .before .edition .given .0 .1 .1 .0 ≤ length (c .before .before .before .before .before .before .args .sheet .now))
+lies : (c : tie.After-known-told2) → (c .before .edition .given .0 .1 .0 ≤ c .before .edition .given .0 .1 .1 .0) × (c .before .edition .given .0 .1 .1 .0 ≤ length (c .before .before .before .before .before .before .before .args .sheet .now))
 lies c = cuts.cut-within _ _ (c .before .before .before .cut-main .ensures .0) _ _ _ (c .before .edition .given .1) (c .before .before .before .cut-main .ensures .1)
 
 sub-pack-edition : tie.Need-sub-pack-edition
@@ -37,16 +37,16 @@ pack-edition-requires : tie.Need-pack-edition-requires
 pack-edition-requires c κs = cuts.cut-limits _ _ (c .before .before .before .before .before .cut-main .ensures .0) _ _ _ (c .before .before .before .edition .given .1)
 
 returns : tie.Need-returns
-returns c = packs.cut-long _ _ (c .before .before .before .cut-main .ensures .0) _ _ _ (c .before .n .given .1)
+returns c = packs.cut-long _ _ _ (c .before .before .before .cut-main .ensures .0) _ _ _ (c .before .n .given .1)
 
 returns-2 : tie.Need-returns-2
-returns-2 c = packs.cut-bad _ _ (c .before .before .cut-main .ensures .0) _ _ (c .enum-told .given .1)
+returns-2 c = packs.cut-bad _ _ _ (c .before .before .cut-main .ensures .0) _ _ (c .enum-told .given .1)
 
 same-length : tie.Need-same-length
 same-length c = search needs
 
 returns-3 : tie.Need-returns-3
-returns-3 c = packs.cut-packed _ _ (c .before .before .before .before .before .before .before .before .cut-main .ensures .0) _ _ _ _ _ (c .before .before .before .before .before .before .edition .given .1) _ _ (c .before .before .pack-edition .ensures)
+returns-3 c = packs.cut-packed _ _ _ (c .before .before .before .before .before .before .before .before .cut-main .ensures .0) _ _ _ _ _ (c .before .before .before .before .before .before .edition .given .1) _ _ (c .before .before .pack-edition .ensures)
 
 pub pack-spec : {M : Type 1} → statement M
 pack-spec =

@@ -26,7 +26,7 @@ slice-aggregate-pack-whole c = search needs
 pack-whole-requires : tie.Need-pack-whole-requires
 pack-whole-requires c κs =
     let m = c .before .before .before .before .before .before .before .before .before .before .before .before in
-    (packs.read-whole _ _ _ _ _ _ _ (m .read-main .ensures) _ (c .before .before .before .before .before .pos .given .1), λ e. omega (arith, m .before .before .before .before .before .before .before .before .pre .1 .lent e, m .read-main .kept .1 .1 .1 .1 .0))
+    (packs.read-whole _ _ _ _ _ _ _ (m .read-main .ensures) _ (c .before .before .before .before .before .pos .given .1), λ e. omega (arith, m .before .before .before .before .before .before .before .before .before .before .pre .1 .lent e, m .read-main .kept .1 .1 .1 .1 .1 .1 .0))
 
 same-length : tie.Need-same-length
 same-length c = search needs

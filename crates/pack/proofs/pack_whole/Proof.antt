@@ -14,13 +14,13 @@ shared-slice-read-k : tie.Need-shared-slice-read-k
 shared-slice-read-k c = search needs
 
 returns : tie.Need-returns
-returns c = packs.whole-8 _ _ _ _ _ _ (c .before .before .before .before .before .before .before .before .before .pre .0) (c .if1 .taken) _ _
+returns c = packs.whole-8 _ _ _ _ _ _ (c .before .before .before .before .before .before .before .before .before .before .before .pre .0) (c .if1 .taken) _ _
 
 returns-2 : tie.Need-returns-2
-returns-2 c = packs.whole-9 _ _ _ _ _ _ (c .before .before .before .before .before .before .before .before .before .before .pre .0) (c .if2 .taken) _ _
+returns-2 c = packs.whole-9 _ _ _ _ _ _ (c .before .before .before .before .before .before .before .before .before .before .before .before .pre .0) (c .if2 .taken) _ _
 
 pack-short-requires : tie.Need-pack-short-requires
-pack-short-requires c κs = packs.whole-short _ _ _ _ _ _ (c .before .before .before .before .before .before .before .before .before .before .before .pre .0) _ (c .before .before .before .before .before .before .before .before .before .before .before .pre .1) (c .before .before .if1 .left) (c .before .if2 .left)
+pack-short-requires c κs = packs.whole-short _ _ _ _ _ _ (c .before .before .before .before .before .before .before .before .before .before .before .before .before .pre .0) _ (c .before .before .before .before .before .before .before .before .before .before .before .before .before .pre .1) (c .before .before .if1 .left) (c .before .if2 .left)
 
 same-length : tie.Need-same-length
 same-length c = search needs

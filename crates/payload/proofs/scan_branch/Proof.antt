@@ -1,3 +1,4 @@
+use mathlib.Core.Option.{none}
 use Rattle.payload.proofs.Branches as branches
 use borrow.Author.Needs.{needs}
 use Rattle.payload.proofs.scan_branch.Statement.{statement}
@@ -16,13 +17,13 @@ enum-known-p : tie.Need-enum-known-p
 enum-known-p c = search needs
 
 u16-at-requires : tie.Need-u16-at-requires
-u16-at-requires c κs = branches.branch-inside _ _ _ _ _ _ _ (c .before .before .before .before .before .before .pre .inside) (c .before .before .before .scan-label .ensures) (c .before .p .given .1)
+u16-at-requires c κs = branches.branch-inside _ _ _ _ _ _ _ (c .before .before .before .before .before .before .pre .inside) (c .before .before .before .scan-label .ensures none) (c .before .p .given .1)
 
 returns : tie.Need-returns
-returns c = branches.branch-stops _ _ _ _ _ (c .before .before .before .scan-label .ensures) _ _ (c .before .f .given .1)
+returns c o = branches.branch-stops _ _ _ _ _ (c .before .before .before .scan-label .ensures o) _ _ (c .before .f .given .1)
 
 returns-2 : tie.Need-returns-2
-returns-2 c = branches.branch-ends _ _ _ _ _ (c .before .before .before .before .scan-label .ensures) (c .before .before .before .before .before .before .before .pre .inside) _ _ _ (c .before .before .p .given .1) (c .u16-at .ensures .0)
+returns-2 c o = branches.branch-ends _ _ _ _ _ (c .before .before .before .before .scan-label .ensures o) (c .before .before .before .before .before .before .before .pre .inside) _ _ _ (c .before .before .p .given .1) (c .u16-at .ensures .0)
 
 pub scan-branch-spec : {M : Type 1} → statement M
 scan-branch-spec =

@@ -1,5 +1,6 @@
 use Rattle.payload.proofs.Arms as arms
 use native.Mathlib.Omega.{arith}
+use Rattle.editions.proofs.Listed.{terms-short}
 use Rattle.measure.proofs.Layings as lay
 use borrow.Author.Needs.{needs}
 use Rattle.payload.proofs.scan_payload.Statement.{statement}
@@ -8,14 +9,14 @@ use Rattle.payload.proofs.scan_payload.Tie as tie
 add-p : tie.Need-add-p
 add-p c = search needs
 
-add-t12 : tie.Need-add-t12
-add-t12 c = search needs
+add-t14 : tie.Need-add-t14
+add-t14 c = search needs
 
-add-t12-2 : tie.Need-add-t12-2
-add-t12-2 c = search needs
+add-t14-2 : tie.Need-add-t14-2
+add-t14-2 c = search needs
 
-add-t12-3 : tie.Need-add-t12-3
-add-t12-3 c = search needs
+add-t14-3 : tie.Need-add-t14-3
+add-t14-3 c = search needs
 
 scan-bytes-requires : tie.Need-scan-bytes-requires
 scan-bytes-requires c κs = search needs
@@ -27,7 +28,7 @@ scan-get-url-requires : tie.Need-scan-get-url-requires
 scan-get-url-requires c κs = search needs
 
 long-payload-requires : tie.Need-long-payload-requires
-long-payload-requires c κs = (c .before .before .before .before .before .before .before .before .pre .2, lay.scanned-from-start _ _ _ _ _ (c .before .scan-get-url .ensures) (omega arith))
+long-payload-requires c κs = (c .before .before .before .before .before .before .before .before .before .before .pre .2, lay.scanned-from-start _ _ _ _ _ (c .before .scan-get-url .ensures) (omega arith))
 
 scan-bytes-requires-2 : tie.Need-scan-bytes-requires-2
 scan-bytes-requires-2 c κs = search needs
@@ -38,16 +39,16 @@ flat-payload-requires-2 c κs = search needs
 constant-pool-len-requires : tie.Need-constant-pool-len-requires
 constant-pool-len-requires c κs = search needs
 
-add-t21 : tie.Need-add-t21
-add-t21 c = search needs
+add-t23 : tie.Need-add-t23
+add-t23 c = search needs
 
 scan-strings-requires : tie.Need-scan-strings-requires
 scan-strings-requires c κs =
-    let h = c .before .before .before .before .before .before .before .before .pre .3 in
+    let h = c .before .before .before .before .before .before .before .before .before .before .pre .3 in
     (record { bytes = h .bytes; inside = omega arith; room = omega (arith, h .room, c .before .constant-pool-len .ensures) }, omega arith)
 
 long-payload-requires-2 : tie.Need-long-payload-requires-2
-long-payload-requires-2 c κs = (c .before .before .before .before .before .before .before .before .before .before .pre .2, lay.scanned-from-start _ _ _ _ _ (c .before .scan-strings .ensures) (omega arith))
+long-payload-requires-2 c κs = (c .before .before .before .before .before .before .before .before .before .before .before .before .pre .2, lay.scanned-from-start _ _ _ _ _ (c .before .scan-strings .ensures) (omega arith))
 
 scan-wait-for-frame-requires : tie.Need-scan-wait-for-frame-requires
 scan-wait-for-frame-requires c κs = search needs
@@ -59,13 +60,13 @@ scan-string-requires : tie.Need-scan-string-requires
 scan-string-requires c κs = search needs
 
 long-payload-requires-3 : tie.Need-long-payload-requires-3
-long-payload-requires-3 c κs = (c .before .before .before .before .before .before .before .before .pre .2, lay.scanned-from-start _ _ _ _ _ (c .before .scan-string .ensures) (omega arith))
+long-payload-requires-3 c κs = (c .before .before .before .before .before .before .before .before .before .before .pre .2, lay.scanned-from-start _ _ _ _ _ (c .before .scan-string .ensures) (omega arith))
 
 scan-string-requires-2 : tie.Need-scan-string-requires-2
 scan-string-requires-2 c κs = search needs
 
 long-payload-requires-4 : tie.Need-long-payload-requires-4
-long-payload-requires-4 c κs = (c .before .before .before .before .before .before .before .before .pre .2, lay.scanned-from-start _ _ _ _ _ (c .before .scan-string2 .ensures) (omega arith))
+long-payload-requires-4 c κs = (c .before .before .before .before .before .before .before .before .before .before .pre .2, lay.scanned-from-start _ _ _ _ _ (c .before .scan-string2 .ensures) (omega arith))
 
 scan-bytes-requires-3 : tie.Need-scan-bytes-requires-3
 scan-bytes-requires-3 c κs = search needs
@@ -77,24 +78,24 @@ scan-define-function-2-requires : tie.Need-scan-define-function-2-requires
 scan-define-function-2-requires c κs = search needs
 
 function-payload-requires : tie.Need-function-payload-requires
-function-payload-requires c κs = (c .before .before .before .before .before .before .before .before .pre .2, lay.scanned-from-start _ _ _ _ _ (c .before .scan-define-function-2 .ensures) (omega arith))
+function-payload-requires c κs = (c .before .before .before .before .before .before .before .before .before .before .pre .2, lay.scanned-from-start _ _ _ _ _ (c .before .scan-define-function-2 .ensures) (omega arith))
 
 scan-try-requires : tie.Need-scan-try-requires
 scan-try-requires c κs =
-    let h = c .before .before .before .before .before .before .before .pre in
+    let h = c .before .before .before .before .before .before .before .before .before .pre in
     (h .2, record { bytes = h .3 .bytes; inside = omega arith; room = omega (arith, h .3 .room) })
 
 push-len-requires : tie.Need-push-len-requires
 push-len-requires c κs = search needs
 
-add-t40 : tie.Need-add-t40
-add-t40 c = search needs
+add-t42 : tie.Need-add-t42
+add-t42 c = search needs
 
 scan-push-requires : tie.Need-scan-push-requires
 scan-push-requires c κs = search needs
 
 long-payload-requires-5 : tie.Need-long-payload-requires-5
-long-payload-requires-5 c κs = (c .before .before .before .before .before .before .before .before .before .before .pre .2, lay.scanned-from-start _ _ _ _ _ (c .before .scan-push .ensures) (omega arith))
+long-payload-requires-5 c κs = (c .before .before .before .before .before .before .before .before .before .before .before .before .pre .2, lay.scanned-from-start _ _ _ _ _ (c .before .scan-push .ensures) (omega arith))
 
 scan-branch-requires : tie.Need-scan-branch-requires
 scan-branch-requires c κs = search needs
@@ -109,13 +110,13 @@ scan-define-function-requires : tie.Need-scan-define-function-requires
 scan-define-function-requires c κs = search needs
 
 function-payload-requires-2 : tie.Need-function-payload-requires-2
-function-payload-requires-2 c κs = (c .before .before .before .before .before .before .before .before .pre .2, lay.scanned-from-start _ _ _ _ _ (c .before .scan-define-function .ensures) (omega arith))
+function-payload-requires-2 c κs = (c .before .before .before .before .before .before .before .before .before .before .pre .2, lay.scanned-from-start _ _ _ _ _ (c .before .scan-define-function .ensures) (omega arith))
 
 scan-branch-requires-2 : tie.Need-scan-branch-requires-2
 scan-branch-requires-2 c κs = search needs
 
-add-t48 : tie.Need-add-t48
-add-t48 c = search needs
+add-t50 : tie.Need-add-t50
+add-t50 c = search needs
 
 scan-goto-frame-2-requires : tie.Need-scan-goto-frame-2-requires
 scan-goto-frame-2-requires c κs = search needs
@@ -163,13 +164,13 @@ same-length-5 : tie.Need-same-length-5
 same-length-5 c = search needs
 
 returns-9 : tie.Need-returns-9
-returns-9 c = arms.arm-define-function-2 _ _ _ _ _ _ _ _ _ (c .before .before .before .before .before .before .before .before .before .before .before .pre .3 .bytes) (omega arith) _ (c .before .before .before .before .before .match .keys9) (c .before .before .before .before .scan-define-function-2 .ensures) (c .before .before .function-payload .ensures .0) (c .before .before .function-payload .ensures .1)
+returns-9 c = arms.arm-define-function-2 _ _ _ _ _ _ _ _ _ (c .before .before .before .before .before .before .before .before .before .before .before .before .before .pre .3 .bytes) (terms-short (c .before .before .before .before .before .before .before .before .before .before .before .before .before .args .terms) _ _) (omega arith) _ (c .before .before .before .before .before .match .keys9) (c .before .before .before .before .scan-define-function-2 .ensures) (c .before .before .function-payload .ensures .0) (c .before .before .function-payload .ensures .1)
 
 same-length-6 : tie.Need-same-length-6
 same-length-6 c = search needs
 
 returns-10 : tie.Need-returns-10
-returns-10 c = arms.arm-try _ _ _ _ _ _ _ (c .before .before .before .before .before .before .before .before .before .before .pre .3 .bytes) (omega arith) _ _ (c .before .before .before .before .match .keys10) (c .before .before .scan-try .ensures)
+returns-10 c = arms.arm-try _ _ _ _ _ _ _ (c .before .before .before .before .before .before .before .before .before .before .before .before .pre .3 .bytes) (terms-short (c .before .before .before .before .before .before .before .before .before .before .before .before .args .terms) _ _) (omega arith) _ _ (c .before .before .before .before .match .keys10) (c .before .before .scan-try .ensures)
 
 returns-11 : tie.Need-returns-11
 returns-11 c = arms.arm-with _ _ _ _ _ _ _ (c .match .keys11) (omega arith)
@@ -181,7 +182,7 @@ returns-12 : tie.Need-returns-12
 returns-12 c = arms.arm-push _ _ _ _ _ _ _ _ _ _ _ (c .before .before .before .before .before .before .before .match .keys12) (omega (arith, c .before .before .before .before .before .before .push-len .ensures)) (c .before .before .before .before .scan-push .ensures) (c .before .before .long-payload5 .ensures .0) (c .before .before .long-payload5 .ensures .1)
 
 returns-13 : tie.Need-returns-13
-returns-13 c = arms.arm-jump _ _ _ _ _ _ _ _ (omega arith) (c .before .match .keys13) (c .scan-branch .ensures)
+returns-13 c = arms.arm-jump _ _ _ _ _ _ _ _ (omega arith) (c .before .match .keys13) (c .scan-branch .ensures _)
 
 returns-14 : tie.Need-returns-14
 returns-14 c = arms.arm-get-url-2 _ _ _ _ _ _ _ _ _ (c .before .before .match .keys14) (c .before .scan-get-url-2 .ensures) (c .flat-payload5 .ensures)
@@ -190,10 +191,10 @@ same-length-8 : tie.Need-same-length-8
 same-length-8 c = search needs
 
 returns-15 : tie.Need-returns-15
-returns-15 c = arms.arm-define-function _ _ _ _ _ _ _ _ _ (c .before .before .before .before .before .before .before .before .before .before .before .pre .3 .bytes) (omega arith) _ (c .before .before .before .before .before .match .keys15) (c .before .before .before .before .scan-define-function .ensures) (c .before .before .function-payload2 .ensures .0) (c .before .before .function-payload2 .ensures .1)
+returns-15 c = arms.arm-define-function _ _ _ _ _ _ _ _ _ (c .before .before .before .before .before .before .before .before .before .before .before .before .before .pre .3 .bytes) (terms-short (c .before .before .before .before .before .before .before .before .before .before .before .before .before .args .terms) _ _) (omega arith) _ (c .before .before .before .before .before .match .keys15) (c .before .before .before .before .scan-define-function .ensures) (c .before .before .function-payload2 .ensures .0) (c .before .before .function-payload2 .ensures .1)
 
 returns-16 : tie.Need-returns-16
-returns-16 c = arms.arm-if _ _ _ _ _ _ _ _ (omega arith) (c .before .match .keys16) (c .scan-branch2 .ensures)
+returns-16 c = arms.arm-if _ _ _ _ _ _ _ _ (omega arith) (c .before .match .keys16) (c .scan-branch2 .ensures _)
 
 returns-17 : tie.Need-returns-17
 returns-17 c = arms.arm-call _ _ _ _ _ _ _ (c .before .match .keys17)
@@ -202,16 +203,16 @@ returns-18 : tie.Need-returns-18
 returns-18 c = arms.arm-goto-frame-2 _ _ _ _ _ _ _ _ _ (c .before .before .match .keys18) (c .before .scan-goto-frame-2 .ensures) (c .flat-payload6 .ensures)
 
 returns-19 : tie.Need-returns-19
-returns-19 c = let r = c .match .rest in arms.arm-unknown _ _ _ _ _ _ _ (arms.unlisted _ (c .before .before .before .before .before .before .pre .0) (omega arith) (r .0 .0 .0 .0 .0 .0 .0 .0 .0 .0 .0 .0 .0 .0 .0 .0 .0 .1, (r .0 .0 .0 .0 .0 .0 .0 .0 .0 .0 .0 .0 .0 .0 .0 .0 .1, (r .0 .0 .0 .0 .0 .0 .0 .0 .0 .0 .0 .0 .0 .0 .0 .1, (r .0 .0 .0 .0 .0 .0 .0 .0 .0 .0 .0 .0 .0 .0 .1, (r .0 .0 .0 .0 .0 .0 .0 .0 .0 .0 .0 .0 .0 .1, (r .0 .0 .0 .0 .0 .0 .0 .0 .0 .0 .0 .0 .1, (r .0 .0 .0 .0 .0 .0 .0 .0 .0 .0 .0 .1, (r .0 .0 .0 .0 .0 .0 .0 .0 .0 .0 .1, (r .0 .0 .0 .0 .0 .0 .0 .0 .0 .1, (r .0 .0 .0 .0 .0 .0 .0 .0 .1, (r .0 .0 .0 .0 .0 .0 .0 .1, (r .0 .0 .0 .0 .0 .0 .1, (r .0 .0 .0 .0 .0 .1, (r .0 .0 .0 .0 .1, (r .0 .0 .0 .1, (r .0 .0 .1, (r .0 .1, (r .1, tt)))))))))))))))))))
+returns-19 c = let r = c .match .rest in arms.arm-unknown _ _ _ _ _ _ _ (arms.unlisted _ (c .before .before .before .before .before .before .before .before .pre .0) (omega arith) (r .0 .0 .0 .0 .0 .0 .0 .0 .0 .0 .0 .0 .0 .0 .0 .0 .0 .1, (r .0 .0 .0 .0 .0 .0 .0 .0 .0 .0 .0 .0 .0 .0 .0 .0 .1, (r .0 .0 .0 .0 .0 .0 .0 .0 .0 .0 .0 .0 .0 .0 .0 .1, (r .0 .0 .0 .0 .0 .0 .0 .0 .0 .0 .0 .0 .0 .0 .1, (r .0 .0 .0 .0 .0 .0 .0 .0 .0 .0 .0 .0 .0 .1, (r .0 .0 .0 .0 .0 .0 .0 .0 .0 .0 .0 .0 .1, (r .0 .0 .0 .0 .0 .0 .0 .0 .0 .0 .0 .1, (r .0 .0 .0 .0 .0 .0 .0 .0 .0 .0 .1, (r .0 .0 .0 .0 .0 .0 .0 .0 .0 .1, (r .0 .0 .0 .0 .0 .0 .0 .0 .1, (r .0 .0 .0 .0 .0 .0 .0 .1, (r .0 .0 .0 .0 .0 .0 .1, (r .0 .0 .0 .0 .0 .1, (r .0 .0 .0 .0 .1, (r .0 .0 .0 .1, (r .0 .0 .1, (r .0 .1, (r .1, tt)))))))))))))))))))
 
 pub scan-payload-spec : {M : Type 1} → statement M
 scan-payload-spec =
     tie.close
     (tie.spec
     add-p
-    add-t12
-    add-t12-2
-    add-t12-3
+    add-t14
+    add-t14-2
+    add-t14-3
     scan-bytes-requires
     flat-payload-requires
     scan-get-url-requires
@@ -219,7 +220,7 @@ scan-payload-spec =
     scan-bytes-requires-2
     flat-payload-requires-2
     constant-pool-len-requires
-    add-t21
+    add-t23
     scan-strings-requires
     long-payload-requires-2
     scan-wait-for-frame-requires
@@ -234,7 +235,7 @@ scan-payload-spec =
     function-payload-requires
     scan-try-requires
     push-len-requires
-    add-t40
+    add-t42
     scan-push-requires
     long-payload-requires-5
     scan-branch-requires
@@ -243,7 +244,7 @@ scan-payload-spec =
     scan-define-function-requires
     function-payload-requires-2
     scan-branch-requires-2
-    add-t48
+    add-t50
     scan-goto-frame-2-requires
     flat-payload-requires-6
     returns

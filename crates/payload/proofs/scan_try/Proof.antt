@@ -19,7 +19,7 @@ shared-slice-read-shape : tie.Need-shared-slice-read-shape
 shared-slice-read-shape c = lay.caught-inside _ _ _ _ _ _ _ (c .before .before .before .before .scan-catch .ensures) (c .before .before .p .given .1)
 
 cast-shape : tie.Need-cast-shape
-cast-shape c = omega (arith, c .shared-slice-known2 .given (c .before .before .before .before .before .before .before .args .at))
+cast-shape c = omega (arith, c .shared-slice-known4 .given (c .before .before .before .before .before .before .before .before .before .args .at))
 
 add-long-payload : tie.Need-add-long-payload
 add-long-payload c = search needs
@@ -28,7 +28,7 @@ add-long-payload-2 : tie.Need-add-long-payload-2
 add-long-payload-2 c = search needs
 
 long-payload-requires : tie.Need-long-payload-requires
-long-payload-requires c κs = (c .before .before .before .before .before .before .before .before .pre .0, lay.scanned-from-is _ _ _ _ _ _ (c .before .before .before .before .before .scan-catch .ensures) (c .before .before .before .p .given .1))
+long-payload-requires c κs = (c .before .before .before .before .before .before .before .before .before .before .pre .0, lay.scanned-from-is _ _ _ _ _ _ (c .before .before .before .before .before .scan-catch .ensures) (c .before .before .before .p .given .1))
 
 returns : tie.Need-returns
 returns c = let e = sym (c .before .before .before .scan-catch .ensures) ∙ (c .before .f .given .1) in record { is-laid = lay.laid-stops _ _ _ _ e; is-noted = lay.noted-stops _ _ _ _ _ _ e }

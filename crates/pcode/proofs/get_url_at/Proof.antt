@@ -1,21 +1,26 @@
 -- `get_url_at` meets its contract: its first string ends within the bytes. Assumes nothing.
-use mathlib.Core.Path.{ap}
+use Prim.Native.Nat.{ℕ, _≤_}
 use native.Mathlib.Omega.{arith}
-use Rattle.pcode.specs.Shown.{after}
+use mathlib.Core.List.{List}
+use lib.ListN.{length}
+use Rattle.editions.specs.declared.Terms as code-terms
+use Rattle.pcode.specs.Shown.{spanAt}
+use Rattle.pcode.proofs.Readings.{span-least}
 use Rattle.pcode.proofs.get_url_at.Statement.{statement}
 use Rattle.pcode.proofs.get_url_at.Tie as tie
 
-span-at-requires : tie.Need-span-at-requires
-span-at-requires c κs = omega arith
+-- the first ends before the second
+first-room : (t : code-terms.Terms) (e index b : List ℕ) (p : ℕ) → spanAt t e index b (spanAt t e index b p .next) .next ≤ length b → spanAt t e index b p .next ≤ length b
+first-room t e index b p h = omega (arith, span-least t e index b (spanAt t e index b p .next))
 
-add-span-at : tie.Need-add-span-at
-add-span-at c = omega (arith, ap after (c .before .span-at .ensures))
+span-at-requires : tie.Need-span-at-requires
+span-at-requires c κs = first-room _ _ _ _ _ (c .before .before .before .pre)
 
 span-at-requires-2 : tie.Need-span-at-requires-2
-span-at-requires-2 c κs = omega (arith, ap after (c .before .span-at .ensures))
+span-at-requires-2 c κs = rw (c .span-at .ensures) (c .before .before .before .before .pre)
 
 returns : tie.Need-returns
-returns c = rw (c .span-at2 .ensures, c .before .before .span-at .ensures)
+returns c = rw (c .span-at2 .ensures, c .before .span-at .ensures)
 
 pub get-url-at-spec : {M : Type 1} → statement M
-get-url-at-spec = tie.close (tie.spec span-at-requires add-span-at span-at-requires-2 returns)
+get-url-at-spec = tie.close (tie.spec span-at-requires span-at-requires-2 returns)

@@ -16,8 +16,8 @@ same-length c = search needs
 returns : tie.Need-returns
 returns c = (put-as (full-text _ (c .before .before .before .before .if1 .taken)) (c .before .before .put-line .ensures .0), (counts-line _ (c .before .before .before .before .before .before .before .before .pre .2) (c .before .before .put-line .kept .0) (c .before .before .put-line .ensures .1), full-output _ _ (c .before .before .before .before .if1 .taken)))
 
-pack-requires : tie.Need-pack-requires
-pack-requires c κs = search needs
+pack-input-requires : tie.Need-pack-input-requires
+pack-input-requires c κs = search needs
 
 number-of-requires : tie.Need-number-of-requires
 number-of-requires c κs = search needs
@@ -35,11 +35,11 @@ same-length-3 : tie.Need-same-length-3
 same-length-3 c = search needs
 
 returns-2 : tie.Need-returns-2
-returns-2 c = (text-refused _ _ (c .before .before .before .before .before .before .before .before .before .before .before .before .before .before .before .pre .1) (c .before .before .before .before .before .before .before .before .before .before .before .before .before .before .before .pre .0) (c .before .before .before .before .before .before .before .before .before .before .before .if1 .left) (c .before .before .before .before .before .before .before .before .before .pack .ensures) (λ e. c .if2 .taken (c .before .before .before .before .before .before .number-of .ensures ∙ e)) (line-of _ (c .before .before .before .before .before .before .number-of .ensures) (c .before .before .before .before .before .value-of .ensures .1) (c .before .before .before .put-line2 .ensures .0)), (counts-line _ (c .before .before .before .before .before .before .before .before .before .before .before .before .before .before .before .pre .2) (c .before .before .before .put-line2 .kept .0) (c .before .before .before .put-line2 .ensures .1), packed-output _ _ (c .before .before .before .before .before .before .before .before .before .before .before .before .before .before .before .pre .1) (c .before .before .before .before .before .before .before .before .before .before .before .before .before .before .before .pre .0) (c .before .before .before .before .before .before .before .before .before .before .before .if1 .left) (c .before .before .before .before .before .before .before .before .before .pack .ensures)))
+returns-2 c = (text-refused _ _ (c .before .before .before .before .before .before .before .before .before .before .before .before .before .before .before .pre .1) (c .before .before .before .before .before .before .before .before .before .before .before .before .before .before .before .pre .0) (c .before .before .before .before .before .before .before .before .before .before .before .if1 .left) (c .before .before .before .before .before .before .before .before .before .pack-input .ensures) (λ e. c .if2 .taken (c .before .before .before .before .before .before .number-of .ensures ∙ e)) (line-of _ (c .before .before .before .before .before .before .number-of .ensures) (c .before .before .before .before .before .value-of .ensures .1) (c .before .before .before .put-line2 .ensures .0)), (counts-line _ (c .before .before .before .before .before .before .before .before .before .before .before .before .before .before .before .pre .2) (c .before .before .before .put-line2 .kept .0) (c .before .before .before .put-line2 .ensures .1), packed-output _ _ (c .before .before .before .before .before .before .before .before .before .before .before .before .before .before .before .pre .1) (c .before .before .before .before .before .before .before .before .before .before .before .before .before .before .before .pre .0) (c .before .before .before .before .before .before .before .before .before .before .before .if1 .left) (c .before .before .before .before .before .before .before .before .before .pack-input .ensures)))
 
 -- a Done: the block fills the front of the output
-fills : (c : tie.After-put-block-arg) → Filled (c .before .before .before .before .before .before .before .before .before .before .before .before .before .before .before .before .args .input .now) (c .before .before .before .before .before .before .before .before .before .before .before .before .before .before .before .before .args .out .now) (c .before .before .before .before .before .before .value-of .result) (c .before .before .before .before .before .before .before .before .before .before .pack .last .1 .1 .0)
-fills c = filled _ _ _ (c .before .before .before .before .before .before .before .before .before .before .pack .ensures) (sym (c .before .before .before .before .before .before .before .number-of .ensures) ∙ c .before .if2 .left) (c .before .before .before .before .before .before .value-of .ensures .0) (c .before .before .before .before .before .before .before .before .before .before .pack .kept .1 .1 .0) (c .before .before .before .before .before .before .before .before .before .before .before .before .before .before .before .before .pre .1)
+fills : (c : tie.After-put-block-arg) → Filled (c .before .before .before .before .before .before .before .before .before .before .before .before .before .before .before .before .args .input .now) (c .before .before .before .before .before .before .before .before .before .before .before .before .before .before .before .before .args .out .now) (c .before .before .before .before .before .before .value-of .result) (c .before .before .before .before .before .before .before .before .before .before .pack-input .last .1 .0)
+fills c = filled _ _ _ (c .before .before .before .before .before .before .before .before .before .before .pack-input .ensures) (sym (c .before .before .before .before .before .before .before .number-of .ensures) ∙ c .before .if2 .left) (c .before .before .before .before .before .before .value-of .ensures .0) (c .before .before .before .before .before .before .before .before .before .before .pack-input .kept .1 .0) (c .before .before .before .before .before .before .before .before .before .before .before .before .before .before .before .before .pre .1)
 
 slice-reshare-prefix-put-block : tie.Need-slice-reshare-prefix-put-block
 slice-reshare-prefix-put-block c = fills c .is-within
@@ -57,7 +57,7 @@ same-length-5 : tie.Need-same-length-5
 same-length-5 c = search needs
 
 returns-3 : tie.Need-returns-3
-returns-3 c = (text-done _ _ (c .before .before .before .before .before .before .before .before .before .before .before .before .before .before .before .before .before .before .before .before .pre .1) (c .before .before .before .before .before .before .before .before .before .before .before .before .before .before .before .before .before .before .before .before .pre .0) (c .before .before .before .before .before .before .before .before .before .before .before .before .before .before .before .before .if1 .left) (c .before .before .before .before .before .before .before .before .before .before .before .before .before .before .pack .ensures) (fills (c .before .before .before .before)) (line-of _ (c .before .before .before .before .before .before .before .before .before .before .before .number-of .ensures) (c .before .before .before .before .before .before .before .before .before .before .value-of .ensures .1) (c .before .before .before .before .before .before .before .before .put-line2 .ensures .0)) (c .before .before .put-block .ensures), (counts-block _ (c .before .before .before .before .before .before .before .before .before .before .before .before .before .before .before .before .before .before .before .before .pre .2) (c .before .before .put-block .kept .0 ∙ c .before .before .before .before .before .before .before .before .put-line2 .kept .0) (fills (c .before .before .before .before)) (c .before .before .before .before .before .before .before .before .put-line2 .ensures .1) (c .before .before .put-block .ensures), packed-output _ _ (c .before .before .before .before .before .before .before .before .before .before .before .before .before .before .before .before .before .before .before .before .pre .1) (c .before .before .before .before .before .before .before .before .before .before .before .before .before .before .before .before .before .before .before .before .pre .0) (c .before .before .before .before .before .before .before .before .before .before .before .before .before .before .before .before .if1 .left) (c .before .before .before .before .before .before .before .before .before .before .before .before .before .before .pack .ensures)))
+returns-3 c = (text-done _ _ (c .before .before .before .before .before .before .before .before .before .before .before .before .before .before .before .before .before .before .before .before .pre .1) (c .before .before .before .before .before .before .before .before .before .before .before .before .before .before .before .before .before .before .before .before .pre .0) (c .before .before .before .before .before .before .before .before .before .before .before .before .before .before .before .before .if1 .left) (c .before .before .before .before .before .before .before .before .before .before .before .before .before .before .pack-input .ensures) (fills (c .before .before .before .before)) (line-of _ (c .before .before .before .before .before .before .before .before .before .before .before .number-of .ensures) (c .before .before .before .before .before .before .before .before .before .before .value-of .ensures .1) (c .before .before .before .before .before .before .before .before .put-line2 .ensures .0)) (c .before .before .put-block .ensures), (counts-block _ (c .before .before .before .before .before .before .before .before .before .before .before .before .before .before .before .before .before .before .before .before .pre .2) (c .before .before .put-block .kept .0 ∙ c .before .before .before .before .before .before .before .before .put-line2 .kept .0) (fills (c .before .before .before .before)) (c .before .before .before .before .before .before .before .before .put-line2 .ensures .1) (c .before .before .put-block .ensures), packed-output _ _ (c .before .before .before .before .before .before .before .before .before .before .before .before .before .before .before .before .before .before .before .before .pre .1) (c .before .before .before .before .before .before .before .before .before .before .before .before .before .before .before .before .before .before .before .before .pre .0) (c .before .before .before .before .before .before .before .before .before .before .before .before .before .before .before .before .if1 .left) (c .before .before .before .before .before .before .before .before .before .before .before .before .before .before .pack-input .ensures)))
 
 pub block-text-spec : {M : Type 1} → statement M
 block-text-spec =
@@ -66,7 +66,7 @@ block-text-spec =
     put-line-requires
     same-length
     returns
-    pack-requires
+    pack-input-requires
     number-of-requires
     value-of-requires
     put-line-requires-2

@@ -25,20 +25,20 @@ enum-known-edition : tie.Need-enum-known-edition
 enum-known-edition c = search needs
 
 -- the main body lies in the sheet
-lies : (c : tie.After-known-told2) → (c .before .edition .given .0 .1 .0 ≤ c .before .edition .given .0 .1 .1 .0) × (c .before .edition .given .0 .1 .1 .0 ≤ length (c .before .before .before .before .before .args .bytes .now))
+lies : (c : tie.After-known-told2) → (c .before .edition .given .0 .1 .0 ≤ c .before .edition .given .0 .1 .1 .0) × (c .before .edition .given .0 .1 .1 .0 ≤ length (c .before .before .before .before .before .before .args .bytes .now))
 lies c = cut-within _ _ (c .before .before .before .cut-main .ensures .0) _ _ _ (c .before .edition .given .1) (c .before .before .before .cut-main .ensures .1)
 
-sub-answer-main : tie.Need-sub-answer-main
-sub-answer-main c = omega (arith, lies c .0)
+sub-answer-edition : tie.Need-sub-answer-edition
+sub-answer-edition c = omega (arith, lies c .0)
 
-part-answer-main-start : tie.Need-part-answer-main-start
-part-answer-main-start c = omega (arith, lies c .0, lies c .1)
+part-answer-edition-start : tie.Need-part-answer-edition-start
+part-answer-edition-start c = omega (arith, lies c .0, lies c .1)
 
-part-answer-main-end : tie.Need-part-answer-main-end
-part-answer-main-end c = omega (arith, lies c .1)
+part-answer-edition-end : tie.Need-part-answer-edition-end
+part-answer-edition-end c = omega (arith, lies c .1)
 
-answer-main-requires : tie.Need-answer-main-requires
-answer-main-requires c κs = cut-limits _ _ (c .before .before .before .before .cut-main .ensures .0) _ _ _ (c .before .before .edition .given .1)
+answer-edition-requires : tie.Need-answer-edition-requires
+answer-edition-requires c κs = cut-limits _ _ (c .before .before .before .before .cut-main .ensures .0) _ _ _ (c .before .before .edition .given .1)
 
 returns : tie.Need-returns
 returns c = search needs
@@ -59,10 +59,10 @@ answer-spec =
     enum-told
     write-line-requires-2
     enum-known-edition
-    sub-answer-main
-    part-answer-main-start
-    part-answer-main-end
-    answer-main-requires
+    sub-answer-edition
+    part-answer-edition-start
+    part-answer-edition-end
+    answer-edition-requires
     returns
     returns-2
     returns-3)

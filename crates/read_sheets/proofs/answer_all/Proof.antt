@@ -1,5 +1,7 @@
+-- `read_sheets::answer_all` is safe: each sheet and its book lie in the input. Assumes nothing.
 use lib.ListN.{length}
 use Prim.Native.Nat.{_≤_, _-_}
+use native.Mathlib.Omega.{arith}
 use borrow.Author.Needs.{needs}
 use Rattle.read_sheets.proofs.answer_all.Statement.{statement}
 use Rattle.read_sheets.proofs.answer_all.Tie as tie
@@ -13,29 +15,44 @@ abbrev μ-loop : tie.MeasureT-loop
 loop-holds : tie.Need-loop-holds Inv-loop μ-loop
 loop-holds c = search needs
 
-sub-if1 : tie.Need-sub-if1 Inv-loop μ-loop
-sub-if1 c = search needs
+add-loop : tie.Need-add-loop Inv-loop μ-loop
+add-loop c = search needs
 
-returns : tie.Need-returns Inv-loop μ-loop
-returns c = search needs
+add-from : tie.Need-add-from Inv-loop μ-loop
+add-from c = search needs
 
 u32-at-requires : tie.Need-u32-at-requires Inv-loop μ-loop
 u32-at-requires c κs = search needs
 
-cast-n : tie.Need-cast-n Inv-loop μ-loop
-cast-n c = search needs
+cast-to : tie.Need-cast-to Inv-loop μ-loop
+cast-to c = search needs
 
-add-p : tie.Need-add-p Inv-loop μ-loop
-add-p c = search needs
+add-to : tie.Need-add-to Inv-loop μ-loop
+add-to c = search needs
 
-sub-if2 : tie.Need-sub-if2 Inv-loop μ-loop
-sub-if2 c = search needs
+add-if1 : tie.Need-add-if1 Inv-loop μ-loop
+add-if1 c = search needs
+
+returns : tie.Need-returns Inv-loop μ-loop
+returns c = search needs
+
+add-start : tie.Need-add-start Inv-loop μ-loop
+add-start c = search needs
+
+u32-at-requires-2 : tie.Need-u32-at-requires-2 Inv-loop μ-loop
+u32-at-requires-2 c κs = search needs
+
+cast-end : tie.Need-cast-end Inv-loop μ-loop
+cast-end c = search needs
+
+add-end : tie.Need-add-end Inv-loop μ-loop
+add-end c = search needs
+
+add-if2 : tie.Need-add-if2 Inv-loop μ-loop
+add-if2 c = search needs
 
 returns-2 : tie.Need-returns-2 Inv-loop μ-loop
 returns-2 c = search needs
-
-add-answer : tie.Need-add-answer Inv-loop μ-loop
-add-answer c = search needs
 
 sub-answer : tie.Need-sub-answer Inv-loop μ-loop
 sub-answer c = search needs
@@ -46,29 +63,29 @@ part-answer-start c = search needs
 part-answer-end : tie.Need-part-answer-end Inv-loop μ-loop
 part-answer-end c = search needs
 
+sub-answer-2 : tie.Need-sub-answer-2 Inv-loop μ-loop
+sub-answer-2 c = search needs
+
+part-answer-start-2 : tie.Need-part-answer-start-2 Inv-loop μ-loop
+part-answer-start-2 c = search needs
+
+part-answer-end-2 : tie.Need-part-answer-end-2 Inv-loop μ-loop
+part-answer-end-2 c = search needs
+
 answer-requires : tie.Need-answer-requires Inv-loop μ-loop
 answer-requires c κs = search needs
 
-add-p-2 : tie.Need-add-p-2 Inv-loop μ-loop
-add-p-2 c = search needs
+add-p : tie.Need-add-p Inv-loop μ-loop
+add-p c = search needs
 
-sub-if3 : tie.Need-sub-if3 Inv-loop μ-loop
-sub-if3 c = search needs
+loop-less : tie.Need-loop-less Inv-loop μ-loop
+loop-less c = omega arith
+
+loop-again : tie.Need-loop-again Inv-loop μ-loop
+loop-again c = omega arith
 
 returns-3 : tie.Need-returns-3 Inv-loop μ-loop
 returns-3 c = search needs
-
-add-p-3 : tie.Need-add-p-3 Inv-loop μ-loop
-add-p-3 c = search needs
-
-loop-less : tie.Need-loop-less Inv-loop μ-loop
-loop-less c = search needs
-
-loop-again : tie.Need-loop-again Inv-loop μ-loop
-loop-again c = search needs
-
-returns-4 : tie.Need-returns-4 Inv-loop μ-loop
-returns-4 c = search needs
 
 pub answer-all-spec : {M : Type 1} → statement M
 answer-all-spec =
@@ -77,22 +94,27 @@ answer-all-spec =
     Inv-loop
     μ-loop
     loop-holds
-    sub-if1
-    returns
+    add-loop
+    add-from
     u32-at-requires
-    cast-n
-    add-p
-    sub-if2
+    cast-to
+    add-to
+    add-if1
+    returns
+    add-start
+    u32-at-requires-2
+    cast-end
+    add-end
+    add-if2
     returns-2
-    add-answer
     sub-answer
     part-answer-start
     part-answer-end
+    sub-answer-2
+    part-answer-start-2
+    part-answer-end-2
     answer-requires
-    add-p-2
-    sub-if3
-    returns-3
-    add-p-3
+    add-p
     loop-less
     loop-again
-    returns-4)
+    returns-3)

@@ -1,15 +1,8 @@
-use mathlib.Core.Path.{sym, subst}
-use Prim.Native.Nat.{_≤_}
 use native.Mathlib.Omega.{arith}
-use Rattle.layout.specs.Read.{Terms}
-use Rattle.editions.proofs.Bounds.{most-labels}
 use Rattle.scan.proofs.Mains.{zeros-cleared, zeros-slots, lent-empty}
 use borrow.Author.Needs.{needs}
 use Rattle.read_sheets.proofs.answer_main.Statement.{statement}
 use Rattle.read_sheets.proofs.answer_main.Tie as tie
-
-terms-of-requires : tie.Need-terms-of-requires
-terms-of-requires c κs = search needs
 
 slice-aggregate-read-main : tie.Need-slice-aggregate-read-main
 slice-aggregate-read-main c = search needs
@@ -22,8 +15,8 @@ slice-aggregate-read-main-3 c = search needs
 
 read-main-requires : tie.Need-read-main-requires
 read-main-requires c κs =
-    let bound = subst (λ (k : Terms). k .labelBound ≤ 4096) (sym (c .before .before .before .terms-of .ensures)) (most-labels _) in
-    (c .before .before .before .before .before .pre .0, c .before .before .before .before .before .pre .1, lent-empty (zeros-slots _ 4096 bound (omega arith)) (zeros-cleared 4096) (zeros-cleared 0))
+    let asked = c .before .before .before .before .before .before .pre in
+    (asked .0, asked .1, lent-empty (zeros-slots _ 4096 (asked .2) (omega arith)) (zeros-cleared 4096) (zeros-cleared 0))
 
 enum-told : tie.Need-enum-told
 enum-told c = search needs
@@ -50,7 +43,6 @@ pub answer-main-spec : {M : Type 1} → statement M
 answer-main-spec =
     tie.close
     (tie.spec
-    terms-of-requires
     slice-aggregate-read-main
     slice-aggregate-read-main-2
     slice-aggregate-read-main-3

@@ -2,6 +2,7 @@
 use mathlib.Core.Path.{_∙_}
 use native.Mathlib.Omega.{arith}
 use Rattle.laws.specs.Fits.{Bytes, all-bytes}
+use Rattle.editions.proofs.Listed.{terms-short}
 use Rattle.scan.proofs.Mains.{main-place}
 use Rattle.reading.proofs.Mains as mains
 use borrow.Author.Needs.{needs}
@@ -19,7 +20,7 @@ enum-known-f : tie.Need-enum-known-f
 enum-known-f c = search needs
 
 add-place : tie.Need-add-place
-add-place c = omega (arith, c .before .before .before .before .before .before .before .before .before .before .before .before .before .before .before .before .before .pre .0, c .before .before .before .before .before .before .before .before .before .before .before .before .before .before .before .before .before .pre .1, main-place _ _ _ _ _ _ (is-bytes (c .before .before .before .before .before .before .before .before .before .before .before .before .before .before .before .before)) (c .before .before .before .before .before .before .before .before .before .scan-main .ensures) _ _ _ (c .before .f .given .1))
+add-place c = omega (arith, c .before .before .before .before .before .before .before .before .before .before .before .before .before .before .before .before .before .before .before .pre .0, c .before .before .before .before .before .before .before .before .before .before .before .before .before .before .before .before .before .before .before .pre .1, main-place _ _ _ _ _ _ (is-bytes (c .before .before .before .before .before .before .before .before .before .before .before .before .before .before .before .before .before .before)) (terms-short (c .before .before .before .before .before .before .before .before .before .before .before .before .before .before .before .before .before .before .before .args .terms) _ _) (c .before .before .before .before .before .before .before .before .before .scan-main .ensures) _ _ _ (c .before .f .given .1))
 
 fault-action-requires : tie.Need-fault-action-requires
 fault-action-requires c κs = search needs
@@ -49,7 +50,7 @@ same-length-6 : tie.Need-same-length-6
 same-length-6 c = search needs
 
 returns-2 : tie.Need-returns-2
-returns-2 c = mains.main-whole _ _ _ _ _ _ (c .before .before .before .before .before .before .before .before .before .scan-main .ensures) _ _ _ _ (c .before .pos .given .1) (is-bytes (c .before .before .before .before .before .before .before .before .before .before .before .before .before .before .before .before)) (c .before .before .before .before .before .before .before .before .before .before .before .before .before .before .before .before .before .pre .0) (c .before .before .before .before .before .before .before .before .before .scan-main .kept .1 .1 .1 .1 .0 ∙ c .before .before .before .before .before .before .before .before .before .before .before .before .before .before .before .before .before .pre .2 .three) (omega (arith, c .before .before .before .before .before .before .before .before .before .before .before .before .before .before .before .before .before .pre .2 .slots .enough, c .before .before .before .before .before .before .before .before .before .scan-main .kept .1 .1 .0))
+returns-2 c = mains.main-whole _ _ _ _ _ _ (c .before .before .before .before .before .before .before .before .before .scan-main .ensures) _ _ _ _ (c .before .pos .given .1) (is-bytes (c .before .before .before .before .before .before .before .before .before .before .before .before .before .before .before .before .before .before)) (c .before .before .before .before .before .before .before .before .before .before .before .before .before .before .before .before .before .before .before .pre .0) (c .before .before .before .before .before .before .before .before .before .scan-main .kept .1 .1 .1 .1 .1 .1 .0 ∙ c .before .before .before .before .before .before .before .before .before .before .before .before .before .before .before .before .before .before .before .pre .2 .three) (omega (arith, c .before .before .before .before .before .before .before .before .before .before .before .before .before .before .before .before .before .before .before .pre .2 .slots .enough, c .before .before .before .before .before .before .before .before .before .scan-main .kept .1 .1 .1 .1 .0))
 
 pub read-main-spec : {M : Type 1} → statement M
 read-main-spec =

@@ -7,10 +7,10 @@ use Rattle.replay.proofs.replay_all.Statement.{statement}
 use Rattle.replay.proofs.replay_all.Tie as tie
 
 abbrev Inv-loop : tie.InvT-loop
-Inv-loop input sheet₀ block₀ out₀ counts₀ p₀ record₀ sheet block out counts p «record» = (p ≤ length input) × («record» ≤ p) × (length sheet ≡ length sheet₀) × (length block ≡ length block₀) × (length out ≡ length out₀)
+Inv-loop input sheet₀ book₀ block₀ out₀ counts₀ p₀ record₀ sheet book block out counts p «record» = (p ≤ length input) × («record» ≤ p) × (length sheet ≡ length sheet₀) × (length book ≡ length book₀) × (length block ≡ length block₀) × (length out ≡ length out₀)
 
 abbrev μ-loop : tie.MeasureT-loop
-μ-loop input sheet₀ block₀ out₀ counts₀ p₀ record₀ sheet block out counts p «record» = length input - p
+μ-loop input sheet₀ book₀ block₀ out₀ counts₀ p₀ record₀ sheet book block out counts p «record» = length input - p
 
 loop-holds : tie.Need-loop-holds Inv-loop μ-loop
 loop-holds c = search needs
@@ -87,6 +87,12 @@ same-length-5 c = search needs
 same-length-6 : tie.Need-same-length-6 Inv-loop μ-loop
 same-length-6 c = search needs
 
+same-length-7 : tie.Need-same-length-7 Inv-loop μ-loop
+same-length-7 c = search needs
+
+same-length-8 : tie.Need-same-length-8 Inv-loop μ-loop
+same-length-8 c = search needs
+
 returns-2 : tie.Need-returns-2 Inv-loop μ-loop
 returns-2 c = search needs
 
@@ -114,11 +120,13 @@ replay-all-spec =
     same-length
     same-length-2
     same-length-3
+    same-length-4
     returns
     add-p
     loop-less
     loop-again
-    same-length-4
     same-length-5
     same-length-6
+    same-length-7
+    same-length-8
     returns-2)

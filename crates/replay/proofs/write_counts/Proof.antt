@@ -5,10 +5,10 @@ use Rattle.replay.proofs.write_counts.Statement.{statement}
 use Rattle.replay.proofs.write_counts.Tie as tie
 
 abbrev Inv-loop : tie.InvT-loop
-Inv-loop counts i₀ i = i ≤ 16
+Inv-loop counts i₀ i = i ≤ 19
 
 abbrev μ-loop : tie.MeasureT-loop
-μ-loop counts i₀ i = 16 - i
+μ-loop counts i₀ i = 19 - i
 
 loop-holds : tie.Need-loop-holds Inv-loop μ-loop
 loop-holds c = search needs

@@ -1,0 +1,4 @@
+pub mod Entries
+pub mod Indexes
+pub mod Trailer
+pub mod Books

@@ -1,0 +1,13 @@
+-- Edition 3 has the bound of edition 2, and the words. Assumes nothing.
+use mathlib.Core.Path.{refl}
+use Rattle.layout.specs.Read.{edition3}
+use Rattle.editions.specs.Words.{wordsIf}
+use Rattle.editions.proofs.third_terms.Statement.{statement}
+use Rattle.editions.proofs.third_terms.Tie as tie
+
+returns : tie.Need-returns
+unfolding edition3 wordsIf
+returns c e index = refl
+
+pub third-terms-spec : {M : Type 1} → statement M
+third-terms-spec = tie.close (tie.spec returns)
