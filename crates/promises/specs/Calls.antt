@@ -135,8 +135,8 @@ same-but-note m s s′ l r book o n n′ v v′ {i} {i′} after after′ h h′
 -- calls in one mode on one sheet, with books that are the same for it and outputs that held the same, tell and leave the same
 pub same-but-book : (m : Mode) (s book book′ : List ℕ) → SameFor s book book′ → (o : List ℕ) (n n′ : ℕ) (v v′ : ℤ) {i i′ : ℕ} (after after′ : List ℕ)
     → Outcome m s book o n v i after → Outcome m s book′ o n′ v′ i′ after′ → (n ≡ n′) × (v ≡ v′) × (i ≡ i′) × (after ≡ after′)
-same-but-book m s book book′ same o n n′ v v′ {i} {i′} after after′ h h′ =
-    let e : pack m s book (length o) ≡ pack m s book′ (length o) = same-entries m s book book′ (length o) same in
+same-but-book m s book book′ for o n n′ v v′ {i} {i′} after after′ h h′ =
+    let e : pack m s book (length o) ≡ pack m s book′ (length o) = same-entries m s book book′ (length o) for in
     same-outcome h (record {
       told = subst (λ (a : Answer (List ℕ)). Told lengthOf a n′ v′ i′) (sym e) (h′ .told);
       holds = h′ .holds ∙ ap (λ (a : Answer (List ℕ)). output a o) (sym e);
