@@ -40,14 +40,14 @@ then-ends size pos s p x k {r} {q} {w} r′ e f h =
     go y g m = m ∙ ap (λ z. scanned size pos (chain z k)) (sym g)
 
 -- it stopped: so does the whole
-pub then-stops : {A B : Type 0} (size : A → ℕ) (pos : ℕ) (s : B → ℕ) (p : ℕ) (x : Read B) (k : B → Reader A) {r : Scan} {f : Fault} {q : ℕ} → r ≡ scanned s p x → r ≡ scan.Stops f q
-    → scan.Stops f q ≡ scanned size pos (chain x k)
+pub then-stops : {A B : Type 0} (size : A → ℕ) (pos : ℕ) (s : B → ℕ) (p : ℕ) (x : Read B) (k : B → Reader A) {r : Scan} {f : Fault} {q : ℕ} → r ≡ scanned s p x → r ≡ scan.Stops q f
+    → scan.Stops q f ≡ scanned size pos (chain x k)
 then-stops size pos s p x k e h = stops-then size pos s p x k e h
 
 -- ---- payloads without a body
 
 module _ (b : List ℕ) (at pos : ℕ) where
-  pub wait-out : length b < at + 2 → scan.Stops fault.CutShort at ≡ scanned flatSize pos (readWaitForFrame b (placed at))
+  pub wait-out : length b < at + 2 → scan.Stops at fault.CutShort ≡ scanned flatSize pos (readWaitForFrame b (placed at))
   unfolding readWaitForFrame faultOf
   wait-out h = stops flatSize pos (ap (λ z. chain z (λ n q. chain (readU8 b q) (λ k r. got (WaitForFrame n k) r))) (reading.u16-out b at h))
 
@@ -59,7 +59,7 @@ module _ (b : List ℕ) (at pos : ℕ) where
       ∙ scanned-as flatSize pos (WaitForFrame (u16At b at)) (λ _. 0) (pos + 3) (readU8 b (placed (at + 2))) (λ k. omega arith)
       ∙ ap (λ z. scanned flatSize pos (chain z (λ n q. chain (readU8 b q) (λ k r. got (WaitForFrame n k) r)))) (sym (reading.u16-in b at h))
 
-  pub goto-out : length b < at + 2 → scan.Stops fault.CutShort at ≡ scanned flatSize pos (readGotoFrame2 b (placed at))
+  pub goto-out : length b < at + 2 → scan.Stops at fault.CutShort ≡ scanned flatSize pos (readGotoFrame2 b (placed at))
   unfolding readGotoFrame2 faultOf
   goto-out h = stops flatSize pos (ap (λ z. chain z (λ n q. chain (readFlag b q) (λ k r. got (GotoFrame2 n k) r))) (reading.u16-out b at h))
 
@@ -205,7 +205,7 @@ module _ (b : List ℕ) (pos : ℕ) (s : Text) (w : ℕ) where
 -- ---- registers and flags
 
 module _ (b : List ℕ) (at pos : ℕ) where
-  pub registers-out : length b < at + 1 → scan.Stops fault.CutShort at ≡ scanned (λ _. 0) pos (readRegisters b (placed at))
+  pub registers-out : length b < at + 1 → scan.Stops at fault.CutShort ≡ scanned (λ _. 0) pos (readRegisters b (placed at))
   unfolding readRegisters faultOf
   registers-out h = stops _ pos (ap (λ z. chain {B = ℕ × ℕ} z (λ k v. chain (tested (λ f. ltb f 512) (readU16 b) v) (λ f z. got (k, f) z))) (reading.u8-out b at h))
 
@@ -214,12 +214,12 @@ module _ (b : List ℕ) (at pos : ℕ) where
     unfolding readRegisters
     registers-if x e = rw (reading.u8-in b at h, e)
 
-    pub flags-out : length b < at + 1 + 2 → scan.Stops fault.CutShort (at + 1) ≡ scanned (λ _. 0) pos (readRegisters b (placed at))
+    pub flags-out : length b < at + 1 + 2 → scan.Stops (at + 1) fault.CutShort ≡ scanned (λ _. 0) pos (readRegisters b (placed at))
     unfolding faultOf tested
     flags-out l = stops _ pos (registers-if (bad answers.CutShort (stop (placed (at + 1)))) (rw (reading.u16-out b (at + 1) l)))
 
     module _ (l : at + 1 + 2 ≤ length b) (n : ℕ) (e : n ≡ u16At b (at + 1)) where
-      pub flags-big : 511 < n → scan.Stops fault.BadField (at + 1) ≡ scanned (λ _. 0) pos (readRegisters b (placed at))
+      pub flags-big : 511 < n → scan.Stops (at + 1) fault.BadField ≡ scanned (λ _. 0) pos (readRegisters b (placed at))
       unfolding faultOf tested ifWithin
       flags-big k =
           let m : 512 ≤ u16At b (at + 1) = omega arith in
@@ -234,7 +234,7 @@ module _ (b : List ℕ) (at pos : ℕ) where
 -- ---- a Try's shape and target
 
 module _ (terms : Terms) (b : List ℕ) (at pos : ℕ) where
-  pub caught-out : length b < at + 1 → scan.Stops fault.CutShort at ≡ scanned caughtSize pos (readCaught terms b (placed at))
+  pub caught-out : length b < at + 1 → scan.Stops at fault.CutShort ≡ scanned caughtSize pos (readCaught terms b (placed at))
   unfolding readCaught tested faultOf
   caught-out h = stops caughtSize pos {g = answers.CutShort} {q = at} (rw (reading.u8-out b at h))
 
@@ -276,7 +276,7 @@ module _ (terms : Terms) (b : List ℕ) (at pos : ℕ) where
         regroup (got t q) = refl
         regroup (bad f q) = refl
 
-    pub caught-bad : isShape (getD b at 0) ≡ false → scan.Stops fault.BadField at ≡ scanned caughtSize pos (readCaught terms b (placed at))
+    pub caught-bad : isShape (getD b at 0) ≡ false → scan.Stops at fault.BadField ≡ scanned caughtSize pos (readCaught terms b (placed at))
     unfolding readCaught tested ifWithin faultOf
     caught-bad s = stops caughtSize pos {g = answers.BadField} {q = at} (rw (reading.u8-in b at h, s))
 

@@ -2,9 +2,11 @@
 // `pos` is the position in the block that writing would have reached after the header.
 ghost use mathlib.Core.Path.{_≡_};
 ghost use Prim.Native.Nat.{_+_, _-_, _≤_};
-ghost use Rattle.layout.specs.Read.{placed};
+ghost use Rattle.layout.specs.Read.{placed, readCounted};
+ghost use Rattle.layout.specs.Lengths.{total};
 ghost use Rattle.positions.specs.Scanned.{scanned, Roomy};
 ghost use Rattle.editions.specs.Allowed.{termsOf};
+ghost use Rattle.lists.specs.Elements.{namedSize, readNamed};
 ghost use Rattle.action_fields.specs.Fields.{readWaitForFrame, readGotoFrame2, readGetUrl2, readGetUrl, flatSize, readFunction, readRegisters, readFunction2, ownerSize, readCaught, caughtSize};
 use editions::Terms;
 use fields::u16_at;
@@ -25,7 +27,7 @@ pub fn scan_wait_for_frame(b: &[u8], at: usize, pos: BytePosition) -> Scan
     ensures { λ r. ⌜ r ≡ scanned flatSize (pos .0) (readWaitForFrame (now (b .entry)) (placed at)) ⌝ }
 {
     if b.len() - at < 2 {
-        return Scan::Stops(Fault::CutShort, at);
+        return Scan::Stops(at, Fault::CutShort);
     }
     let end = BytePosition(pos.0 + OpCode::WAIT_FOR_FRAME_LEN);
     scan_bytes(b, at + 2, 1, end)
@@ -37,7 +39,7 @@ pub fn scan_goto_frame_2(b: &[u8], at: usize, pos: BytePosition) -> Scan
     ensures { λ r. ⌜ r ≡ scanned flatSize (pos .0) (readGotoFrame2 (now (b .entry)) (placed at)) ⌝ }
 {
     if b.len() - at < 2 {
-        return Scan::Stops(Fault::CutShort, at);
+        return Scan::Stops(at, Fault::CutShort);
     }
     let len = OpCode::goto_frame_2_len(u16_at(b, at));
     scan_flag(b, at + 2, BytePosition(pos.0 + len))
@@ -49,9 +51,9 @@ pub fn scan_get_url_2(b: &[u8], at: usize, pos: BytePosition) -> Scan
     ensures { λ r. ⌜ r ≡ scanned flatSize (pos .0) (readGetUrl2 (now (b .entry)) (placed at)) ⌝ }
 {
     match scan_flag(b, at, pos) {
-        Scan::Stops(f, p) => Scan::Stops(f, p),
+        Scan::Stops(p, f) => Scan::Stops(p, f),
         Scan::Ends(p, w) => match scan_flag(b, p, w) {
-            Scan::Stops(f, q) => Scan::Stops(f, q),
+            Scan::Stops(q, f) => Scan::Stops(q, f),
             Scan::Ends(q, x) => scan_bytes(b, q, 1, BytePosition(x.0 + OpCode::U8_LEN)),
         },
     }
@@ -78,15 +80,30 @@ pub fn scan_get_url(
     ensures { λ r. ⌜ r ≡ scanned flatSize (pos .0) (readGetUrl (termsOf terms (now (words .entry)) (now (index .entry))) (now (b .entry)) (placed at)) ⌝ }
 {
     match scan_string(b, words, index, terms, at, pos) {
-        Scan::Stops(f, p) => Scan::Stops(f, p),
+        Scan::Stops(p, f) => Scan::Stops(p, f),
         Scan::Ends(p, w) => match scan_string(b, words, index, terms, p, w) {
-            Scan::Stops(f, q) => Scan::Stops(f, q),
+            Scan::Stops(q, f) => Scan::Stops(q, f),
             Scan::Ends(q, x) => {
                 let len = OpCode::get_url_len(text_len(pos, w), text_len(w, x));
                 Scan::Ends(q, BytePosition(pos.0 + len))
             }
         },
     }
+}
+
+// ConstantPool: its strings; `pos` is the position after the written count.
+pub fn scan_constant_pool(
+    b: &[u8],
+    words: &[u8],
+    index: &[u32],
+    terms: Terms,
+    at: usize,
+    pos: BytePosition,
+) -> Scan
+    requires { ⌜ Roomy (now b) at pos ⌝ }
+    ensures { λ r. ⌜ r ≡ scanned (total (namedSize 0)) (pos .0) (readCounted (now (b .entry)) (readNamed (termsOf terms (now (words .entry)) (now (index .entry))) (now (b .entry)) 0) (placed at)) ⌝ }
+{
+    scan_strings(b, words, index, terms, at, 0, pos)
 }
 
 // ---- payloads before bodies
@@ -104,7 +121,7 @@ pub fn scan_define_function(
     ensures { λ r. ⌜ r ≡ scanned ownerSize (pos .0) (readFunction (termsOf terms (now (words .entry)) (now (index .entry))) (now (b .entry)) (placed at)) ⌝ }
 {
     match scan_string(b, words, index, terms, at, pos) {
-        Scan::Stops(f, p) => Scan::Stops(f, p),
+        Scan::Stops(p, f) => Scan::Stops(p, f),
         Scan::Ends(p, w) => {
             let len = OpCode::define_function_len(text_len(pos, w), 0);
             scan_strings(b, words, index, terms, p, 0, BytePosition(pos.0 + len))
@@ -118,14 +135,14 @@ fn scan_registers(b: &[u8], at: usize, pos: BytePosition) -> Scan
     ensures { λ r. ⌜ r ≡ scanned (λ _. 0) (pos .0) (readRegisters (now (b .entry)) (placed at)) ⌝ }
 {
     if b.len() <= at {
-        return Scan::Stops(Fault::CutShort, at);
+        return Scan::Stops(at, Fault::CutShort);
     }
     let p = at + 1;
     if b.len() - p < 2 {
-        return Scan::Stops(Fault::CutShort, p);
+        return Scan::Stops(p, Fault::CutShort);
     }
     if 511 < u16_at(b, p) {
-        return Scan::Stops(Fault::BadField, p);
+        return Scan::Stops(p, Fault::BadField);
     }
     Scan::Ends(p + 2, pos)
 }
@@ -143,11 +160,11 @@ pub fn scan_define_function_2(
     ensures { λ r. ⌜ r ≡ scanned ownerSize (pos .0) (readFunction2 (termsOf terms (now (words .entry)) (now (index .entry))) (now (b .entry)) (placed at)) ⌝ }
 {
     match scan_string(b, words, index, terms, at, pos) {
-        Scan::Stops(f, p) => Scan::Stops(f, p),
+        Scan::Stops(p, f) => Scan::Stops(p, f),
         Scan::Ends(p, w) => {
             let len = OpCode::define_function_2_len(text_len(pos, w), 0);
             match scan_strings(b, words, index, terms, p, 1, BytePosition(pos.0 + len)) {
-                Scan::Stops(f, q) => Scan::Stops(f, q),
+                Scan::Stops(q, f) => Scan::Stops(q, f),
                 Scan::Ends(q, x) => scan_registers(b, q, x),
             }
         }
@@ -168,7 +185,7 @@ pub fn scan_catch(
     ensures { λ r. ⌜ r ≡ scanned caughtSize (pos .0) (readCaught (termsOf terms (now (words .entry)) (now (index .entry))) (now (b .entry)) (placed at)) ⌝ }
 {
     if b.len() <= at {
-        return Scan::Stops(Fault::CutShort, at);
+        return Scan::Stops(at, Fault::CutShort);
     }
     let p = at + 1;
     let target = BytePosition(pos.0 + OpCode::try_len(0));
@@ -180,6 +197,6 @@ pub fn scan_catch(
         3 => scan_string(b, words, index, terms, p, target),
         5 => scan_bytes(b, p, 1, end),
         7 => scan_bytes(b, p, 1, end),
-        _ => Scan::Stops(Fault::BadField, at),
+        _ => Scan::Stops(at, Fault::BadField),
     }
 }

@@ -329,7 +329,7 @@ body-less terms b at d h =
     rw e
 
 module _ (terms : Terms) (b : List ℕ) (at d : ℕ) (pos : Position) (s : State) where
-  pub body-stops : (k : ActionNumber) → pos .number ≡ k .0 → (w : ℕ) (r : Scan) (f : Fault) (q : ℕ) (s′ : State) → (d ≡ 0 → ⊥) → r ≡ scanned (λ _. 0) w (readFront terms b (placed at)) → r ≡ scan.Stops f q
+  pub body-stops : (k : ActionNumber) → pos .number ≡ k .0 → (w : ℕ) (r : Scan) (f : Fault) (q : ℕ) (s′ : State) → (d ≡ 0 → ⊥) → r ≡ scanned (λ _. 0) w (readFront terms b (placed at)) → r ≡ scan.Stops q f
       → Ran (outcome bodyLength bodyCount bodyEvents pos s (readBody terms b d (placed at))) (walked.Stops f q k) s′
   body-stops k i w r f q s′ h j e = let z = stops-is (λ _. 0) w (front-fields terms b (placed at)) j e in go (z .0) (z .1) (z .2)
     where

@@ -51,7 +51,7 @@ pub fn scan_body(
         return Walked::Stops(Fault::TooDeep, at, number);
     }
     match scan_front(b, terms, at, pos) {
-        Scan::Stops(f, p) => Walked::Stops(f, p, number),
+        Scan::Stops(p, f) => Walked::Stops(f, p, number),
         Scan::Ends(front, _) => scan_actions(
             b,
             words,

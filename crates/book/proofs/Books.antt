@@ -1,6 +1,6 @@
 -- What the check of a book says to a caller. Assumes nothing.
 use mathlib.Core.Path.{_≡_, _∙_}
-use Prim.Native.Nat.{ℕ, _-_, _≤_}
+use Prim.Native.Nat.{ℕ, _-_, _≤_, _<_}
 use native.Mathlib.Omega.{arith}
 use mathlib.Core.Option.{none, some}
 use mathlib.Core.List.{List}
@@ -18,6 +18,14 @@ module _ (book index : List ℕ) where
       let j : e ≡ end = cc in
       (omega (arith, a, i, j), omega (arith, l, j))
   good-within start end count (ill w) k =
+      let z : _≡_ {A = ℕ} 0 1 = cc in
+      absurd (omega arith)
+
+  pub good-count : {c : CheckedBook} (start end count : ℕ) → BookChecked book index c → c ≡ checked.Good start end count → count < 65536
+  good-count start end count (good {count = n} a l m w) k =
+      let h : n ≡ count = cc in
+      omega (arith, m, h)
+  good-count start end count (ill w) k =
       let z : _≡_ {A = ℕ} 0 1 = cc in
       absurd (omega arith)
 

@@ -1,5 +1,6 @@
 // The editions of a sheet, and what each allows.
 ghost use mathlib.Core.Path.{_≡_};
+ghost use Prim.Native.Nat.{_<_};
 ghost use mathlib.Core.Bool.{_&&_};
 ghost use lib.Dec.{eqb};
 ghost use Rattle.layout.specs.Read.{edition1, edition2};
@@ -13,11 +14,11 @@ pub enum Edition {
 }
 
 // What a sheet is read by: label numbers under a bound, and whether its strings may name the words of a book, and how many there are.
-// The walks are handed it by value.
+// The walks are handed it by value, so its fields are narrow: together they fill one word.
 pub struct Terms {
-    pub label_bound: usize,
+    pub label_bound: u32,
+    pub word_count: u16,
     pub names_words: bool,
-    pub word_count: usize,
 }
 
 // How many label numbers each edition has: 0 to 1,023, and 0 to 4,095 from edition 2 on.
@@ -32,9 +33,9 @@ pub fn first_terms() -> Terms
     ensures { λ r. ⌜ wordless r edition1 ⌝ }
 {
     Terms {
-        label_bound: Terms::FIRST_LABELS,
-        names_words: false,
+        label_bound: Terms::FIRST_LABELS as u32,
         word_count: 0,
+        names_words: false,
     }
 }
 
@@ -43,20 +44,21 @@ pub fn second_terms() -> Terms
     ensures { λ r. ⌜ wordless r edition2 ⌝ }
 {
     Terms {
-        label_bound: Terms::SECOND_LABELS,
-        names_words: false,
+        label_bound: Terms::SECOND_LABELS as u32,
         word_count: 0,
+        names_words: false,
     }
 }
 
 // The terms of edition 3, where the book has so many words.
 pub fn third_terms(count: usize) -> Terms
+    requires { ⌜ count < 65536 ⌝ }
     ensures { λ r. ⌜ booked r count ⌝ }
 {
     Terms {
-        label_bound: Terms::SECOND_LABELS,
+        label_bound: Terms::SECOND_LABELS as u32,
+        word_count: count as u16,
         names_words: true,
-        word_count: count,
     }
 }
 

@@ -48,18 +48,18 @@ module _ (terms : Terms) (b : List ℕ) (n least p pos : ℕ) where
       go (suc n) h = simp sub-one
 
   module _ (h : 0 < n) where
-    pub entries-cut : length b < p + 2 → scan.Stops (faultOf CutShort) p ≡ scanned (λ _. 0) pos (readEntries terms b n least (placed p))
+    pub entries-cut : length b < p + 2 → scan.Stops p (faultOf CutShort) ≡ scanned (λ _. 0) pos (readEntries terms b n least (placed p))
     entries-cut l = stops (λ _. 0) pos (rw (entries-step h, label-out terms b p least l))
 
     module _ (i : p + 2 ≤ length b) (m : ℕ) (e : m ≡ u16At b p) where
-      pub entries-big : terms .labelBound ≤ m → scan.Stops (faultOf BadField) p ≡ scanned (λ _. 0) pos (readEntries terms b n least (placed p))
+      pub entries-big : terms .labelBound ≤ m → scan.Stops p (faultOf BadField) ≡ scanned (λ _. 0) pos (readEntries terms b n least (placed p))
       entries-big l = stops (λ _. 0) pos (rw (entries-step h, label-big terms b p least i (omega arith)))
 
       module _ (l : m < terms .labelBound) where
-        pub entries-low : m < least → scan.Stops (faultOf BadField) p ≡ scanned (λ _. 0) pos (readEntries terms b n least (placed p))
+        pub entries-low : m < least → scan.Stops p (faultOf BadField) ≡ scanned (λ _. 0) pos (readEntries terms b n least (placed p))
         entries-low k = stops (λ _. 0) pos (rw (entries-step h, label-low terms b p least i (omega arith) (omega arith)))
 
-        pub entries-half : least ≤ m → length b < p + 4 → scan.Stops (faultOf CutShort) (p + 2) ≡ scanned (λ _. 0) pos (readEntries terms b n least (placed p))
+        pub entries-half : least ≤ m → length b < p + 4 → scan.Stops (p + 2) (faultOf CutShort) ≡ scanned (λ _. 0) pos (readEntries terms b n least (placed p))
         entries-half k o = stops (λ _. 0) pos (rw (entries-step h, label-in terms b p least i (omega arith) (omega arith), u16-out b (p + 2) (omega arith)))
 
         pub entries-more : least ≤ m → p + 4 ≤ length b
@@ -73,7 +73,7 @@ module _ (terms : Terms) (b : List ℕ) (n least p pos : ℕ) where
 -- ---- the front
 
 module _ (terms : Terms) (b : List ℕ) (at pos : ℕ) where
-  pub front-cut : length b < at + 2 → scan.Stops (faultOf CutShort) at ≡ scanned (λ _. 0) pos (readFront terms b (placed at))
+  pub front-cut : length b < at + 2 → scan.Stops at (faultOf CutShort) ≡ scanned (λ _. 0) pos (readFront terms b (placed at))
   unfolding readFront
   front-cut h = stops (λ _. 0) pos (rw (u16-out b at h))
 
@@ -82,7 +82,7 @@ module _ (terms : Terms) (b : List ℕ) (at pos : ℕ) where
     unfolding readFront
     after = rw (u16-in b at h, ← e)
 
-    pub front-stops : (f : Fault) (q : ℕ) → r ≡ scan.Stops f q → scan.Stops f q ≡ scanned (λ _. 0) pos (readFront terms b (placed at))
+    pub front-stops : (f : Fault) (q : ℕ) → r ≡ scan.Stops q f → scan.Stops q f ≡ scanned (λ _. 0) pos (readFront terms b (placed at))
     front-stops f q k = rw after (stops-then (λ _. 0) pos (λ _. 0) pos (readEntries terms b n 0 (placed (at + 2))) (λ es q. chain (readU16 b q) (λ m t. got (record { entries = es; count = m }) t)) s k)
 
     pub front-place : (q : ℕ) (w : BytePosition) → r ≡ scan.Ends q w → q ≤ length b

@@ -24,17 +24,17 @@ fn scan_entries(b: &[u8], terms: Terms, at: usize, n: usize, pos: BytePosition) 
     let mut least = 0;
     while 0 < left {
         if b.len() - p < 2 {
-            return Scan::Stops(Fault::CutShort, p);
+            return Scan::Stops(p, Fault::CutShort);
         }
         let label = u16_at(b, p);
-        if terms.label_bound <= label {
-            return Scan::Stops(Fault::BadField, p);
+        if terms.label_bound as usize <= label {
+            return Scan::Stops(p, Fault::BadField);
         }
         if label < least {
-            return Scan::Stops(Fault::BadField, p);
+            return Scan::Stops(p, Fault::BadField);
         }
         if b.len() - p < 4 {
-            return Scan::Stops(Fault::CutShort, p + 2);
+            return Scan::Stops(p + 2, Fault::CutShort);
         }
         least = label + 1;
         p += 4;
@@ -49,10 +49,10 @@ pub fn scan_front(b: &[u8], terms: Terms, at: usize, pos: BytePosition) -> Scan
     ensures { λ r. ⌜ ((o : Option Words) → r ≡ scanned (λ _. 0) (pos .0) (readFront (bounded terms o) (now (b .entry)) (placed at))) ⌝ }
 {
     if b.len() - at < 2 {
-        return Scan::Stops(Fault::CutShort, at);
+        return Scan::Stops(at, Fault::CutShort);
     }
     match scan_entries(b, terms, at + 2, u16_at(b, at), pos) {
-        Scan::Stops(f, p) => Scan::Stops(f, p),
+        Scan::Stops(p, f) => Scan::Stops(p, f),
         Scan::Ends(p, w) => scan_bytes(b, p, 2, w),
     }
 }

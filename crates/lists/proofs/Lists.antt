@@ -62,7 +62,7 @@ module _ {A : Type 0} (read : Reader A) (size : A → ℕ) where
         go a g v l = rw (one-more n p h, g, l) (sym (after-one (w .0) a (repeat read (n - 1) (placed q))))
 
     -- an element met a fault
-    pub step-stops : (f : Fault) (q : ℕ) → r ≡ scan.Stops f q → scan.Stops f q ≡ scanned (total size) (w .0) (repeat read n (placed p))
+    pub step-stops : (f : Fault) (q : ℕ) → r ≡ scan.Stops q f → scan.Stops q f ≡ scanned (total size) (w .0) (repeat read n (placed p))
     step-stops f q g = rw (one-more n p h) (stops-then (total size) (w .0) size (w .0) (read (placed p)) _ e g)
 
     -- and the next one may be
@@ -82,7 +82,7 @@ module _ {A : Type 0} (read : Reader A) (size : A → ℕ) where
     going-end h = sym (none-left (w .0) n p h) ∙ g .same
 
     module _ (h : 0 < n) (r : Scan) (e : r ≡ scanned size (w .0) (read (placed p))) where
-      pub going-stops : (f : Fault) (q : ℕ) → r ≡ scan.Stops f q → scan.Stops f q ≡ whole
+      pub going-stops : (f : Fault) (q : ℕ) → r ≡ scan.Stops q f → scan.Stops q f ≡ whole
       going-stops f q k = step-stops w n p h r e f q k ∙ g .same
 
       pub going-ends : Grows b read size → (q : ℕ) (x : BytePosition) → r ≡ scan.Ends q x → Going b whole (n - 1) q x
@@ -90,7 +90,7 @@ module _ {A : Type 0} (read : Reader A) (size : A → ℕ) where
 
   -- the count, and the first element
   module _ (b : List ℕ) (at : ℕ) (pos : BytePosition) where
-    pub counted-out : length b < at + 2 → scan.Stops (faultOf answers.CutShort) at ≡ scanned (total size) (pos .0) (readCounted b read (placed at))
+    pub counted-out : length b < at + 2 → scan.Stops at (faultOf answers.CutShort) ≡ scanned (total size) (pos .0) (readCounted b read (placed at))
     unfolding readCounted scanned
     counted-out h = rw (reading.u16-out b at h)
 

@@ -28,7 +28,7 @@ use Rattle.operands.proofs.Reading as reading
 -- ---- a string after some bytes
 
 module _ (terms : Terms) (b : List ℕ) (at skip pos : ℕ) where
-  pub named-out : length b < at + skip → scan.Stops fault.CutShort at ≡ scanned (namedSize skip) pos (readNamed terms b skip (placed at))
+  pub named-out : length b < at + skip → scan.Stops at fault.CutShort ≡ scanned (namedSize skip) pos (readNamed terms b skip (placed at))
   unfolding readNamed faultOf
   named-out h = stops (namedSize skip) pos (ap (λ x. chain x (λ s q. readString terms b q)) (reading.bytes-out b at skip h))
 
@@ -51,7 +51,7 @@ constant-in b at pos n l h e f = ends constantSize pos (reading.u16-in b at h) (
 -- ---- push values, by their kind
 
 module _ (terms : Terms) (b : List ℕ) (at pos : ℕ) where
-  pub value-out : length b < at + 1 → scan.Stops fault.CutShort at ≡ scanned valueSize pos (readValue terms b (placed at))
+  pub value-out : length b < at + 1 → scan.Stops at fault.CutShort ≡ scanned valueSize pos (readValue terms b (placed at))
   unfolding readValue faultOf
   value-out h = stops valueSize pos (ap (λ x. chain x (λ n q. readValueIf terms b (kindOf n) (placed at) q)) (reading.u8-out b at h))
 
@@ -101,7 +101,7 @@ module _ (terms : Terms) (b : List ℕ) (at pos : ℕ) where
     value-constant r e m = field-value 8 PushKind.Constant Constant constantSize pos (readU16 b (placed (at + 1))) r e refl refl (λ s. refl) m
 
     pub value-unknown : (getD b at 0 ≡ 0 → ⊥) → (getD b at 0 ≡ 2 → ⊥) → (getD b at 0 ≡ 3 → ⊥) → (getD b at 0 ≡ 4 → ⊥) → (getD b at 0 ≡ 5 → ⊥) → (getD b at 0 ≡ 6 → ⊥)
-        → (getD b at 0 ≡ 7 → ⊥) → (getD b at 0 ≡ 8 → ⊥) → scan.Stops fault.UnknownCode at ≡ scanned valueSize pos (readValue terms b (placed at))
+        → (getD b at 0 ≡ 7 → ⊥) → (getD b at 0 ≡ 8 → ⊥) → scan.Stops at fault.UnknownCode ≡ scanned valueSize pos (readValue terms b (placed at))
     unfolding readValueIf faultOf
     value-unknown n₀ n₂ n₃ n₄ n₅ n₆ n₇ n₈ = stops valueSize pos (value-if (getD b at 0) none refl (no-kind (getD b at 0) n₀ n₂ n₃ n₄ n₅ n₆ n₇ n₈))
       where

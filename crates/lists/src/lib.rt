@@ -30,7 +30,7 @@ pub fn scan_named(
     ensures { λ r. ⌜ r ≡ scanned (namedSize skip) (pos .0) (readNamed (termsOf terms (now (words .entry)) (now (index .entry))) (now (b .entry)) skip (placed at)) ⌝ }
 {
     if b.len() - at < skip {
-        return Scan::Stops(Fault::CutShort, at);
+        return Scan::Stops(at, Fault::CutShort);
     }
     scan_string(
         b,
@@ -56,15 +56,15 @@ pub fn scan_strings(
     ensures { λ r. ⌜ r ≡ scanned (total (namedSize skip)) (pos .0) (readCounted (now (b .entry)) (readNamed (termsOf terms (now (words .entry)) (now (index .entry))) (now (b .entry)) skip) (placed at)) ⌝ }
 {
     if b.len() - at < 2 {
-        return Scan::Stops(Fault::CutShort, at);
+        return Scan::Stops(at, Fault::CutShort);
     }
     let mut left = u16_at(b, at);
     let mut p = at + 2;
     let mut w = pos;
     while 0 < left {
         match scan_named(b, words, index, terms, p, skip, w) {
-            Scan::Stops(f, q) => {
-                return Scan::Stops(f, q);
+            Scan::Stops(q, f) => {
+                return Scan::Stops(q, f);
             }
             Scan::Ends(q, x) => {
                 p = q;
@@ -82,7 +82,7 @@ fn scan_constant(b: &[u8], at: usize, pos: BytePosition) -> Scan
     ensures { λ r. ⌜ r ≡ scanned constantSize (pos .0) (readU16 (now (b .entry)) (placed at)) ⌝ }
 {
     if b.len() - at < 2 {
-        return Scan::Stops(Fault::CutShort, at);
+        return Scan::Stops(at, Fault::CutShort);
     }
     let len = OpCode::push_constant_len(u16_at(b, at));
     Scan::Ends(at + 2, BytePosition(pos.0 + len))
@@ -101,7 +101,7 @@ pub fn scan_push_value(
     ensures { λ r. ⌜ r ≡ scanned valueSize (pos .0) (readValue (termsOf terms (now (words .entry)) (now (index .entry))) (now (b .entry)) (placed at)) ⌝ }
 {
     if b.len() <= at {
-        return Scan::Stops(Fault::CutShort, at);
+        return Scan::Stops(at, Fault::CutShort);
     }
     let p = at + 1;
     match b[at] {
@@ -120,7 +120,7 @@ pub fn scan_push_value(
         6 => scan_bytes(b, p, 8, BytePosition(pos.0 + OpCode::PUSH_FLOAT_LEN)),
         7 => scan_bytes(b, p, 4, BytePosition(pos.0 + OpCode::PUSH_INTEGER_LEN)),
         8 => scan_constant(b, p, pos),
-        _ => Scan::Stops(Fault::UnknownCode, at),
+        _ => Scan::Stops(at, Fault::UnknownCode),
     }
 }
 
@@ -137,15 +137,15 @@ pub fn scan_push(
     ensures { λ r. ⌜ r ≡ scanned (total valueSize) (pos .0) (readCounted (now (b .entry)) (readValue (termsOf terms (now (words .entry)) (now (index .entry))) (now (b .entry))) (placed at)) ⌝ }
 {
     if b.len() - at < 2 {
-        return Scan::Stops(Fault::CutShort, at);
+        return Scan::Stops(at, Fault::CutShort);
     }
     let mut left = u16_at(b, at);
     let mut p = at + 2;
     let mut w = pos;
     while 0 < left {
         match scan_push_value(b, words, index, terms, p, w) {
-            Scan::Stops(f, q) => {
-                return Scan::Stops(f, q);
+            Scan::Stops(q, f) => {
+                return Scan::Stops(q, f);
             }
             Scan::Ends(q, x) => {
                 p = q;

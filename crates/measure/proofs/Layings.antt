@@ -242,7 +242,7 @@ module _ (n : ℕ) (r : Scan) where
   unfolding laidAs pick
   laid-bodies q w e f = rw (e, ne-eqb n 0 f)
 
-  pub laid-stops : (f : Fault) (q : ℕ) → r ≡ scan.Stops f q → laid.Stops f q ≡ laidAs n r
+  pub laid-stops : (f : Fault) (q : ℕ) → r ≡ scan.Stops q f → laid.Stops f q ≡ laidAs n r
   unfolding laidAs
   laid-stops f q e = rw e
 
@@ -251,7 +251,7 @@ module _ (r : Scan) where
   unfolding laidFunction
   function-ends q w e = rw e
 
-  pub function-stops : (f : Fault) (q : ℕ) → r ≡ scan.Stops f q → laid.Stops f q ≡ laidFunction r
+  pub function-stops : (f : Fault) (q : ℕ) → r ≡ scan.Stops q f → laid.Stops f q ≡ laidFunction r
   unfolding laidFunction
   function-stops f q e = rw e
 
@@ -260,7 +260,7 @@ module _ (from action : ℕ) (r : Scan) (over : List ℕ) where
   unfolding notedFrom
   noted-ends q w over′ e f = rw e f
 
-  pub noted-stops : (f : Fault) (q : ℕ) → r ≡ scan.Stops f q → over ≡ notedFrom from action r over
+  pub noted-stops : (f : Fault) (q : ℕ) → r ≡ scan.Stops q f → over ≡ notedFrom from action r over
   unfolding notedFrom
   noted-stops f q e = rw e
 
@@ -269,7 +269,7 @@ pub from-is : (from : ℕ) (r : Scan) (q : ℕ) (w : BytePosition) → EndsFrom 
 from-is from (scan.Ends q w) q′ w′ h e =
     let f : w ≡ w′ = cc in
     omega (arith, h, ap (λ (v : BytePosition). v .0) f)
-from-is from (scan.Stops f p) q w h e =
+from-is from (scan.Stops p f) q w h e =
     let z : _≡_ {A = ℕ} 0 1 = cc in
     absurd (omega arith)
 

@@ -160,12 +160,12 @@ pub data Laying (bound : ℕ) (read : Reader (ActionsOf Text ℕ) → Read (Acti
 
 unfoldable pub laidAs : ℕ → Scan → Laid
 laidAs n (scan.Ends q w) = pick (eqb n 0) (laid.Flat q w) (laid.Bodies q w n)
-laidAs n (scan.Stops f q) = laid.Stops f q
+laidAs n (scan.Stops q f) = laid.Stops f q
 
 -- and where it is a function's
 unfoldable pub laidFunction : Scan → Laid
 laidFunction (scan.Ends q w) = laid.Function q w
-laidFunction (scan.Stops f q) = laid.Stops f q
+laidFunction (scan.Stops q f) = laid.Stops f q
 
 -- a branch whose label was read, after its header
 unfoldable pub branchLaid : ℕ → Read ℕ → Laid
@@ -175,12 +175,12 @@ branchLaid pos (bad f q) = laid.Stops (faultOf f) (q .at)
 -- 8 for the payload of an action, which starts at a position
 unfoldable pub notedFrom : ℕ → ℕ → Scan → List ℕ → List ℕ
 notedFrom from action (scan.Ends q w) over = notedIf 8 (w .0 - from) action over
-notedFrom from action (scan.Stops f q) over = over
+notedFrom from action (scan.Stops q f) over = over
 
 -- it ends at or after its start
 abbrev pub EndsFrom : ℕ → Scan → Type 0
 EndsFrom from (scan.Ends q w) = from ≤ w .0
-EndsFrom from (scan.Stops f q) = Unit {0}
+EndsFrom from (scan.Stops q f) = Unit {0}
 
 -- a Try: its shape and target scanned as r, with n bodies after it
 pub record Tried (r : Scan) (n from action : ℕ) (l : Laid) (over over′ : List ℕ) : Type 0 where

@@ -52,7 +52,7 @@ pub fn flat_payload(r: Scan) -> Laid
     ensures { λ l. ⌜ l ≡ laidAs 0 r ⌝ }
 {
     match r {
-        Scan::Stops(f, p) => Laid::Stops(f, p),
+        Scan::Stops(p, f) => Laid::Stops(f, p),
         Scan::Ends(p, w) => Laid::Flat(p, w),
     }
 }
@@ -69,7 +69,7 @@ pub fn long_payload(
     ensures { λ l. ⌜ (l ≡ laidAs n r) × (now (over .exit) ≡ notedFrom (from .0) (action .0) r (now (over .entry))) ⌝ }
 {
     match r {
-        Scan::Stops(f, p) => Laid::Stops(f, p),
+        Scan::Stops(p, f) => Laid::Stops(f, p),
         Scan::Ends(p, w) => {
             note_long(over, 8, w.0 - from.0, action);
             if n == 0 {
@@ -91,7 +91,7 @@ pub fn function_payload(
     ensures { λ l. ⌜ (l ≡ laidFunction r) × (now (over .exit) ≡ notedFrom (from .0) (action .0) r (now (over .entry))) ⌝ }
 {
     match r {
-        Scan::Stops(f, p) => Laid::Stops(f, p),
+        Scan::Stops(p, f) => Laid::Stops(f, p),
         Scan::Ends(p, w) => {
             note_long(over, 8, w.0 - from.0, action);
             Laid::Function(p, w)

@@ -199,7 +199,7 @@ module _ (k : Terms) (b : List ℕ) (at : ℕ) where
 
 -- as the code answers, which holds the zero byte's place in z
 module _ (b : List ℕ) (at pos n z : ℕ) (l : at + n ≤ length b) (f : z ≡ firstNul b at n) where
-  pub scan-nul : z < at + n → scan.Stops fault.BadField z ≡ scanned stringSize pos (readPlain b n (placed at))
+  pub scan-nul : z < at + n → scan.Stops z fault.BadField ≡ scanned stringSize pos (readPlain b n (placed at))
   unfolding faultOf
   scan-nul m = stops stringSize pos (plain-nul b at n l (omega arith) ∙ ap (λ (x : ℕ). bad BadField (stop (placed x))) (sym f))
 
@@ -209,7 +209,7 @@ module _ (b : List ℕ) (at pos n z : ℕ) (l : at + n ≤ length b) (f : z ≡ 
 
 -- and the length of the word in n
 module _ (b : List ℕ) (ws : Words) (at pos i n : ℕ) (h : at + 2 ≤ length b) (e : i ≡ u16At b at) where
-  pub scan-past : length ws ≤ i → scan.Stops fault.BadField at ≡ scanned stringSize pos (readWord b ws (placed at))
+  pub scan-past : length ws ≤ i → scan.Stops at fault.BadField ≡ scanned stringSize pos (readWord b ws (placed at))
   unfolding faultOf
   scan-past m = stops stringSize pos (word-past b ws at h (omega arith))
 

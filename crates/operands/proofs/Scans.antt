@@ -26,7 +26,7 @@ module _ {A : Type 0} (size : A → ℕ) (pos : ℕ) where
       absurd (omega arith)
 
   -- one that stops in a field says which fault was met
-  pub stops-is : {r : Scan} {f : Fault} {q : ℕ} {p : Place} {x : Read A} → Fields p x → r ≡ scanned size pos x → r ≡ scan.Stops f q
+  pub stops-is : {r : Scan} {f : Fault} {q : ℕ} {p : Place} {x : Read A} → Fields p x → r ≡ scanned size pos x → r ≡ scan.Stops q f
       → (g : answers.Fault) × (x ≡ bad g (stop (placed q))) × (f ≡ faultOf g)
   unfolding scanned
   stops-is (read h) e k =
@@ -39,13 +39,13 @@ module _ {A : Type 0} (size : A → ℕ) (pos : ℕ) where
   unfolding scanned
   ends {a} {q} {w} e f = rw e (ap (λ (n : ℕ). scan.Ends q (record { 0 = n })) f)
 
-  pub stops : {g : answers.Fault} {q : ℕ} {x : Read A} → x ≡ bad g (stop (placed q)) → scan.Stops (faultOf g) q ≡ scanned size pos x
+  pub stops : {g : answers.Fault} {q : ℕ} {x : Read A} → x ≡ bad g (stop (placed q)) → scan.Stops q (faultOf g) ≡ scanned size pos x
   unfolding scanned
   stops e = rw e
 
   -- a fault goes past what would have followed
-  pub stops-then : {B : Type 0} {r : Scan} {f : Fault} {q : ℕ} (s : B → ℕ) (p : ℕ) (x : Read B) (k : B → Reader A) → r ≡ scanned s p x → r ≡ scan.Stops f q
-      → scan.Stops f q ≡ scanned size pos (chain x k)
+  pub stops-then : {B : Type 0} {r : Scan} {f : Fault} {q : ℕ} (s : B → ℕ) (p : ℕ) (x : Read B) (k : B → Reader A) → r ≡ scanned s p x → r ≡ scan.Stops q f
+      → scan.Stops q f ≡ scanned size pos (chain x k)
   unfolding scanned
   stops-then s p (got b q) k e h =
       let z : _≡_ {A = ℕ} 0 1 = cc in

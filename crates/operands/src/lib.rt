@@ -25,7 +25,7 @@ pub fn scan_bytes(b: &[u8], at: usize, n: usize, pos: BytePosition) -> Scan
     ensures { λ r. ⌜ r ≡ scanned (λ _. 0) (pos .0) (readBytes (now (b .entry)) n (placed at)) ⌝ }
 {
     if b.len() - at < n {
-        return Scan::Stops(Fault::CutShort, at);
+        return Scan::Stops(at, Fault::CutShort);
     }
     Scan::Ends(at + n, pos)
 }
@@ -36,10 +36,10 @@ pub fn scan_flag(b: &[u8], at: usize, pos: BytePosition) -> Scan
     ensures { λ r. ⌜ r ≡ scanned (λ _. 0) (pos .0) (readFlag (now (b .entry)) (placed at)) ⌝ }
 {
     if b.len() <= at {
-        return Scan::Stops(Fault::CutShort, at);
+        return Scan::Stops(at, Fault::CutShort);
     }
     if 1 < b[at] {
-        return Scan::Stops(Fault::BadField, at);
+        return Scan::Stops(at, Fault::BadField);
     }
     Scan::Ends(at + 1, pos)
 }
@@ -50,10 +50,10 @@ pub fn scan_label(b: &[u8], terms: Terms, at: usize, pos: BytePosition) -> Scan
     ensures { λ r. ⌜ ((o : Option Words) → r ≡ scanned (λ _. 0) (pos .0) (readLabel (bounded terms o) (now (b .entry)) 0 (placed at))) ⌝ }
 {
     if b.len() - at < 2 {
-        return Scan::Stops(Fault::CutShort, at);
+        return Scan::Stops(at, Fault::CutShort);
     }
-    if terms.label_bound <= u16_at(b, at) {
-        return Scan::Stops(Fault::BadField, at);
+    if terms.label_bound as usize <= u16_at(b, at) {
+        return Scan::Stops(at, Fault::BadField);
     }
     Scan::Ends(at + 2, pos)
 }
@@ -71,11 +71,11 @@ fn scan_word(
     ensures { λ r. ⌜ r ≡ scanned stringSize (pos .0) (readWord (now (b .entry)) (wordsBy (now (words .entry)) (now (index .entry)) count) (placed at)) ⌝ }
 {
     if b.len() - at < 2 {
-        return Scan::Stops(Fault::CutShort, at);
+        return Scan::Stops(at, Fault::CutShort);
     }
     let i = u16_at(b, at);
     if count <= i {
-        return Scan::Stops(Fault::BadField, at);
+        return Scan::Stops(at, Fault::BadField);
     }
     let word = word_at(words, index, count, i);
     let len = OpCode::string_len(word.len);
@@ -88,11 +88,11 @@ fn scan_plain(b: &[u8], at: usize, n: usize, pos: BytePosition) -> Scan
     ensures { λ r. ⌜ r ≡ scanned stringSize (pos .0) (readPlain (now (b .entry)) n (placed at)) ⌝ }
 {
     if b.len() - at < n {
-        return Scan::Stops(Fault::CutShort, at);
+        return Scan::Stops(at, Fault::CutShort);
     }
     let z = first_nul(b, at, n);
     if z < at + n {
-        return Scan::Stops(Fault::BadField, z);
+        return Scan::Stops(z, Fault::BadField);
     }
     Scan::Ends(at + n, BytePosition(pos.0 + OpCode::string_len(n)))
 }
@@ -110,12 +110,12 @@ pub fn scan_string(
     ensures { λ r. ⌜ r ≡ scanned stringSize (pos .0) (readString (termsOf terms (now (words .entry)) (now (index .entry))) (now (b .entry)) (placed at)) ⌝ }
 {
     if b.len() - at < 2 {
-        return Scan::Stops(Fault::CutShort, at);
+        return Scan::Stops(at, Fault::CutShort);
     }
     let n = u16_at(b, at);
     let p = at + 2;
     if names_word(terms, n) {
-        return scan_word(b, words, index, terms.word_count, p, pos);
+        return scan_word(b, words, index, terms.word_count as usize, p, pos);
     }
     scan_plain(b, p, n, pos)
 }

@@ -227,7 +227,7 @@ fn pack_with<'a>(
     mode: Mode,
     out: &mut [u8],
 ) -> Answer
-    requires { ⌜ Limited (now b) start ⌝ }
+    requires { ⌜ Limited (now b) start × (count < 65536) ⌝ }
     ensures { λ r. ⌜ ReadPacked (edition3 (wordsBy (now (words .entry)) (now (index .entry)) count)) (modeOf mode) start (now (b .entry)) (now (out .entry)) r (now (out .exit)) ⌝ }
 {
     pack_wide(b, words, index, third_terms(count), start, mode, out)

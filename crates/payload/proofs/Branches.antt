@@ -25,7 +25,7 @@ label-here terms b at h l q e =
     (g .0 .0 .0, g .0 .2, omega (arith, g .0 .0 .1, g .1))
 
 module _ (terms : Terms) (b : List ℕ) (at pos : ℕ) (r : Scan) (e : r ≡ scanned (λ _. 0) (pos + 2) (readLabel terms b 0 (placed at))) where
-  pub branch-stops : (f : Fault) (p : ℕ) → r ≡ scan.Stops f p → laid.Stops f p ≡ branchLaid pos (readLabel terms b 0 (placed at))
+  pub branch-stops : (f : Fault) (p : ℕ) → r ≡ scan.Stops p f → laid.Stops f p ≡ branchLaid pos (readLabel terms b 0 (placed at))
   unfolding branchLaid scanned
   branch-stops f p k = go (readLabel terms b 0 (placed at)) e
     where

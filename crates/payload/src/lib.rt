@@ -11,6 +11,7 @@ ghost use Rattle.measure.specs.Walk.{Laying, branchLaid, Tried};
 ghost use Rattle.action_fields.specs.Fields.{readCaught, caughtSize, bodiesAfter};
 ghost use Rattle.editions.specs.Allowed.{bounded, termsOf};
 use action_fields::scan_catch;
+use action_fields::scan_constant_pool;
 use action_fields::scan_define_function;
 use action_fields::scan_define_function_2;
 use action_fields::scan_get_url;
@@ -20,7 +21,6 @@ use action_fields::scan_wait_for_frame;
 use editions::Terms;
 use fields::u16_at;
 use lists::scan_push;
-use lists::scan_strings;
 use measure::Laid;
 use measure::flat_payload;
 use measure::function_payload;
@@ -40,7 +40,7 @@ fn scan_branch(b: &[u8], terms: Terms, at: usize, pos: BytePosition) -> Laid
     ensures { λ l. ⌜ ((o : Option Words) → l ≡ branchLaid (pos .0) (readLabel (bounded terms o) (now (b .entry)) 0 (placed at))) ⌝ }
 {
     match scan_label(b, terms, at, BytePosition(pos.0 + OpCode::U16_LEN)) {
-        Scan::Stops(f, p) => Laid::Stops(f, p),
+        Scan::Stops(p, f) => Laid::Stops(f, p),
         Scan::Ends(p, w) => Laid::Branch(p, w, u16_at(b, at)),
     }
 }
@@ -60,7 +60,7 @@ fn scan_try(
     ensures { λ l. ⌜ Tried (scanned caughtSize (pos .0) (readCaught (termsOf terms (now (words .entry)) (now (index .entry))) (now (b .entry)) (placed at))) (bodiesAfter (getD (now (b .entry)) at 0)) (pos .0) (action .0) l (now (over .entry)) (now (over .exit)) ⌝ }
 {
     match scan_catch(b, words, index, terms, at, pos) {
-        Scan::Stops(f, p) => Laid::Stops(f, p),
+        Scan::Stops(p, f) => Laid::Stops(f, p),
         Scan::Ends(p, w) => {
             let shape = b[at] as usize;
             long_payload(
@@ -105,13 +105,12 @@ pub fn scan_payload(
         ),
         OpCode::STORE_REGISTER => flat_payload(scan_bytes(b, p, 1, byte)),
         OpCode::CONSTANT_POOL => long_payload(
-            scan_strings(
+            scan_constant_pool(
                 b,
                 words,
                 index,
                 terms,
                 p,
-                0,
                 BytePosition(w.0 + OpCode::constant_pool_len(0)),
             ),
             w,

@@ -83,7 +83,7 @@ pub fn span_at(b: &[u8], words: &[u8], index: &[u32], terms: Terms, at: usize) -
     let p = at + 2;
     if names_word(terms, n) {
         let i = u16_at(b, p);
-        let word = word_at(words, index, terms.word_count, i);
+        let word = word_at(words, index, terms.word_count as usize, i);
         return Span {
             from_book: true,
             at: word.at,

@@ -30,7 +30,7 @@ meant fault.LeftOver = answers.LeftOver
 -- what was read is written in `size` bytes from position `pos` on
 unfoldable pub scanned : {A : Type 0} → (A → ℕ) → ℕ → Read A → Scan
 scanned size pos (got a next) = scan.Ends (next .at) (record { 0 = pos + size a })
-scanned size pos (bad f p) = scan.Stops (faultOf f) (p .at)
+scanned size pos (bad f p) = scan.Stops (p .at) (faultOf f)
 
 -- a scan may start at a place of b and a position: no sum overflows while each byte read is written in at most 196,608
 pub record Roomy (b : List ℕ) (at : ℕ) (pos : BytePosition) : Type 0 where

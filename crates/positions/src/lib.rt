@@ -15,11 +15,11 @@ pub enum Fault {
     LeftOver,
 }
 
-// Of a field or a list that is read: the place where reading ended and the position that writing would have reached, or a fault and
-// its place.
+// Of a field or a list that is read: the place where reading ended and the position that writing would have reached, or the place of a
+// fault, and the fault.
 pub enum Scan {
     Ends(usize, BytePosition),
-    Stops(Fault, usize),
+    Stops(usize, Fault),
 }
 
 // The number of an action, counted from 0 in sheet order through all bodies.

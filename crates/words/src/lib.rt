@@ -1,7 +1,7 @@
 // The words of a book, looked up by their numbers: `words` are the bytes of its entries, and `index` holds the places of every word,
 // or of every second, fourth, eighth or sixteenth. A string is handed back as the part of the sheet or of the book that holds it.
 ghost use mathlib.Core.Path.{_≡_};
-ghost use Prim.Native.Nat.{_+_, _*_, _≤_, _<_};
+ghost use Prim.Native.Nat.{_+_, _*_, _/_, _%_, _≤_, _<_};
 ghost use mathlib.Core.Bool.{cond};
 ghost use lib.ListN.{length, getD};
 ghost use Rattle.fields.specs.Runs.{part};
@@ -69,14 +69,34 @@ fn place_in(index: &[u32], slot: usize) -> usize
     index[slot] as usize
 }
 
-// The place of word i of so many: from the last place in the index that is not behind it, over the words between.
-fn place_of(words: &[u8], index: &[u32], count: usize, i: usize) -> usize
-    ensures { λ r. ⌜ (r ≡ placeOf (now (words .entry)) (now (index .entry)) count i) × (r < 8589934592) ⌝ }
+// The place of word i, where the index has the place of every word whose number is a multiple of `step`: from the last such place
+// that is not behind the word, over the words between.
+fn place_by(words: &[u8], index: &[u32], step: usize, i: usize) -> usize
+    requires { ⌜ (0 < step) × (step ≤ 16) ⌝ }
+    ensures { λ r. ⌜ (r ≡ placeAfter (now (words .entry)) (i % step) (getD (now (index .entry)) (i / step) 0)) × (r < 8589934592) ⌝ }
 {
-    let step = step_of(count);
     let slot = i / step;
     let left = i % step;
     place_after(words, place_in(index, slot), left)
+}
+
+// The place of word i of so many. Each step is written as a number, so that dividing by it takes no division.
+fn place_of(words: &[u8], index: &[u32], count: usize, i: usize) -> usize
+    ensures { λ r. ⌜ (r ≡ placeOf (now (words .entry)) (now (index .entry)) count i) × (r < 8589934592) ⌝ }
+{
+    if count <= 4096 {
+        return place_by(words, index, 1, i);
+    }
+    if count <= 8192 {
+        return place_by(words, index, 2, i);
+    }
+    if count <= 16384 {
+        return place_by(words, index, 4, i);
+    }
+    if count <= 32768 {
+        return place_by(words, index, 8, i);
+    }
+    place_by(words, index, 16, i)
 }
 
 // Word i of so many. One that does not stand whole is empty, so that nothing is asked of the index.

@@ -344,8 +344,8 @@ scan-body-returns t c = walk.ran-fault _ (walk.outcome-no bodyLength bodyCount b
 scan-body-scan-front-requires : (t : ℕ) → scan-body-lts.Need-scan-front-requires (scan-body-calls t) (scan-body-at t) scan-body.Post
 scan-body-scan-front-requires t c κs = c .before .before .before .before .before .before .before .pre .1 .roomy .inside
 
-scan-body-enum-known-f : (t : ℕ) → scan-body-lts.Need-enum-known-f (scan-body-calls t) (scan-body-at t) scan-body.Post
-scan-body-enum-known-f t c = search needs
+scan-body-enum-known-p : (t : ℕ) → scan-body-lts.Need-enum-known-p (scan-body-calls t) (scan-body-at t) scan-body.Post
+scan-body-enum-known-p t c = search needs
 
 scan-body-enum-known-front : (t : ℕ) → scan-body-lts.Need-enum-known-front (scan-body-calls t) (scan-body-at t) scan-body.Post
 scan-body-enum-known-front t c = search needs
@@ -361,7 +361,7 @@ scan-body-scan-actions-requires t c κs = (
 )
 
 scan-body-returns-2 : (t : ℕ) → scan-body-lts.Need-returns-2 (scan-body-calls t) (scan-body-at t) scan-body.Post
-scan-body-returns-2 t c = walk.body-stops _ _ _ _ _ _ _ refl _ _ _ _ _ (c .before .before .before .before .if1 .left) (c .before .before .before .scan-front .ensures _) (c .before .f .given .1)
+scan-body-returns-2 t c = walk.body-stops _ _ _ _ _ _ _ refl _ _ _ _ _ (c .before .before .before .before .if1 .left) (c .before .before .before .scan-front .ensures _) (c .before .p .given .1)
 
 scan-body-same-length : (t : ℕ) → scan-body-lts.Need-same-length (scan-body-calls t) (scan-body-at t) scan-body.Post
 scan-body-same-length t c = c .before .before .before .before .before .before .scan-actions .kept .1 .1 .1 .1 .1 .1 .1 .1 .1 .1 .0
@@ -463,7 +463,7 @@ pub +scan-action+scan-actions+scan-bodies+scan-body-spec : {M : Type 1} → stat
     scan-body.Post
     (scan-body-returns t)
     (scan-body-scan-front-requires t)
-    (scan-body-enum-known-f t)
+    (scan-body-enum-known-p t)
     (scan-body-enum-known-front t)
     (scan-body-sub-scan-actions t)
     (scan-body-scan-actions-requires t)

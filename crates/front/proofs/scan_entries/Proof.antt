@@ -7,6 +7,7 @@ use native.Mathlib.Omega.{arith}
 use mathlib.Core.Path.{_≡_, refl, _∙_}
 use mathlib.Core.Option.{Option}
 use Rattle.editions.specs.Allowed.{bounded}
+use borrow.Author.Needs.{needs}
 use Rattle.front.proofs.scan_entries.Statement.{statement}
 use Rattle.front.proofs.scan_entries.Tie as tie
 
@@ -30,6 +31,9 @@ returns c o = entries-cut _ _ _ _ _ _ (c .before .loop-test .taken) (omega arith
 u16-at-requires : tie.Need-u16-at-requires Inv-loop μ-loop
 u16-at-requires c κs = omega arith
 
+cast-if2 : tie.Need-cast-if2 Inv-loop μ-loop
+cast-if2 c = search needs
+
 returns-2 : tie.Need-returns-2 Inv-loop μ-loop
 unfolding faultOf
 returns-2 c o = entries-big _ _ _ _ _ _ (c .before .before .before .before .loop-test .taken) (omega arith) _ (c .before .before .u16-at .ensures .0) (c .if2 .taken) ∙ c .before .before .before .before .before .loop .inv .0 o
@@ -41,8 +45,8 @@ returns-3 c o = entries-low _ _ _ _ _ _ (c .before .before .before .before .befo
 sub-if4 : tie.Need-sub-if4 Inv-loop μ-loop
 sub-if4 c = omega arith
 
-add-t17 : tie.Need-add-t17 Inv-loop μ-loop
-add-t17 c = omega arith
+add-t16 : tie.Need-add-t16 Inv-loop μ-loop
+add-t16 c = omega arith
 
 returns-4 : tie.Need-returns-4 Inv-loop μ-loop
 unfolding faultOf
@@ -76,10 +80,11 @@ scan-entries-spec =
     sub-if1
     returns
     u16-at-requires
+    cast-if2
     returns-2
     returns-3
     sub-if4
-    add-t17
+    add-t16
     returns-4
     add-least
     add-p

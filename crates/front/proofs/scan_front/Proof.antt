@@ -22,20 +22,20 @@ u16-at-requires c κs = search needs
 scan-entries-requires : tie.Need-scan-entries-requires
 scan-entries-requires c κs = search needs
 
-enum-known-f : tie.Need-enum-known-f
-enum-known-f c = search needs
-
 enum-known-p : tie.Need-enum-known-p
 enum-known-p c = search needs
 
+enum-known-p-2 : tie.Need-enum-known-p-2
+enum-known-p-2 c = search needs
+
 scan-bytes-requires : tie.Need-scan-bytes-requires
-scan-bytes-requires c κs = front-place _ _ _ _ (omega arith) _ (c .before .before .before .before .u16-at .ensures .0) _ (c .before .before .before .scan-entries .ensures none) _ _ (c .before .p .given .1)
+scan-bytes-requires c κs = front-place _ _ _ _ (omega arith) _ (c .before .before .before .before .u16-at .ensures .0) _ (c .before .before .before .scan-entries .ensures none) _ _ (c .before .p2 .given .1)
 
 returns-2 : tie.Need-returns-2
-returns-2 c o = front-stops _ _ _ _ (omega arith) _ (c .before .before .before .before .u16-at .ensures .0) _ (c .before .before .before .scan-entries .ensures o) _ _ (c .before .f .given .1)
+returns-2 c o = front-stops _ _ _ _ (omega arith) _ (c .before .before .before .before .u16-at .ensures .0) _ (c .before .before .before .scan-entries .ensures o) _ _ (c .before .p .given .1)
 
 returns-3 : tie.Need-returns-3
-returns-3 c o = front-ends _ _ _ _ (omega arith) _ (c .before .before .before .before .before .u16-at .ensures .0) _ (c .before .before .before .before .scan-entries .ensures o) _ _ _ (c .before .before .p .given .1) (c .scan-bytes .ensures)
+returns-3 c o = front-ends _ _ _ _ (omega arith) _ (c .before .before .before .before .before .u16-at .ensures .0) _ (c .before .before .before .before .scan-entries .ensures o) _ _ _ (c .before .before .p2 .given .1) (c .scan-bytes .ensures)
 
 pub scan-front-spec : {M : Type 1} → statement M
 scan-front-spec =
@@ -46,8 +46,8 @@ scan-front-spec =
     add-scan-entries
     u16-at-requires
     scan-entries-requires
-    enum-known-f
     enum-known-p
+    enum-known-p-2
     scan-bytes-requires
     returns-2
     returns-3)

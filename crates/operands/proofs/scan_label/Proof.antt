@@ -13,6 +13,9 @@ returns : tie.Need-returns
 unfolding faultOf
 returns c o = stops _ _ (reading.label-out _ _ _ 0 (omega arith))
 
+cast-if2 : tie.Need-cast-if2
+cast-if2 c = search needs
+
 u16-at-requires : tie.Need-u16-at-requires
 u16-at-requires c κs = search needs
 
@@ -20,11 +23,11 @@ returns-2 : tie.Need-returns-2
 unfolding faultOf
 returns-2 c o = stops _ _ (reading.label-big _ _ _ 0 (omega arith) (omega arith))
 
-add-t6 : tie.Need-add-t6
-add-t6 c = search needs
+add-t5 : tie.Need-add-t5
+add-t5 c = search needs
 
 returns-3 : tie.Need-returns-3
 returns-3 c o = ends _ _ (reading.label-in _ _ _ 0 (omega arith) (omega arith) (omega arith)) (omega arith)
 
 pub scan-label-spec : {M : Type 1} → statement M
-scan-label-spec = tie.close (tie.spec sub-if1 returns u16-at-requires returns-2 add-t6 returns-3)
+scan-label-spec = tie.close (tie.spec sub-if1 returns cast-if2 u16-at-requires returns-2 add-t5 returns-3)

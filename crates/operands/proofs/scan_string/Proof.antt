@@ -24,12 +24,15 @@ add-p c = search needs
 names-word-requires : tie.Need-names-word-requires
 names-word-requires c κs = search needs
 
+cast-scan-word : tie.Need-cast-scan-word
+cast-scan-word c = search needs
+
 scan-word-requires : tie.Need-scan-word-requires
 scan-word-requires c κs = search needs
 
 returns-2 : tie.Need-returns-2
 returns-2 c =
-    reading.as-word _ _ _ _ _ _ _ _ (omega arith) (c .before .before .before .u16-at .ensures .0) (sym (c .before .before .names-word .ensures) ∙ c .before .if2 .taken) (c .scan-word .ensures)
+    reading.as-word _ _ _ _ _ _ _ _ (omega arith) (c .before .before .before .before .u16-at .ensures .0) (sym (c .before .before .before .names-word .ensures) ∙ c .before .before .if2 .taken) (c .scan-word .ensures)
 
 scan-plain-requires : tie.Need-scan-plain-requires
 scan-plain-requires c κs = search needs
@@ -47,6 +50,7 @@ scan-string-spec =
     u16-at-requires
     add-p
     names-word-requires
+    cast-scan-word
     scan-word-requires
     returns-2
     scan-plain-requires

@@ -2,7 +2,7 @@
 use Prim.Native.Nat.{_≤_}
 use native.Mathlib.Omega.{arith}
 use lib.ListN.{length}
-use Rattle.book.proofs.Books.{good-within, good-words, ill-book}
+use Rattle.book.proofs.Books.{good-within, good-count, good-words, ill-book}
 use Rattle.pack.proofs.Packs as packs
 use borrow.Author.Needs.{needs}
 use Rattle.pack.proofs.pack_third.Statement.{statement}
@@ -37,7 +37,7 @@ slice-aggregate-pack-with : tie.Need-slice-aggregate-pack-with
 slice-aggregate-pack-with c = search needs
 
 pack-with-requires : tie.Need-pack-with-requires
-pack-with-requires c κs = c .before .before .before .before .before .before .before .before .before .before .before .before .pre
+pack-with-requires c κs = (c .before .before .before .before .before .before .before .before .before .before .before .before .pre, good-count _ _ _ _ _ (c .before .before .before .before .before .before .before .check-book .ensures) (c .before .before .before .before .from .given .1))
 
 returns : tie.Need-returns
 returns c = packs.ill-packed _ _ _ _ _ (ill-book _ _ (c .before .before .before .check-book .ensures) (c .enum-told .given .1))

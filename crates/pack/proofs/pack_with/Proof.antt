@@ -8,11 +8,11 @@ use Rattle.pack.proofs.pack_with.Statement.{statement}
 use Rattle.pack.proofs.pack_with.Tie as tie
 
 third-terms-requires : tie.Need-third-terms-requires
-third-terms-requires c κs = search needs
+third-terms-requires c κs = c .before .before .before .before .pre .1
 
 pack-wide-requires : tie.Need-pack-wide-requires
 unfolding edition3
-pack-wide-requires c κs = (c .before .before .before .before .before .before .pre, ap (λ (k : Terms). k .labelBound) (c .before .third-terms .ensures [] []))
+pack-wide-requires c κs = (c .before .before .before .before .before .before .pre .0, ap (λ (k : Terms). k .labelBound) (c .before .third-terms .ensures [] []))
 
 same-length : tie.Need-same-length
 same-length c = search needs

@@ -42,13 +42,13 @@ constant-pool-len-requires c κs = search needs
 add-t23 : tie.Need-add-t23
 add-t23 c = search needs
 
-scan-strings-requires : tie.Need-scan-strings-requires
-scan-strings-requires c κs =
+scan-constant-pool-requires : tie.Need-scan-constant-pool-requires
+scan-constant-pool-requires c κs =
     let h = c .before .before .before .before .before .before .before .before .before .before .pre .3 in
-    (record { bytes = h .bytes; inside = omega arith; room = omega (arith, h .room, c .before .constant-pool-len .ensures) }, omega arith)
+    record { bytes = h .bytes; inside = omega arith; room = omega (arith, h .room, c .before .constant-pool-len .ensures) }
 
 long-payload-requires-2 : tie.Need-long-payload-requires-2
-long-payload-requires-2 c κs = (c .before .before .before .before .before .before .before .before .before .before .before .before .pre .2, lay.scanned-from-start _ _ _ _ _ (c .before .scan-strings .ensures) (omega arith))
+long-payload-requires-2 c κs = (c .before .before .before .before .before .before .before .before .before .before .before .before .pre .2, lay.scanned-from-start _ _ _ _ _ (c .before .scan-constant-pool .ensures) (omega arith))
 
 scan-wait-for-frame-requires : tie.Need-scan-wait-for-frame-requires
 scan-wait-for-frame-requires c κs = search needs
@@ -140,7 +140,7 @@ same-length-2 : tie.Need-same-length-2
 same-length-2 c = search needs
 
 returns-4 : tie.Need-returns-4
-returns-4 c = arms.arm-constant-pool _ _ _ _ _ _ _ _ _ _ _ (c .before .before .before .before .before .before .before .match .keys4) (omega (arith, c .before .before .before .before .before .before .constant-pool-len .ensures)) (c .before .before .before .before .scan-strings .ensures) (c .before .before .long-payload2 .ensures .0) (c .before .before .long-payload2 .ensures .1)
+returns-4 c = arms.arm-constant-pool _ _ _ _ _ _ _ _ _ _ _ (c .before .before .before .before .before .before .before .match .keys4) (omega (arith, c .before .before .before .before .before .before .constant-pool-len .ensures)) (c .before .before .before .before .scan-constant-pool .ensures) (c .before .before .long-payload2 .ensures .0) (c .before .before .long-payload2 .ensures .1)
 
 returns-5 : tie.Need-returns-5
 returns-5 c = arms.arm-wait-for-frame _ _ _ _ _ _ _ _ _ (c .before .before .match .keys5) (c .before .scan-wait-for-frame .ensures) (c .flat-payload3 .ensures)
@@ -221,7 +221,7 @@ scan-payload-spec =
     flat-payload-requires-2
     constant-pool-len-requires
     add-t23
-    scan-strings-requires
+    scan-constant-pool-requires
     long-payload-requires-2
     scan-wait-for-frame-requires
     flat-payload-requires-3

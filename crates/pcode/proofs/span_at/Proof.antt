@@ -48,14 +48,17 @@ names-word-requires c κs = search needs
 u16-at-requires-2 : tie.Need-u16-at-requires-2
 u16-at-requires-2 c κs = word-room _ _ _ _ _ _ (c .before .before .u16-at .ensures .0) (sym (c .before .names-word .ensures) ∙ c .if1 .taken) (c .before .before .before .before .before .before .pre)
 
+cast-word-at : tie.Need-cast-word-at
+cast-word-at c = search needs
+
 word-at-requires : tie.Need-word-at-requires
 word-at-requires c κs = search needs
 
 add-t11 : tie.Need-add-t11
-add-t11 c = omega (arith, word-room _ _ _ _ _ _ (c .before .before .before .before .u16-at .ensures .0) (sym (c .before .before .before .names-word .ensures) ∙ c .before .before .if1 .taken) (c .before .before .before .before .before .before .before .before .pre))
+add-t11 c = omega (arith, word-room _ _ _ _ _ _ (c .before .before .before .before .before .u16-at .ensures .0) (sym (c .before .before .before .before .names-word .ensures) ∙ c .before .before .before .if1 .taken) (c .before .before .before .before .before .before .before .before .before .pre))
 
 returns : tie.Need-returns
-returns c = is-word _ _ _ _ _ _ (c .before .before .before .before .u16-at .ensures .0) _ _ (sym (c .before .before .before .names-word .ensures) ∙ c .before .before .if1 .taken) (c .before .u16-at2 .ensures .0) (c .word-at .ensures .is)
+returns c = is-word _ _ _ _ _ _ (c .before .before .before .before .before .u16-at .ensures .0) _ _ (sym (c .before .before .before .before .names-word .ensures) ∙ c .before .before .before .if1 .taken) (c .before .before .u16-at2 .ensures .0) (c .word-at .ensures .is)
 
 add-t12 : tie.Need-add-t12
 add-t12 c = omega (arith, plain-room _ _ _ _ _ _ (c .before .before .u16-at .ensures .0) (sym (c .before .names-word .ensures) ∙ c .if1 .left) (c .before .before .before .before .before .before .pre))
@@ -71,6 +74,7 @@ span-at-spec =
     add-p
     names-word-requires
     u16-at-requires-2
+    cast-word-at
     word-at-requires
     add-t11
     returns

@@ -5,7 +5,7 @@ use Rattle.layout.specs.Read.{Terms, edition3}
 use Prim.Native.Nat.{_≤_}
 use native.Mathlib.Omega.{arith}
 use lib.ListN.{length}
-use Rattle.book.proofs.Books.{good-within}
+use Rattle.book.proofs.Books.{good-within, good-count}
 use borrow.Author.Needs.{needs}
 use Rattle.read_sheets.proofs.answer_third.Statement.{statement}
 use Rattle.read_sheets.proofs.answer_third.Tie as tie
@@ -42,7 +42,7 @@ slice-aggregate-answer-main : tie.Need-slice-aggregate-answer-main
 slice-aggregate-answer-main c = search needs
 
 third-terms-requires : tie.Need-third-terms-requires
-third-terms-requires c κs = search needs
+third-terms-requires c κs = good-count _ _ _ _ _ (c .before .before .before .before .before .before .check-book .ensures) (c .before .before .before .from .given .1)
 
 answer-main-requires : tie.Need-answer-main-requires
 unfolding edition3
