@@ -359,10 +359,13 @@ module _ (terms : Terms) (b : List ℕ) (d at : ℕ) (pos : BytePosition) (numbe
             (measured-of actionSize count actionTrace here (o .1) ∙ rw (← (o .2), ← (o .3), one-byte (o .0) here (omega (arith, o .2))))
         go false e = no-fault _ (ran-bad (did-unknown terms b d at pos home number (tables [] []) [] opcode-inside e) refl)
 
-  module _ (l : Laid) (over over′ : List ℕ)
-      (y : Laying (terms .labelBound) (λ inner. readFieldsIf terms b inner (opcodeOf (getD b at 0)) (placed at) (placed (at + 1))) at (length b) (pos .0) (number .0) over over′ l) where
+  module _ (op : ℕ) (there : op ≡ getD b at 0) (l : Laid) (over over′ : List ℕ)
+      (x : Laying (terms .labelBound) (λ inner. readFieldsIf terms b inner (opcodeOf op) (placed at) (placed (at + 1))) at (length b) (pos .0) (number .0) over over′ l) where
     abbrev Here : Laid → Type 0
     Here l = Laying (terms .labelBound) (λ inner. readFieldsIf terms b inner (opcodeOf (getD b at 0)) (placed at) (placed (at + 1))) at (length b) (pos .0) (number .0) over over′ l
+
+    y : Here l
+    y = rw there at x
 
     fields : readAction terms b (behind 1 (readBody terms b d)) (placed at) ≡ readFieldsIf terms b (behind 1 (readBody terms b d)) (opcodeOf (getD b at 0)) (placed at) (placed (at + 1))
     fields = action-in terms b d at opcode-inside

@@ -5,7 +5,7 @@ ghost use mathlib.Core.Path.{_≡_};
 ghost use mathlib.Core.Bool.{true, _&&_, not};
 ghost use Prim.Native.Nat.{_+_, _≤_, _<_};
 ghost use lib.Dec.{leb};
-ghost use lib.ListN.{length};
+ghost use lib.ListN.{length, getD};
 ghost use Rattle.layout.specs.Tree.{count, bodyCount};
 ghost use Rattle.layout.specs.Read.{placed, behind, readAction, readBody};
 ghost use Rattle.layout.specs.Lengths.{total};
@@ -229,13 +229,50 @@ fn judge_action(
     ensures { λ r. ⌜ Judging (modeOf mode) (now (tab .entry)) (now (homes .entry)) (measured actionSize count actionTrace (standing pos home number) (readAction (termsOf terms (now (words .entry)) (now (index .entry))) (now (b .entry)) (behind 1 (readBody (termsOf terms (now (words .entry)) (now (index .entry))) (now (b .entry)) depth)) (placed at))) r ⌝ }
 {
     let op = b[at];
-    let later = number.0 + 1;
-    let k = ActionNumber(later);
     if op < 0x80 {
         let next = at + 1;
         let after = pos.0 + OpCode::SMALL_LEN;
-        return Judged::Ends(next, BytePosition(after), k);
+        let later = number.0 + 1;
+        return Judged::Ends(next, BytePosition(after), ActionNumber(later));
     }
+    judge_large(
+        b,
+        words,
+        index,
+        terms,
+        op,
+        at,
+        depth,
+        pos,
+        home,
+        number,
+        mode,
+        tab,
+        homes,
+    )
+}
+
+// An action from opcode 80 on: its branch, or its bodies, of which `depth` may stand one in another.
+fn judge_large(
+    b: &[u8],
+    words: &[u8],
+    index: &[u32],
+    terms: Terms,
+    op: u8,
+    at: usize,
+    depth: usize,
+    pos: BytePosition,
+    home: BytePosition,
+    number: ActionNumber,
+    mode: Mode,
+    tab: &[usize],
+    homes: &[usize],
+) -> Judged
+    requires { ⌜ (128 ≤ op) × (op ≡ getD (now b) at 0) × Judgeable (termsOf terms (now words) (now index)) (readAction (termsOf terms (now words) (now index)) (now b) (behind 1 (readBody (termsOf terms (now words) (now index)) (now b) depth)) (placed at)) (now b) at pos (number .0) (modeOf mode) (now tab) (now homes) ⌝ }
+    ensures { λ r. ⌜ Judging (modeOf mode) (now (tab .entry)) (now (homes .entry)) (measured actionSize count actionTrace (standing pos home number) (readAction (termsOf terms (now (words .entry)) (now (index .entry))) (now (b .entry)) (behind 1 (readBody (termsOf terms (now (words .entry)) (now (index .entry))) (now (b .entry)) depth)) (placed at))) r ⌝ }
+{
+    let later = number.0 + 1;
+    let k = ActionNumber(later);
     let mut over = [0; 3];
     match scan_payload(b, words, index, terms, op, at, pos, number, &mut over) {
         Laid::Stops(_, p) => Judged::Ends(p, pos, number),

@@ -16,27 +16,33 @@ use borrow.Fn.Kinds.{In}
 use borrow.Fn.PlainCycle.{Measures, is, falls, and}
 use Rattle.judge.proofs.judge_action.Reads as judge-action
 use Rattle.judge.proofs.judge_action.Kinds as judge-action-kinds
-use Rattle.judge.proofs.+judge_action+judge_bodies+judge_body.Lts-judge_action as judge-action-lts
+use Rattle.judge.proofs.+judge_action+judge_bodies+judge_body+judge_large.Lts-judge_action as judge-action-lts
 use Rattle.judge.proofs.judge_bodies.Reads as judge-bodies
 use Rattle.judge.proofs.judge_bodies.Kinds as judge-bodies-kinds
-use Rattle.judge.proofs.+judge_action+judge_bodies+judge_body.Lts-judge_bodies as judge-bodies-lts
+use Rattle.judge.proofs.+judge_action+judge_bodies+judge_body+judge_large.Lts-judge_bodies as judge-bodies-lts
 use Rattle.judge.proofs.judge_body.Reads as judge-body
 use Rattle.judge.proofs.judge_body.Kinds as judge-body-kinds
-use Rattle.judge.proofs.+judge_action+judge_bodies+judge_body.Lts-judge_body as judge-body-lts
+use Rattle.judge.proofs.+judge_action+judge_bodies+judge_body+judge_large.Lts-judge_body as judge-body-lts
+use Rattle.judge.proofs.judge_large.Reads as judge-large
+use Rattle.judge.proofs.judge_large.Kinds as judge-large-kinds
+use Rattle.judge.proofs.+judge_action+judge_bodies+judge_body+judge_large.Lts-judge_large as judge-large-lts
 use Rattle.fields.proofs.u16_at.Reads as u16-at-reads
 use Rattle.judge.proofs.judge_branch.Reads as judge-branch-reads
 use Rattle.payload.proofs.scan_payload.Reads as scan-payload-reads
-use Rattle.judge.proofs.+judge_action+judge_bodies+judge_body.{statement}
-use Rattle.judge.proofs.+judge_action+judge_bodies+judge_body.Tie.{close}
+use Rattle.judge.proofs.+judge_action+judge_bodies+judge_body+judge_large.{statement}
+use Rattle.judge.proofs.+judge_action+judge_bodies+judge_body+judge_large.Tie.{close}
 
 abbrev μ-judge-action : Measures 5 judge-action-kinds.ps ℕ
-μ-judge-action κs a = a .1 .1 .1 .1 .1 .0 * 4 + 2
+μ-judge-action κs a = a .1 .1 .1 .1 .1 .0 * 4 + 3
 
 abbrev μ-judge-bodies : Measures 5 judge-bodies-kinds.ps ℕ
 μ-judge-bodies κs a = a .1 .1 .1 .1 .1 .0 * 4 + 1
 
 abbrev μ-judge-body : Measures 5 judge-body-kinds.ps ℕ
 μ-judge-body κs a = a .1 .1 .1 .1 .1 .0 * 4
+
+abbrev μ-judge-large : Measures 5 judge-large-kinds.ps ℕ
+μ-judge-large κs a = a .1 .1 .1 .1 .1 .1 .0 * 4 + 2
 
 abbrev judge-action-at : ℕ → In 5 judge-action-kinds.ps
 judge-action-at t =
@@ -70,6 +76,18 @@ abbrev judge-body-below : ℕ → In 5 judge-body-kinds.ps
 judge-body-below t =
     and 5 judge-body-kinds.ps (falls 5 judge-body-kinds.ps _<_ μ-judge-body t) judge-body.Pre
 
+abbrev judge-large-at : ℕ → In 5 judge-large-kinds.ps
+judge-large-at t =
+    and 5 judge-large-kinds.ps (is 5 judge-large-kinds.ps μ-judge-large t) judge-large.Pre
+
+abbrev judge-large-below : ℕ → In 5 judge-large-kinds.ps
+judge-large-below t =
+    and
+    5
+    judge-large-kinds.ps
+    (falls 5 judge-large-kinds.ps _<_ μ-judge-large t)
+    judge-large.Pre
+
 -- what judge-body is told of the functions that it calls
 abbrev judge-body-calls : ℕ → judge-body-lts.Claims
 judge-body-calls t = (u16-at-reads.Asked, u16-at-reads.Learnt, judge-action-below t, judge-action.Post)
@@ -80,71 +98,32 @@ judge-bodies-calls t = (judge-body-below t, judge-body.Post)
 
 -- what judge-action is told of the functions that it calls
 abbrev judge-action-calls : ℕ → judge-action-lts.Claims
-judge-action-calls t = (scan-payload-reads.Asked, scan-payload-reads.Learnt, judge-branch-reads.Asked, judge-branch-reads.Learnt, judge-bodies-below t, judge-bodies.Post)
+judge-action-calls t = (judge-large-below t, judge-large.Post)
+
+-- what judge-large is told of the functions that it calls
+abbrev judge-large-calls : ℕ → judge-large-lts.Claims
+judge-large-calls t = (scan-payload-reads.Asked, scan-payload-reads.Learnt, judge-branch-reads.Asked, judge-branch-reads.Learnt, judge-bodies-below t, judge-bodies.Post)
 
 judge-action-shared-slice-read-op : (t : ℕ) → judge-action-lts.Need-shared-slice-read-op (judge-action-calls t) (judge-action-at t) judge-action.Post
 judge-action-shared-slice-read-op t c = laws.opcode-inside _ _ _ _ _ _ _ _ _ (c .before .before .before .before .before .before .pre .1)
 
-judge-action-add-later : (t : ℕ) → judge-action-lts.Need-add-later (judge-action-calls t) (judge-action-at t) judge-action.Post
-judge-action-add-later t c = let p = c .before .before .before .before .before .before .before .pre .1 in omega (arith, p .before, p .roomy .room, p .roomy .inside)
-
 judge-action-add-next : (t : ℕ) → judge-action-lts.Need-add-next (judge-action-calls t) (judge-action-at t) judge-action.Post
-judge-action-add-next t c = omega (arith, laws.opcode-inside _ _ _ _ _ _ _ _ _ (c .before .before .before .before .before .before .before .before .pre .1), c .before .before .before .before .before .before .before .before .pre .1 .roomy .room)
+judge-action-add-next t c = let p = c .before .before .before .before .before .before .before .pre .1 in omega (arith, laws.opcode-inside _ _ _ _ _ _ _ _ _ p, p .roomy .room)
 
 judge-action-add-after : (t : ℕ) → judge-action-lts.Need-add-after (judge-action-calls t) (judge-action-at t) judge-action.Post
-judge-action-add-after t c = omega (arith, c .before .before .before .before .before .before .before .before .before .pre .1 .roomy .room)
+judge-action-add-after t c = omega (arith, c .before .before .before .before .before .before .before .before .pre .1 .roomy .room)
+
+judge-action-add-later : (t : ℕ) → judge-action-lts.Need-add-later (judge-action-calls t) (judge-action-at t) judge-action.Post
+judge-action-add-later t c = let p = c .before .before .before .before .before .before .before .before .before .pre .1 in omega (arith, p .before, p .roomy .room, p .roomy .inside)
 
 judge-action-returns : (t : ℕ) → judge-action-lts.Need-returns (judge-action-calls t) (judge-action-at t) judge-action.Post
-judge-action-returns t c = laws.small-passed _ _ _ _ _ _ _ _ _ (c .before .before .before .before .before .before .before .before .before .pre .1) _ (c .before .if1 .taken)
+judge-action-returns t c = laws.small-passed _ _ _ _ _ _ _ _ _ (c .before .before .before .before .before .before .before .before .before .pre .1) _ (c .before .before .if1 .taken)
 
-judge-action-slice-aggregate-scan-payload :
-    (t : ℕ) → judge-action-lts.Need-slice-aggregate-scan-payload (judge-action-calls t) (judge-action-at t) judge-action.Post
-judge-action-slice-aggregate-scan-payload t c = search needs
-
-judge-action-scan-payload-requires : (t : ℕ) → judge-action-lts.Need-scan-payload-requires (judge-action-calls t) (judge-action-at t) judge-action.Post
-judge-action-scan-payload-requires t c κs = (c .before .if1 .left, laws.opcode-inside _ _ _ _ _ _ _ _ _ (c .before .before .before .before .before .before .before .before .before .pre .1), refl, c .before .before .before .before .before .before .before .before .before .pre .1 .roomy)
-
-judge-action-enum-known-p : (t : ℕ) → judge-action-lts.Need-enum-known-p (judge-action-calls t) (judge-action-at t) judge-action.Post
-judge-action-enum-known-p t c = search needs
-
-judge-action-enum-known-p-2 : (t : ℕ) → judge-action-lts.Need-enum-known-p-2 (judge-action-calls t) (judge-action-at t) judge-action.Post
-judge-action-enum-known-p-2 t c = search needs
-
-judge-action-enum-known-p-3 : (t : ℕ) → judge-action-lts.Need-enum-known-p-3 (judge-action-calls t) (judge-action-at t) judge-action.Post
-judge-action-enum-known-p-3 t c = search needs
-
-judge-action-add-operand : (t : ℕ) → judge-action-lts.Need-add-operand (judge-action-calls t) (judge-action-at t) judge-action.Post
-judge-action-add-operand t c = omega (arith, c .before .before .before .before .before .before .before .before .before .before .before .before .before .before .before .pre .1 .roomy .room)
-
-judge-action-judge-branch-requires : (t : ℕ) → judge-action-lts.Need-judge-branch-requires (judge-action-calls t) (judge-action-at t) judge-action.Post
-judge-action-judge-branch-requires t c κs = let q = laws.branch-asks _ _ _ _ _ _ _ _ _ (c .before .before .before .before .before .before .before .before .before .before .before .before .before .before .before .pre .1) _ _ _ (c .before .before .before .before .before .scan-payload .ensures) _ _ _ (c .before .before .p3 .given .1) in let j = c .before .before .before .before .before .before .before .before .before .before .before .before .before .before .before .pre .1 in (omega (arith, q .0, j .slots), λ e. omega (arith, q .0, j .lent e), j .small, omega (arith, q .1), omega (arith, j .before, j .roomy .room, j .roomy .inside))
-
-judge-action-enum-known-p-4 : (t : ℕ) → judge-action-lts.Need-enum-known-p-4 (judge-action-calls t) (judge-action-at t) judge-action.Post
-judge-action-enum-known-p-4 t c = search needs
-
-judge-action-judge-bodies-requires : (t : ℕ) → judge-action-lts.Need-judge-bodies-requires (judge-action-calls t) (judge-action-at t) judge-action.Post
-judge-action-judge-bodies-requires t c κs = (omega arith, laws.bodies-asks _ _ _ _ _ _ _ _ _ (c .before .before .before .before .before .before .before .before .before .before .before .before .before .before .pre .1) _ _ _ (c .before .before .before .before .scan-payload .ensures) _ _ _ (c .before .p4 .given .1))
-
-judge-action-enum-known-p-5 : (t : ℕ) → judge-action-lts.Need-enum-known-p-5 (judge-action-calls t) (judge-action-at t) judge-action.Post
-judge-action-enum-known-p-5 t c = search needs
-
-judge-action-judge-bodies-requires-2 : (t : ℕ) → judge-action-lts.Need-judge-bodies-requires-2 (judge-action-calls t) (judge-action-at t) judge-action.Post
-judge-action-judge-bodies-requires-2 t c κs = (omega arith, laws.function-asks _ _ _ _ _ _ _ _ _ (c .before .before .before .before .before .before .before .before .before .before .before .before .before .before .pre .1) _ _ _ (c .before .before .before .before .scan-payload .ensures) _ _ (c .before .p5 .given .1))
+judge-action-judge-large-requires : (t : ℕ) → judge-action-lts.Need-judge-large-requires (judge-action-calls t) (judge-action-at t) judge-action.Post
+judge-action-judge-large-requires t c κs = (omega arith, (c .if1 .left, refl, c .before .before .before .before .before .before .before .pre .1))
 
 judge-action-returns-2 : (t : ℕ) → judge-action-lts.Need-returns-2 (judge-action-calls t) (judge-action-at t) judge-action.Post
-judge-action-returns-2 t c = laws.never-stops _ _ _ _ _ _ _ _ _ (c .before .before .before .before .before .before .before .before .before .before .before .before .before .before .pre .1) _ _ _ (c .before .before .before .before .scan-payload .ensures) _ _ (c .before .p .given .1)
-
-judge-action-returns-3 : (t : ℕ) → judge-action-lts.Need-returns-3 (judge-action-calls t) (judge-action-at t) judge-action.Post
-judge-action-returns-3 t c = laws.flat-passed _ _ _ _ _ _ _ _ _ (c .before .before .before .before .before .before .before .before .before .before .before .before .before .before .pre .1) _ _ _ (c .before .before .before .before .scan-payload .ensures) _ _ _ (c .before .p2 .given .1)
-
-judge-action-returns-4 : (t : ℕ) → judge-action-lts.Need-returns-4 (judge-action-calls t) (judge-action-at t) judge-action.Post
-judge-action-returns-4 t c = laws.branch-found _ _ _ _ _ _ _ _ _ (c .before .before .before .before .before .before .before .before .before .before .before .before .before .before .before .before .pre .1) _ _ _ (c .before .before .before .before .before .before .scan-payload .ensures) _ _ _ _ _ (c .before .before .before .p3 .given .1) (c .judge-branch .ensures)
-
-judge-action-returns-5 : (t : ℕ) → judge-action-lts.Need-returns-5 (judge-action-calls t) (judge-action-at t) judge-action.Post
-judge-action-returns-5 t c = laws.bodies-found _ _ _ _ _ _ _ _ _ (c .before .before .before .before .before .before .before .before .before .before .before .before .before .before .before .pre .1) _ _ _ (c .before .before .before .before .before .scan-payload .ensures) _ _ _ _ _ (c .before .before .p4 .given .1) (c .judge-bodies .ensures)
-
-judge-action-returns-6 : (t : ℕ) → judge-action-lts.Need-returns-6 (judge-action-calls t) (judge-action-at t) judge-action.Post
-judge-action-returns-6 t c = laws.function-found _ _ _ _ _ _ _ _ _ (c .before .before .before .before .before .before .before .before .before .before .before .before .before .before .before .pre .1) _ _ _ (c .before .before .before .before .before .scan-payload .ensures) _ _ _ _ (c .before .before .p5 .given .1) (c .judge-bodies2 .ensures)
+judge-action-returns-2 t c = c .judge-large .ensures
 
 abbrev judge-bodies-Inv-loop : judge-bodies-lts.InvT-loop
 judge-bodies-Inv-loop b words index terms at depth home n mode tab homes left₀ p₀ w₀ action₀ left p w action = laws.Inner (termsOf terms words index) b depth (terms-short terms words index) home (modeOf mode) tab homes (λ r. Judging (modeOf mode) tab homes (measured (total bodyLength) (total bodyCount) inBodies (standing w₀ home action₀) (inTurn (readBody (termsOf terms words index) b depth) n (placed at))) r) left p w action
@@ -233,31 +212,68 @@ judge-body-loop-again t c = loops.loop-more _ _ _ _ _ _ _ _ _ _ _ _ _ _ _ _ _ (c
 judge-body-returns-2 : (t : ℕ) → judge-body-lts.Need-returns-2 (judge-body-calls t) (judge-body-at t) judge-body.Post judge-body-Inv-loop judge-body-μ-loop
 judge-body-returns-2 t c = loops.loop-end _ _ _ _ _ _ _ _ _ _ _ _ _ _ _ _ _ (c .before .loop .inv) (c .loop-test .left)
 
-pub +judge-action+judge-bodies+judge-body-spec : {M : Type 1} → statement M
-+judge-action+judge-bodies+judge-body-spec =
-    close μ-judge-action μ-judge-bodies μ-judge-body (λ t. judge-action-lts.spec (judge-action-calls t) (judge-action-at t)
+judge-large-add-later : (t : ℕ) → judge-large-lts.Need-add-later (judge-large-calls t) (judge-large-at t) judge-large.Post
+judge-large-add-later t c = let p = c .before .before .before .before .before .before .pre .1 .2 in omega (arith, p .before, p .roomy .room, p .roomy .inside)
+
+judge-large-slice-aggregate-scan-payload : (t : ℕ) → judge-large-lts.Need-slice-aggregate-scan-payload (judge-large-calls t) (judge-large-at t) judge-large.Post
+judge-large-slice-aggregate-scan-payload t c = search needs
+
+judge-large-scan-payload-requires : (t : ℕ) → judge-large-lts.Need-scan-payload-requires (judge-large-calls t) (judge-large-at t) judge-large.Post
+judge-large-scan-payload-requires t c κs = let p = c .before .before .before .before .before .before .before .pre .1 in (p .0, laws.opcode-inside _ _ _ _ _ _ _ _ _ (p .2), refl, p .2 .roomy)
+
+judge-large-enum-known-p : (t : ℕ) → judge-large-lts.Need-enum-known-p (judge-large-calls t) (judge-large-at t) judge-large.Post
+judge-large-enum-known-p t c = search needs
+
+judge-large-enum-known-p-2 : (t : ℕ) → judge-large-lts.Need-enum-known-p-2 (judge-large-calls t) (judge-large-at t) judge-large.Post
+judge-large-enum-known-p-2 t c = search needs
+
+judge-large-enum-known-p-3 : (t : ℕ) → judge-large-lts.Need-enum-known-p-3 (judge-large-calls t) (judge-large-at t) judge-large.Post
+judge-large-enum-known-p-3 t c = search needs
+
+judge-large-add-operand : (t : ℕ) → judge-large-lts.Need-add-operand (judge-large-calls t) (judge-large-at t) judge-large.Post
+judge-large-add-operand t c = omega (arith, c .before .before .before .before .before .before .before .before .before .before .before .before .before .pre .1 .2 .roomy .room)
+
+judge-large-judge-branch-requires : (t : ℕ) → judge-large-lts.Need-judge-branch-requires (judge-large-calls t) (judge-large-at t) judge-large.Post
+judge-large-judge-branch-requires t c κs = let j = c .before .before .before .before .before .before .before .before .before .before .before .before .before .pre .1 .2 in let q = laws.branch-asks _ _ _ _ _ _ _ _ _ j _ (c .before .before .before .before .before .before .before .before .before .before .before .before .before .pre .1 .1) _ _ _ (c .before .before .before .before .before .scan-payload .ensures) _ _ _ (c .before .before .p3 .given .1) in (omega (arith, q .0, j .slots), λ e. omega (arith, q .0, j .lent e), j .small, omega (arith, q .1), omega (arith, j .before, j .roomy .room, j .roomy .inside))
+
+judge-large-enum-known-p-4 : (t : ℕ) → judge-large-lts.Need-enum-known-p-4 (judge-large-calls t) (judge-large-at t) judge-large.Post
+judge-large-enum-known-p-4 t c = search needs
+
+judge-large-judge-bodies-requires : (t : ℕ) → judge-large-lts.Need-judge-bodies-requires (judge-large-calls t) (judge-large-at t) judge-large.Post
+judge-large-judge-bodies-requires t c κs = (omega arith, laws.bodies-asks _ _ _ _ _ _ _ _ _ (c .before .before .before .before .before .before .before .before .before .before .before .before .pre .1 .2) _ (c .before .before .before .before .before .before .before .before .before .before .before .before .pre .1 .1) _ _ _ (c .before .before .before .before .scan-payload .ensures) _ _ _ (c .before .p4 .given .1))
+
+judge-large-enum-known-p-5 : (t : ℕ) → judge-large-lts.Need-enum-known-p-5 (judge-large-calls t) (judge-large-at t) judge-large.Post
+judge-large-enum-known-p-5 t c = search needs
+
+judge-large-judge-bodies-requires-2 : (t : ℕ) → judge-large-lts.Need-judge-bodies-requires-2 (judge-large-calls t) (judge-large-at t) judge-large.Post
+judge-large-judge-bodies-requires-2 t c κs = (omega arith, laws.function-asks _ _ _ _ _ _ _ _ _ (c .before .before .before .before .before .before .before .before .before .before .before .before .pre .1 .2) _ (c .before .before .before .before .before .before .before .before .before .before .before .before .pre .1 .1) _ _ _ (c .before .before .before .before .scan-payload .ensures) _ _ (c .before .p5 .given .1))
+
+judge-large-returns : (t : ℕ) → judge-large-lts.Need-returns (judge-large-calls t) (judge-large-at t) judge-large.Post
+judge-large-returns t c = laws.never-stops _ _ _ _ _ _ _ _ _ (c .before .before .before .before .before .before .before .before .before .before .before .before .pre .1 .2) _ (c .before .before .before .before .before .before .before .before .before .before .before .before .pre .1 .1) _ _ _ (c .before .before .before .before .scan-payload .ensures) _ _ (c .before .p .given .1)
+
+judge-large-returns-2 : (t : ℕ) → judge-large-lts.Need-returns-2 (judge-large-calls t) (judge-large-at t) judge-large.Post
+judge-large-returns-2 t c = laws.flat-passed _ _ _ _ _ _ _ _ _ (c .before .before .before .before .before .before .before .before .before .before .before .before .pre .1 .2) _ (c .before .before .before .before .before .before .before .before .before .before .before .before .pre .1 .1) _ _ _ (c .before .before .before .before .scan-payload .ensures) _ _ _ (c .before .p2 .given .1)
+
+judge-large-returns-3 : (t : ℕ) → judge-large-lts.Need-returns-3 (judge-large-calls t) (judge-large-at t) judge-large.Post
+judge-large-returns-3 t c = laws.branch-found _ _ _ _ _ _ _ _ _ (c .before .before .before .before .before .before .before .before .before .before .before .before .before .before .pre .1 .2) _ (c .before .before .before .before .before .before .before .before .before .before .before .before .before .before .pre .1 .1) _ _ _ (c .before .before .before .before .before .before .scan-payload .ensures) _ _ _ _ _ (c .before .before .before .p3 .given .1) (c .judge-branch .ensures)
+
+judge-large-returns-4 : (t : ℕ) → judge-large-lts.Need-returns-4 (judge-large-calls t) (judge-large-at t) judge-large.Post
+judge-large-returns-4 t c = laws.bodies-found _ _ _ _ _ _ _ _ _ (c .before .before .before .before .before .before .before .before .before .before .before .before .before .pre .1 .2) _ (c .before .before .before .before .before .before .before .before .before .before .before .before .before .pre .1 .1) _ _ _ (c .before .before .before .before .before .scan-payload .ensures) _ _ _ _ _ (c .before .before .p4 .given .1) (c .judge-bodies .ensures)
+
+judge-large-returns-5 : (t : ℕ) → judge-large-lts.Need-returns-5 (judge-large-calls t) (judge-large-at t) judge-large.Post
+judge-large-returns-5 t c = laws.function-found _ _ _ _ _ _ _ _ _ (c .before .before .before .before .before .before .before .before .before .before .before .before .before .pre .1 .2) _ (c .before .before .before .before .before .before .before .before .before .before .before .before .before .pre .1 .1) _ _ _ (c .before .before .before .before .before .scan-payload .ensures) _ _ _ _ (c .before .before .p5 .given .1) (c .judge-bodies2 .ensures)
+
+pub +judge-action+judge-bodies+judge-body+judge-large-spec : {M : Type 1} → statement M
++judge-action+judge-bodies+judge-body+judge-large-spec =
+    close μ-judge-action μ-judge-bodies μ-judge-body μ-judge-large (λ t. judge-action-lts.spec (judge-action-calls t) (judge-action-at t)
     judge-action.Post
     (judge-action-shared-slice-read-op t)
-    (judge-action-add-later t)
     (judge-action-add-next t)
     (judge-action-add-after t)
+    (judge-action-add-later t)
     (judge-action-returns t)
-    (judge-action-slice-aggregate-scan-payload t)
-    (judge-action-scan-payload-requires t)
-    (judge-action-enum-known-p t)
-    (judge-action-enum-known-p-2 t)
-    (judge-action-enum-known-p-3 t)
-    (judge-action-add-operand t)
-    (judge-action-judge-branch-requires t)
-    (judge-action-enum-known-p-4 t)
-    (judge-action-judge-bodies-requires t)
-    (judge-action-enum-known-p-5 t)
-    (judge-action-judge-bodies-requires-2 t)
-    (judge-action-returns-2 t)
-    (judge-action-returns-3 t)
-    (judge-action-returns-4 t)
-    (judge-action-returns-5 t)
-    (judge-action-returns-6 t))
+    (judge-action-judge-large-requires t)
+    (judge-action-returns-2 t))
     (λ t. judge-bodies-lts.spec
     (judge-bodies-calls t) (judge-bodies-at t)
     judge-bodies.Post
@@ -272,7 +288,7 @@ pub +judge-action+judge-bodies+judge-body-spec : {M : Type 1} → statement M
     (judge-bodies-loop-less t)
     (judge-bodies-loop-again t)
     (judge-bodies-returns-2 t))
-    λ t. judge-body-lts.spec
+    (λ t. judge-body-lts.spec
     (judge-body-calls t) (judge-body-at t)
     judge-body.Post
     judge-body-Inv-loop
@@ -292,4 +308,24 @@ pub +judge-action+judge-bodies+judge-body-spec : {M : Type 1} → statement M
     (judge-body-sub-left t)
     (judge-body-loop-less t)
     (judge-body-loop-again t)
-    (judge-body-returns-2 t)
+    (judge-body-returns-2 t))
+    λ t. judge-large-lts.spec
+    (judge-large-calls t) (judge-large-at t)
+    judge-large.Post
+    (judge-large-add-later t)
+    (judge-large-slice-aggregate-scan-payload t)
+    (judge-large-scan-payload-requires t)
+    (judge-large-enum-known-p t)
+    (judge-large-enum-known-p-2 t)
+    (judge-large-enum-known-p-3 t)
+    (judge-large-add-operand t)
+    (judge-large-judge-branch-requires t)
+    (judge-large-enum-known-p-4 t)
+    (judge-large-judge-bodies-requires t)
+    (judge-large-enum-known-p-5 t)
+    (judge-large-judge-bodies-requires-2 t)
+    (judge-large-returns t)
+    (judge-large-returns-2 t)
+    (judge-large-returns-3 t)
+    (judge-large-returns-4 t)
+    (judge-large-returns-5 t)
