@@ -119,6 +119,12 @@ owned-place o r = record { bytes = r .bytes; inside = o .onward .within; room = 
 
 -- ---- an action
 
+-- an opcode that was read before is the byte that stands there
+pub laid-at : (terms : Terms) (b : List ℕ) {op bound at end pos number : ℕ} {over over′ : List ℕ} {l : Laid} → op ≡ getD b at 0
+    → Laying bound (λ inner. readFieldsIf terms b inner (opcodeOf op) (placed at) (placed (at + 1))) at end pos number over over′ l
+    → Laying bound (λ inner. readFieldsIf terms b inner (opcodeOf (getD b at 0)) (placed at) (placed (at + 1))) at end pos number over over′ l
+laid-at terms b i y = rw i at y
+
 module _ (terms : Terms) (b : List ℕ) (d at : ℕ) where
   abbrev pub theAction : Read (ActionOf Text ℕ)
   theAction = readAction terms b (behind 1 (readBody terms b d)) (placed at)

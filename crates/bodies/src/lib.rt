@@ -1,7 +1,9 @@
 // The walk of bodies and actions, front to back: it reads and checks (3 to 6), measures, counts, records labels, and notes the
 // first of 8 and 9. `home` is the position at which the function body starts that it is in; only a function's body has another.
 // `number` is that of the next action.
-ghost use Prim.Native.Nat.{_+_};
+ghost use mathlib.Core.Path.{_≡_};
+ghost use Prim.Native.Nat.{_+_, _≤_, _<_};
+ghost use lib.ListN.{length, getD};
 ghost use Rattle.layout.specs.Tree.{count, bodyCount};
 ghost use Rattle.layout.specs.Read.{placed, behind, readBody, readAction};
 ghost use Rattle.layout.specs.Write.{position};
@@ -205,14 +207,51 @@ fn scan_action(
         return Walked::Stops(Fault::CutShort, at, number);
     }
     let op = b[at];
-    let next = number.0 + 1;
     if op < 0x80 {
         if OpCode::is_listed(op) {
             let after = pos.0 + OpCode::SMALL_LEN;
+            let next = number.0 + 1;
             return Walked::Ends(at + 1, BytePosition(after), ActionNumber(next));
         }
         return Walked::Stops(Fault::UnknownCode, at, number);
     }
+    scan_large(
+        b,
+        words,
+        index,
+        terms,
+        op,
+        at,
+        depth,
+        pos,
+        home,
+        number,
+        tab,
+        homes,
+        over,
+    )
+}
+
+// An action from opcode 80 on: its payload, then its bodies, of which `depth` may stand one in another.
+fn scan_large(
+    b: &[u8],
+    words: &[u8],
+    index: &[u32],
+    terms: Terms,
+    op: u8,
+    at: usize,
+    depth: usize,
+    pos: BytePosition,
+    home: BytePosition,
+    number: ActionNumber,
+    tab: &mut [usize],
+    homes: &mut [usize],
+    over: &mut [usize],
+) -> Walked
+    requires { ⌜ (128 ≤ op) × (at < length (now b)) × (op ≡ getD (now b) at 0) × Ready (termsOf terms (now words) (now index)) (now b) at pos (number .0) (now tab) (now over) ⌝ }
+    ensures { λ r. ⌜ Ran (outcome actionSize count actionTrace (standing pos home number) (state (tables (now (tab .entry)) (now (homes .entry))) (now (over .entry))) (readAction (termsOf terms (now (words .entry)) (now (index .entry))) (now (b .entry)) (behind 1 (readBody (termsOf terms (now (words .entry)) (now (index .entry))) (now (b .entry)) depth)) (placed at))) r (state (tables (now (tab .exit)) (now (homes .exit))) (now (over .exit))) ⌝ }
+{
+    let next = number.0 + 1;
     match scan_payload(b, words, index, terms, op, at, pos, number, over) {
         Laid::Stops(f, p) => Walked::Stops(f, p, number),
         Laid::Flat(p, w) => Walked::Ends(p, w, ActionNumber(next)),

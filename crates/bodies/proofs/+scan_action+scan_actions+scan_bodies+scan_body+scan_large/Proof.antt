@@ -17,16 +17,19 @@ use borrow.Fn.Kinds.{In}
 use borrow.Fn.PlainCycle.{Measures, is, falls, and}
 use Rattle.bodies.proofs.scan_action.Reads as scan-action
 use Rattle.bodies.proofs.scan_action.Kinds as scan-action-kinds
-use Rattle.bodies.proofs.+scan_action+scan_actions+scan_bodies+scan_body.Lts-scan_action as scan-action-lts
+use Rattle.bodies.proofs.+scan_action+scan_actions+scan_bodies+scan_body+scan_large.Lts-scan_action as scan-action-lts
 use Rattle.bodies.proofs.scan_actions.Reads as scan-actions
 use Rattle.bodies.proofs.scan_actions.Kinds as scan-actions-kinds
-use Rattle.bodies.proofs.+scan_action+scan_actions+scan_bodies+scan_body.Lts-scan_actions as scan-actions-lts
+use Rattle.bodies.proofs.+scan_action+scan_actions+scan_bodies+scan_body+scan_large.Lts-scan_actions as scan-actions-lts
 use Rattle.bodies.proofs.scan_bodies.Reads as scan-bodies
 use Rattle.bodies.proofs.scan_bodies.Kinds as scan-bodies-kinds
-use Rattle.bodies.proofs.+scan_action+scan_actions+scan_bodies+scan_body.Lts-scan_bodies as scan-bodies-lts
+use Rattle.bodies.proofs.+scan_action+scan_actions+scan_bodies+scan_body+scan_large.Lts-scan_bodies as scan-bodies-lts
 use Rattle.bodies.proofs.scan_body.Reads as scan-body
 use Rattle.bodies.proofs.scan_body.Kinds as scan-body-kinds
-use Rattle.bodies.proofs.+scan_action+scan_actions+scan_bodies+scan_body.Lts-scan_body as scan-body-lts
+use Rattle.bodies.proofs.+scan_action+scan_actions+scan_bodies+scan_body+scan_large.Lts-scan_body as scan-body-lts
+use Rattle.bodies.proofs.scan_large.Reads as scan-large
+use Rattle.bodies.proofs.scan_large.Kinds as scan-large-kinds
+use Rattle.bodies.proofs.+scan_action+scan_actions+scan_bodies+scan_body+scan_large.Lts-scan_large as scan-large-lts
 use Rattle.fields.proofs.u16_at.Reads as u16-at-reads
 use Rattle.labels.proofs.due_entry.Reads as due-entry-reads
 use Rattle.labels.proofs.record_labels.Reads as record-labels-reads
@@ -35,20 +38,23 @@ use Rattle.payload.proofs.scan_payload.Reads as scan-payload-reads
 use Rattle.opcode.proofs.OpCode.is_listed.Reads as is-listed-reads
 use Rattle.measure.proofs.first_long.Reads as first-long-reads
 use Rattle.front.proofs.scan_front.Reads as scan-front-reads
-use Rattle.bodies.proofs.+scan_action+scan_actions+scan_bodies+scan_body.{statement}
-use Rattle.bodies.proofs.+scan_action+scan_actions+scan_bodies+scan_body.Tie.{close}
+use Rattle.bodies.proofs.+scan_action+scan_actions+scan_bodies+scan_body+scan_large.{statement}
+use Rattle.bodies.proofs.+scan_action+scan_actions+scan_bodies+scan_body+scan_large.Tie.{close}
 
 abbrev μ-scan-action : Measures 6 scan-action-kinds.ps ℕ
-μ-scan-action κs a = a .1 .1 .1 .1 .1 .0 * 4 + 2
+μ-scan-action κs a = a .1 .1 .1 .1 .1 .0 * 5 + 3
 
 abbrev μ-scan-actions : Measures 6 scan-actions-kinds.ps ℕ
-μ-scan-actions κs a = a .1 .1 .1 .1 .1 .1 .0 * 4 + 3
+μ-scan-actions κs a = a .1 .1 .1 .1 .1 .1 .0 * 5 + 4
 
 abbrev μ-scan-bodies : Measures 6 scan-bodies-kinds.ps ℕ
-μ-scan-bodies κs a = a .1 .1 .1 .1 .1 .0 * 4 + 1
+μ-scan-bodies κs a = a .1 .1 .1 .1 .1 .0 * 5 + 1
 
 abbrev μ-scan-body : Measures 6 scan-body-kinds.ps ℕ
-μ-scan-body κs a = a .1 .1 .1 .1 .1 .0 * 4
+μ-scan-body κs a = a .1 .1 .1 .1 .1 .0 * 5
+
+abbrev μ-scan-large : Measures 6 scan-large-kinds.ps ℕ
+μ-scan-large κs a = a .1 .1 .1 .1 .1 .1 .0 * 5 + 2
 
 abbrev scan-action-at : ℕ → In 6 scan-action-kinds.ps
 scan-action-at t =
@@ -85,6 +91,14 @@ abbrev scan-body-below : ℕ → In 6 scan-body-kinds.ps
 scan-body-below t =
     and 6 scan-body-kinds.ps (falls 6 scan-body-kinds.ps _<_ μ-scan-body t) scan-body.Pre
 
+abbrev scan-large-at : ℕ → In 6 scan-large-kinds.ps
+scan-large-at t =
+    and 6 scan-large-kinds.ps (is 6 scan-large-kinds.ps μ-scan-large t) scan-large.Pre
+
+abbrev scan-large-below : ℕ → In 6 scan-large-kinds.ps
+scan-large-below t =
+    and 6 scan-large-kinds.ps (falls 6 scan-large-kinds.ps _<_ μ-scan-large t) scan-large.Pre
+
 -- what scan-body is told of the functions that it calls
 abbrev scan-body-calls : ℕ → scan-body-lts.Claims
 scan-body-calls t = (scan-front-reads.Asked, scan-front-reads.Learnt, scan-actions-below t, scan-actions.Post)
@@ -99,7 +113,11 @@ scan-actions-calls t = (u16-at-reads.Asked, u16-at-reads.Learnt, due-entry-reads
 
 -- what scan-action is told of the functions that it calls
 abbrev scan-action-calls : ℕ → scan-action-lts.Claims
-scan-action-calls t = (is-listed-reads.Asked, is-listed-reads.Learnt, scan-payload-reads.Asked, scan-payload-reads.Learnt, scan-bodies-below t, scan-bodies.Post)
+scan-action-calls t = (is-listed-reads.Asked, is-listed-reads.Learnt, scan-large-below t, scan-large.Post)
+
+-- what scan-large is told of the functions that it calls
+abbrev scan-large-calls : ℕ → scan-large-lts.Claims
+scan-large-calls t = (scan-payload-reads.Asked, scan-payload-reads.Learnt, scan-bodies-below t, scan-bodies.Post)
 
 scan-action-returns : (t : ℕ) → scan-action-lts.Need-returns (scan-action-calls t) (scan-action-at t) scan-action.Post
 unfolding faultOf
@@ -108,94 +126,39 @@ scan-action-returns t c = walk.did-out _ _ _ _ _ _ _ _ _ (c .if1 .taken)
 scan-action-shared-slice-read-op : (t : ℕ) → scan-action-lts.Need-shared-slice-read-op (scan-action-calls t) (scan-action-at t) scan-action.Post
 scan-action-shared-slice-read-op t c = search needs
 
-scan-action-add-next : (t : ℕ) → scan-action-lts.Need-add-next (scan-action-calls t) (scan-action-at t) scan-action.Post
-scan-action-add-next t c = let p = c .before .before .before .before .before .before .before .before .before .pre .1 in omega (arith, p .before, p .roomy .inside, c .before .before .if1 .left)
-
 scan-action-is-listed-requires : (t : ℕ) → scan-action-lts.Need-is-listed-requires (scan-action-calls t) (scan-action-at t) scan-action.Post
 scan-action-is-listed-requires t c κs = search needs
 
-scan-action-add-t33 : (t : ℕ) → scan-action-lts.Need-add-t33 (scan-action-calls t) (scan-action-at t) scan-action.Post
-scan-action-add-t33 t c = search needs
-
 scan-action-add-after : (t : ℕ) → scan-action-lts.Need-add-after (scan-action-calls t) (scan-action-at t) scan-action.Post
-scan-action-add-after t c = omega (arith, c .before .before .before .before .before .before .before .before .before .before .before .before .before .pre .1 .roomy .room)
+scan-action-add-after t c = omega (arith, c .before .before .before .before .before .before .before .before .before .before .before .before .pre .1 .roomy .room)
+
+scan-action-add-next : (t : ℕ) → scan-action-lts.Need-add-next (scan-action-calls t) (scan-action-at t) scan-action.Post
+scan-action-add-next t c = let p = c .before .before .before .before .before .before .before .before .before .before .before .before .before .pre .1 in omega (arith, p .before, p .roomy .inside, c .before .before .before .before .before .before .if1 .left)
+
+scan-action-add-t22 : (t : ℕ) → scan-action-lts.Need-add-t22 (scan-action-calls t) (scan-action-at t) scan-action.Post
+scan-action-add-t22 t c = search needs
 
 scan-action-returns-2 : (t : ℕ) → scan-action-lts.Need-returns-2 (scan-action-calls t) (scan-action-at t) scan-action.Post
-scan-action-returns-2 t c = walk.did-small _ _ _ _ _ _ _ _ _ (c .before .before .before .before .before .before .if1 .left) (c .before .before .before .if2 .taken) (sym (c .before .before .is-listed .ensures) ∙ c .before .if3 .taken)
+scan-action-returns-2 t c = walk.did-small _ _ _ _ _ _ _ _ _ (c .before .before .before .before .before .before .if1 .left) (c .before .before .before .before .if2 .taken) (sym (c .before .before .before .is-listed .ensures) ∙ c .before .before .if3 .taken)
 
 scan-action-returns-3 : (t : ℕ) → scan-action-lts.Need-returns-3 (scan-action-calls t) (scan-action-at t) scan-action.Post
 unfolding faultOf
-scan-action-returns-3 t c = walk.did-unknown _ _ _ _ _ _ _ _ _ (c .before .before .before .before .before .if1 .left) (sym (c .before .is-listed .ensures) ∙ c .if3 .left)
+scan-action-returns-3 t c = walk.did-unknown _ _ _ _ _ _ _ _ _ (c .before .before .before .before .if1 .left) (sym (c .before .is-listed .ensures) ∙ c .if3 .left)
 
-scan-action-scan-payload-requires : (t : ℕ) → scan-action-lts.Need-scan-payload-requires (scan-action-calls t) (scan-action-at t) scan-action.Post
-scan-action-scan-payload-requires t c κs = (c .before .if2 .left, c .before .before .before .before .if1 .left, c .before .before .before .before .before .before .before .before .before .before .before .pre .1 .three, c .before .before .before .before .before .before .before .before .before .before .before .pre .1 .roomy)
-
-scan-action-enum-known-f : (t : ℕ) → scan-action-lts.Need-enum-known-f (scan-action-calls t) (scan-action-at t) scan-action.Post
-scan-action-enum-known-f t c = search needs
-
-scan-action-enum-known-p : (t : ℕ) → scan-action-lts.Need-enum-known-p (scan-action-calls t) (scan-action-at t) scan-action.Post
-scan-action-enum-known-p t c = search needs
-
-scan-action-enum-known-p-2 : (t : ℕ) → scan-action-lts.Need-enum-known-p-2 (scan-action-calls t) (scan-action-at t) scan-action.Post
-scan-action-enum-known-p-2 t c = search needs
-
-scan-action-enum-known-p-3 : (t : ℕ) → scan-action-lts.Need-enum-known-p-3 (scan-action-calls t) (scan-action-at t) scan-action.Post
-scan-action-enum-known-p-3 t c = search needs
-
-scan-action-scan-bodies-requires : (t : ℕ) → scan-action-lts.Need-scan-bodies-requires (scan-action-calls t) (scan-action-at t) scan-action.Post
-scan-action-scan-bodies-requires t c κs =
-    let p = c .before .before .before .before .before .before .before .before .before .before .before .before .before .before .before .before .before .before .before .before .pre .1 in
-    (omega arith, record { roomy = walk.owned-place (walk.did-bodies (c .before .before .before .before .before .before .before .before .scan-payload .ensures) (c .before .before .before .before .p3 .given .1)) (p .roomy); before = omega (arith, p .before, (walk.did-bodies (c .before .before .before .before .before .before .before .before .scan-payload .ensures) (c .before .before .before .before .p3 .given .1)) .onward .beyond); slots = p .slots; three = c .before .before .before .before .before .before .before .before .scan-payload .kept .1 .1 .1 .1 .1 .1 .1 .1 .0 ∙ p .three })
-
-scan-action-enum-known-p-4 : (t : ℕ) → scan-action-lts.Need-enum-known-p-4 (scan-action-calls t) (scan-action-at t) scan-action.Post
-scan-action-enum-known-p-4 t c = search needs
-
-scan-action-scan-bodies-requires-2 : (t : ℕ) → scan-action-lts.Need-scan-bodies-requires-2 (scan-action-calls t) (scan-action-at t) scan-action.Post
-scan-action-scan-bodies-requires-2 t c κs =
-    let p = c .before .before .before .before .before .before .before .before .before .before .before .before .before .before .before .before .before .before .before .before .pre .1 in
-    (omega arith, record { roomy = walk.owned-place (walk.did-function (c .before .before .before .before .before .before .before .before .scan-payload .ensures) (c .before .before .before .before .p4 .given .1)) (p .roomy); before = omega (arith, p .before, (walk.did-function (c .before .before .before .before .before .before .before .before .scan-payload .ensures) (c .before .before .before .before .p4 .given .1)) .onward .beyond); slots = p .slots; three = c .before .before .before .before .before .before .before .before .scan-payload .kept .1 .1 .1 .1 .1 .1 .1 .1 .0 ∙ p .three })
+scan-action-scan-large-requires : (t : ℕ) → scan-action-lts.Need-scan-large-requires (scan-action-calls t) (scan-action-at t) scan-action.Post
+scan-action-scan-large-requires t c κs = (omega arith, (c .before .before .before .if2 .left, c .before .before .before .before .before .if1 .left, refl, c .before .before .before .before .before .before .before .before .before .before .before .before .pre .1))
 
 scan-action-same-length : (t : ℕ) → scan-action-lts.Need-same-length (scan-action-calls t) (scan-action-at t) scan-action.Post
-scan-action-same-length t c = c .before .before .before .before .before .scan-payload .kept .1 .1 .1 .1 .1 .1 .1 .1 .0
-
-scan-action-returns-4 : (t : ℕ) → scan-action-lts.Need-returns-4 (scan-action-calls t) (scan-action-at t) scan-action.Post
-scan-action-returns-4 t c = walk.did-stops _ _ _ _ _ _ _ _ _ (c .before .before .before .before .before .before .before .before .before .before .if1 .left) _ _ (c .before .before .before .before .before .scan-payload .ensures) _ _ (c .before .f .given .1)
+scan-action-same-length t c = c .before .before .before .before .before .before .scan-large .kept .1 .1 .1 .1 .1 .1 .1 .1 .1 .1 .0
 
 scan-action-same-length-2 : (t : ℕ) → scan-action-lts.Need-same-length-2 (scan-action-calls t) (scan-action-at t) scan-action.Post
-scan-action-same-length-2 t c = c .before .before .before .before .before .scan-payload .kept .1 .1 .1 .1 .1 .1 .1 .1 .0
-
-scan-action-returns-5 : (t : ℕ) → scan-action-lts.Need-returns-5 (scan-action-calls t) (scan-action-at t) scan-action.Post
-scan-action-returns-5 t c = walk.did-flat _ _ _ _ _ _ _ _ _ (c .before .before .before .before .before .before .before .before .before .before .if1 .left) _ _ (c .before .before .before .before .before .scan-payload .ensures) _ _ (c .before .p .given .1)
+scan-action-same-length-2 t c = c .before .before .before .before .before .before .scan-large .kept .1 .1 .1 .1 .1 .1 .1 .1 .1 .1 .1 .0
 
 scan-action-same-length-3 : (t : ℕ) → scan-action-lts.Need-same-length-3 (scan-action-calls t) (scan-action-at t) scan-action.Post
-scan-action-same-length-3 t c = c .before .before .before .before .before .scan-payload .kept .1 .1 .1 .1 .1 .1 .1 .1 .0
+scan-action-same-length-3 t c = c .before .before .before .before .before .before .scan-large .kept .1 .1 .1 .1 .1 .1 .1 .1 .1 .1 .1 .1 .0
 
-scan-action-returns-6 : (t : ℕ) → scan-action-lts.Need-returns-6 (scan-action-calls t) (scan-action-at t) scan-action.Post
-scan-action-returns-6 t c = walk.did-branch _ _ _ _ _ _ _ _ _ (c .before .before .before .before .before .before .before .before .before .before .if1 .left) _ _ (c .before .before .before .before .before .scan-payload .ensures) _ _ _ (c .before .p2 .given .1)
-
-scan-action-same-length-4 : (t : ℕ) → scan-action-lts.Need-same-length-4 (scan-action-calls t) (scan-action-at t) scan-action.Post
-scan-action-same-length-4 t c = c .before .before .before .before .before .before .scan-bodies .kept .1 .1 .1 .1 .1 .1 .1 .1 .1 .1 .0
-
-scan-action-same-length-5 : (t : ℕ) → scan-action-lts.Need-same-length-5 (scan-action-calls t) (scan-action-at t) scan-action.Post
-scan-action-same-length-5 t c = c .before .before .before .before .before .before .scan-bodies .kept .1 .1 .1 .1 .1 .1 .1 .1 .1 .1 .1 .0
-
-scan-action-same-length-6 : (t : ℕ) → scan-action-lts.Need-same-length-6 (scan-action-calls t) (scan-action-at t) scan-action.Post
-scan-action-same-length-6 t c = c .before .before .before .before .before .before .scan-bodies .kept .1 .1 .1 .1 .1 .1 .1 .1 .1 .1 .1 .1 .0 ∙ c .before .before .before .before .before .before .before .before .before .before .before .before .before .before .before .scan-payload .kept .1 .1 .1 .1 .1 .1 .1 .1 .0
-
-scan-action-returns-7 : (t : ℕ) → scan-action-lts.Need-returns-7 (scan-action-calls t) (scan-action-at t) scan-action.Post
-scan-action-returns-7 t c = walk.owned-ran _ _ _ _ _ _ _ _ _ (c .before .before .before .before .before .before .before .before .before .before .before .before .before .before .before .before .before .before .before .before .if1 .left) (walk.did-bodies (c .before .before .before .before .before .before .before .before .before .before .before .before .before .before .before .scan-payload .ensures) (c .before .before .before .before .before .before .before .before .before .before .before .p3 .given .1)) (c .before .before .before .before .before .before .scan-bodies .ensures)
-
-scan-action-same-length-7 : (t : ℕ) → scan-action-lts.Need-same-length-7 (scan-action-calls t) (scan-action-at t) scan-action.Post
-scan-action-same-length-7 t c = c .before .before .before .before .before .before .scan-bodies2 .kept .1 .1 .1 .1 .1 .1 .1 .1 .1 .1 .0
-
-scan-action-same-length-8 : (t : ℕ) → scan-action-lts.Need-same-length-8 (scan-action-calls t) (scan-action-at t) scan-action.Post
-scan-action-same-length-8 t c = c .before .before .before .before .before .before .scan-bodies2 .kept .1 .1 .1 .1 .1 .1 .1 .1 .1 .1 .1 .0
-
-scan-action-same-length-9 : (t : ℕ) → scan-action-lts.Need-same-length-9 (scan-action-calls t) (scan-action-at t) scan-action.Post
-scan-action-same-length-9 t c = c .before .before .before .before .before .before .scan-bodies2 .kept .1 .1 .1 .1 .1 .1 .1 .1 .1 .1 .1 .1 .0 ∙ c .before .before .before .before .before .before .before .before .before .before .before .before .before .before .before .scan-payload .kept .1 .1 .1 .1 .1 .1 .1 .1 .0
-
-scan-action-returns-8 : (t : ℕ) → scan-action-lts.Need-returns-8 (scan-action-calls t) (scan-action-at t) scan-action.Post
-scan-action-returns-8 t c = walk.owned-ran _ _ _ _ _ _ _ _ _ (c .before .before .before .before .before .before .before .before .before .before .before .before .before .before .before .before .before .before .before .before .if1 .left) (walk.did-function (c .before .before .before .before .before .before .before .before .before .before .before .before .before .before .before .scan-payload .ensures) (c .before .before .before .before .before .before .before .before .before .before .before .p4 .given .1)) (c .before .before .before .before .before .before .scan-bodies2 .ensures)
+scan-action-returns-4 : (t : ℕ) → scan-action-lts.Need-returns-4 (scan-action-calls t) (scan-action-at t) scan-action.Post
+scan-action-returns-4 t c = c .before .before .before .before .before .before .scan-large .ensures
 
 abbrev scan-actions-Inv-loop : scan-actions-lts.InvT-loop
 scan-actions-Inv-loop b words index terms at front depth home tab₀ homes₀ over₀ n list count next₀ i₀ p₀ w₀ action₀ tab homes over next i p w action =
@@ -375,40 +338,98 @@ scan-body-same-length-3 t c = c .before .before .before .before .before .before 
 scan-body-returns-3 : (t : ℕ) → scan-body-lts.Need-returns-3 (scan-body-calls t) (scan-body-at t) scan-body.Post
 scan-body-returns-3 t c = walk.body-ran _ _ _ _ _ _ _ _ (c .before .before .before .before .before .before .before .before .before .before .before .before .before .before .if1 .left) (c .before .before .before .before .before .before .scan-actions .ensures)
 
-pub +scan-action+scan-actions+scan-bodies+scan-body-spec : {M : Type 1} → statement M
-+scan-action+scan-actions+scan-bodies+scan-body-spec =
-    close μ-scan-action μ-scan-actions μ-scan-bodies μ-scan-body (λ t. scan-action-lts.spec (scan-action-calls t) (scan-action-at t)
+scan-large-add-next : (t : ℕ) → scan-large-lts.Need-add-next (scan-large-calls t) (scan-large-at t) scan-large.Post
+scan-large-add-next t c = let p = c .before .before .before .before .before .before .before .pre .1 in omega (arith, p .1, p .3 .before, p .3 .roomy .inside)
+
+scan-large-scan-payload-requires : (t : ℕ) → scan-large-lts.Need-scan-payload-requires (scan-large-calls t) (scan-large-at t) scan-large.Post
+scan-large-scan-payload-requires t c κs = let p = c .before .before .before .before .before .before .before .before .pre .1 in (p .0, p .1, p .3 .three, p .3 .roomy)
+
+scan-large-enum-known-f : (t : ℕ) → scan-large-lts.Need-enum-known-f (scan-large-calls t) (scan-large-at t) scan-large.Post
+scan-large-enum-known-f t c = search needs
+
+scan-large-enum-known-p : (t : ℕ) → scan-large-lts.Need-enum-known-p (scan-large-calls t) (scan-large-at t) scan-large.Post
+scan-large-enum-known-p t c = search needs
+
+scan-large-enum-known-p-2 : (t : ℕ) → scan-large-lts.Need-enum-known-p-2 (scan-large-calls t) (scan-large-at t) scan-large.Post
+scan-large-enum-known-p-2 t c = search needs
+
+scan-large-enum-known-p-3 : (t : ℕ) → scan-large-lts.Need-enum-known-p-3 (scan-large-calls t) (scan-large-at t) scan-large.Post
+scan-large-enum-known-p-3 t c = search needs
+
+scan-large-scan-bodies-requires : (t : ℕ) → scan-large-lts.Need-scan-bodies-requires (scan-large-calls t) (scan-large-at t) scan-large.Post
+scan-large-scan-bodies-requires t c κs =
+    let p = c .before .before .before .before .before .before .before .before .before .before .before .before .before .before .before .before .before .pre .1 .3 in
+    let o = walk.did-bodies (c .before .before .before .before .before .before .before .before .scan-payload .ensures) (c .before .before .before .before .p3 .given .1) in
+    (omega arith, record { roomy = walk.owned-place o (p .roomy); before = omega (arith, p .before, o .onward .beyond); slots = p .slots; three = c .before .before .before .before .before .before .before .before .scan-payload .kept .1 .1 .1 .1 .1 .1 .1 .1 .0 ∙ p .three })
+
+scan-large-enum-known-p-4 : (t : ℕ) → scan-large-lts.Need-enum-known-p-4 (scan-large-calls t) (scan-large-at t) scan-large.Post
+scan-large-enum-known-p-4 t c = search needs
+
+scan-large-scan-bodies-requires-2 : (t : ℕ) → scan-large-lts.Need-scan-bodies-requires-2 (scan-large-calls t) (scan-large-at t) scan-large.Post
+scan-large-scan-bodies-requires-2 t c κs =
+    let p = c .before .before .before .before .before .before .before .before .before .before .before .before .before .before .before .before .before .pre .1 .3 in
+    let o = walk.did-function (c .before .before .before .before .before .before .before .before .scan-payload .ensures) (c .before .before .before .before .p4 .given .1) in
+    (omega arith, record { roomy = walk.owned-place o (p .roomy); before = omega (arith, p .before, o .onward .beyond); slots = p .slots; three = c .before .before .before .before .before .before .before .before .scan-payload .kept .1 .1 .1 .1 .1 .1 .1 .1 .0 ∙ p .three })
+
+scan-large-same-length : (t : ℕ) → scan-large-lts.Need-same-length (scan-large-calls t) (scan-large-at t) scan-large.Post
+scan-large-same-length t c = c .before .before .before .before .before .scan-payload .kept .1 .1 .1 .1 .1 .1 .1 .1 .0
+
+scan-large-returns : (t : ℕ) → scan-large-lts.Need-returns (scan-large-calls t) (scan-large-at t) scan-large.Post
+scan-large-returns t c = let p = c .before .before .before .before .before .before .before .before .before .before .before .before .before .before .pre .1 in walk.did-stops _ _ _ _ _ _ _ _ _ (p .1) _ _ (walk.laid-at _ _ (p .2) (c .before .before .before .before .before .scan-payload .ensures)) _ _ (c .before .f .given .1)
+
+scan-large-same-length-2 : (t : ℕ) → scan-large-lts.Need-same-length-2 (scan-large-calls t) (scan-large-at t) scan-large.Post
+scan-large-same-length-2 t c = c .before .before .before .before .before .scan-payload .kept .1 .1 .1 .1 .1 .1 .1 .1 .0
+
+scan-large-returns-2 : (t : ℕ) → scan-large-lts.Need-returns-2 (scan-large-calls t) (scan-large-at t) scan-large.Post
+scan-large-returns-2 t c = let p = c .before .before .before .before .before .before .before .before .before .before .before .before .before .before .pre .1 in walk.did-flat _ _ _ _ _ _ _ _ _ (p .1) _ _ (walk.laid-at _ _ (p .2) (c .before .before .before .before .before .scan-payload .ensures)) _ _ (c .before .p .given .1)
+
+scan-large-same-length-3 : (t : ℕ) → scan-large-lts.Need-same-length-3 (scan-large-calls t) (scan-large-at t) scan-large.Post
+scan-large-same-length-3 t c = c .before .before .before .before .before .scan-payload .kept .1 .1 .1 .1 .1 .1 .1 .1 .0
+
+scan-large-returns-3 : (t : ℕ) → scan-large-lts.Need-returns-3 (scan-large-calls t) (scan-large-at t) scan-large.Post
+scan-large-returns-3 t c = let p = c .before .before .before .before .before .before .before .before .before .before .before .before .before .before .pre .1 in walk.did-branch _ _ _ _ _ _ _ _ _ (p .1) _ _ (walk.laid-at _ _ (p .2) (c .before .before .before .before .before .scan-payload .ensures)) _ _ _ (c .before .p2 .given .1)
+
+scan-large-same-length-4 : (t : ℕ) → scan-large-lts.Need-same-length-4 (scan-large-calls t) (scan-large-at t) scan-large.Post
+scan-large-same-length-4 t c = c .before .before .before .before .before .before .scan-bodies .kept .1 .1 .1 .1 .1 .1 .1 .1 .1 .1 .0
+
+scan-large-same-length-5 : (t : ℕ) → scan-large-lts.Need-same-length-5 (scan-large-calls t) (scan-large-at t) scan-large.Post
+scan-large-same-length-5 t c = c .before .before .before .before .before .before .scan-bodies .kept .1 .1 .1 .1 .1 .1 .1 .1 .1 .1 .1 .0
+
+scan-large-same-length-6 : (t : ℕ) → scan-large-lts.Need-same-length-6 (scan-large-calls t) (scan-large-at t) scan-large.Post
+scan-large-same-length-6 t c = c .before .before .before .before .before .before .scan-bodies .kept .1 .1 .1 .1 .1 .1 .1 .1 .1 .1 .1 .1 .0 ∙ c .before .before .before .before .before .before .before .before .before .before .before .before .before .before .before .scan-payload .kept .1 .1 .1 .1 .1 .1 .1 .1 .0
+
+scan-large-returns-4 : (t : ℕ) → scan-large-lts.Need-returns-4 (scan-large-calls t) (scan-large-at t) scan-large.Post
+scan-large-returns-4 t c = let p = c .before .before .before .before .before .before .before .before .before .before .before .before .before .before .before .before .before .before .before .before .before .before .before .before .pre .1 in walk.owned-ran _ _ _ _ _ _ _ _ _ (p .1) (walk.did-bodies (walk.laid-at _ _ (p .2) (c .before .before .before .before .before .before .before .before .before .before .before .before .before .before .before .scan-payload .ensures)) (c .before .before .before .before .before .before .before .before .before .before .before .p3 .given .1)) (c .before .before .before .before .before .before .scan-bodies .ensures)
+
+scan-large-same-length-7 : (t : ℕ) → scan-large-lts.Need-same-length-7 (scan-large-calls t) (scan-large-at t) scan-large.Post
+scan-large-same-length-7 t c = c .before .before .before .before .before .before .scan-bodies2 .kept .1 .1 .1 .1 .1 .1 .1 .1 .1 .1 .0
+
+scan-large-same-length-8 : (t : ℕ) → scan-large-lts.Need-same-length-8 (scan-large-calls t) (scan-large-at t) scan-large.Post
+scan-large-same-length-8 t c = c .before .before .before .before .before .before .scan-bodies2 .kept .1 .1 .1 .1 .1 .1 .1 .1 .1 .1 .1 .0
+
+scan-large-same-length-9 : (t : ℕ) → scan-large-lts.Need-same-length-9 (scan-large-calls t) (scan-large-at t) scan-large.Post
+scan-large-same-length-9 t c = c .before .before .before .before .before .before .scan-bodies2 .kept .1 .1 .1 .1 .1 .1 .1 .1 .1 .1 .1 .1 .0 ∙ c .before .before .before .before .before .before .before .before .before .before .before .before .before .before .before .scan-payload .kept .1 .1 .1 .1 .1 .1 .1 .1 .0
+
+scan-large-returns-5 : (t : ℕ) → scan-large-lts.Need-returns-5 (scan-large-calls t) (scan-large-at t) scan-large.Post
+scan-large-returns-5 t c = let p = c .before .before .before .before .before .before .before .before .before .before .before .before .before .before .before .before .before .before .before .before .before .before .before .before .pre .1 in walk.owned-ran _ _ _ _ _ _ _ _ _ (p .1) (walk.did-function (walk.laid-at _ _ (p .2) (c .before .before .before .before .before .before .before .before .before .before .before .before .before .before .before .scan-payload .ensures)) (c .before .before .before .before .before .before .before .before .before .before .before .p4 .given .1)) (c .before .before .before .before .before .before .scan-bodies2 .ensures)
+
+pub +scan-action+scan-actions+scan-bodies+scan-body+scan-large-spec : {M : Type 1} → statement M
++scan-action+scan-actions+scan-bodies+scan-body+scan-large-spec =
+    close μ-scan-action μ-scan-actions μ-scan-bodies μ-scan-body μ-scan-large (λ t. scan-action-lts.spec (scan-action-calls t) (scan-action-at t)
     scan-action.Post
     (scan-action-returns t)
     (scan-action-shared-slice-read-op t)
-    (scan-action-add-next t)
     (scan-action-is-listed-requires t)
     (scan-action-add-after t)
-    (scan-action-add-t33 t)
+    (scan-action-add-next t)
+    (scan-action-add-t22 t)
     (scan-action-returns-2 t)
     (scan-action-returns-3 t)
-    (scan-action-scan-payload-requires t)
-    (scan-action-enum-known-f t)
-    (scan-action-enum-known-p t)
-    (scan-action-enum-known-p-2 t)
-    (scan-action-enum-known-p-3 t)
-    (scan-action-scan-bodies-requires t)
-    (scan-action-enum-known-p-4 t)
-    (scan-action-scan-bodies-requires-2 t)
+    (scan-action-scan-large-requires t)
     (scan-action-same-length t)
-    (scan-action-returns-4 t)
     (scan-action-same-length-2 t)
-    (scan-action-returns-5 t)
     (scan-action-same-length-3 t)
-    (scan-action-returns-6 t)
-    (scan-action-same-length-4 t)
-    (scan-action-same-length-5 t)
-    (scan-action-same-length-6 t)
-    (scan-action-returns-7 t)
-    (scan-action-same-length-7 t)
-    (scan-action-same-length-8 t)
-    (scan-action-same-length-9 t)
-    (scan-action-returns-8 t))
+    (scan-action-returns-4 t))
     (λ t. scan-actions-lts.spec (scan-actions-calls t) (scan-actions-at t)
     scan-actions.Post
     scan-actions-Inv-loop
@@ -472,3 +493,28 @@ pub +scan-action+scan-actions+scan-bodies+scan-body-spec : {M : Type 1} → stat
     (scan-body-same-length-2 t)
     (scan-body-same-length-3 t)
     (scan-body-returns-3 t))
+    (λ t. scan-large-lts.spec (scan-large-calls t) (scan-large-at t)
+    scan-large.Post
+    (scan-large-add-next t)
+    (scan-large-scan-payload-requires t)
+    (scan-large-enum-known-f t)
+    (scan-large-enum-known-p t)
+    (scan-large-enum-known-p-2 t)
+    (scan-large-enum-known-p-3 t)
+    (scan-large-scan-bodies-requires t)
+    (scan-large-enum-known-p-4 t)
+    (scan-large-scan-bodies-requires-2 t)
+    (scan-large-same-length t)
+    (scan-large-returns t)
+    (scan-large-same-length-2 t)
+    (scan-large-returns-2 t)
+    (scan-large-same-length-3 t)
+    (scan-large-returns-3 t)
+    (scan-large-same-length-4 t)
+    (scan-large-same-length-5 t)
+    (scan-large-same-length-6 t)
+    (scan-large-returns-4 t)
+    (scan-large-same-length-7 t)
+    (scan-large-same-length-8 t)
+    (scan-large-same-length-9 t)
+    (scan-large-returns-5 t))
