@@ -252,7 +252,7 @@ fn scan_large(
     ensures { λ r. ⌜ Ran (outcome actionSize count actionTrace (standing pos home number) (state (tables (now (tab .entry)) (now (homes .entry))) (now (over .entry))) (readAction (termsOf terms (now (words .entry)) (now (index .entry))) (now (b .entry)) (behind 1 (readBody (termsOf terms (now (words .entry)) (now (index .entry))) (now (b .entry)) depth)) (placed at))) r (state (tables (now (tab .exit)) (now (homes .exit))) (now (over .exit))) ⌝ }
 {
     let next = number.0 + 1;
-    match scan_payload(b, words, index, terms, op, at, pos, number, over) {
+    match scan_payload(b, op, at, pos, terms, words, index, number, over) {
         Laid::Stops(f, p) => Walked::Stops(f, p, number),
         Laid::Flat(p, w) => Walked::Ends(p, w, ActionNumber(next)),
         Laid::Branch(p, w, _) => Walked::Ends(p, w, ActionNumber(next)),

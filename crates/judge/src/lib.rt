@@ -274,7 +274,7 @@ fn judge_large(
     let later = number.0 + 1;
     let k = ActionNumber(later);
     let mut over = [0; 3];
-    match scan_payload(b, words, index, terms, op, at, pos, number, &mut over) {
+    match scan_payload(b, op, at, pos, terms, words, index, number, &mut over) {
         Laid::Stops(_, p) => Judged::Ends(p, pos, number),
         Laid::Flat(p, w) => Judged::Ends(p, w, k),
         Laid::Branch(p, _, label) => {

@@ -75,15 +75,16 @@ fn scan_try(
 }
 
 // The payload of an opcode from 80 on, which stands at a place; `pos` is the action's position and `action` its number. A payload
-// of a byte ends at `byte`, one of a u16 at `word`; a list is measured from the end of a payload whose list is empty.
+// of a byte ends at `byte`, one of a u16 at `word`; a list is measured from the end of a payload whose list is empty. What every
+// payload needs is handed over first, so that it goes in registers.
 pub fn scan_payload(
     b: &[u8],
-    words: &[u8],
-    index: &[u32],
-    terms: Terms,
     op: u8,
     at: usize,
     pos: BytePosition,
+    terms: Terms,
+    words: &[u8],
+    index: &[u32],
     action: ActionNumber,
     over: &mut [usize],
 ) -> Laid

@@ -1,10 +1,10 @@
--- `replay::replay_sheet` is safe: the room and 64 bytes behind it lie in the output.
+-- `replayed::replay_sheet` is safe: the room and 64 bytes behind it lie in the output.
 use native.Mathlib.Omega.{arith}
 use mathlib.Core.Path.{sym}
 use lib.Seq.{length-take-le}
 use borrow.Author.Needs.{needs}
-use Rattle.replay.proofs.replay_sheet.Statement.{statement}
-use Rattle.replay.proofs.replay_sheet.Tie as tie
+use Rattle.replayed.proofs.replay_sheet.Statement.{statement}
+use Rattle.replayed.proofs.replay_sheet.Tie as tie
 
 u32-at-requires : tie.Need-u32-at-requires
 u32-at-requires c κs = search needs

@@ -1,10 +1,10 @@
--- `replay::agrees` is safe: the room lies in the output.
+-- `replayed::agrees` is safe: the room lies in the output.
 use native.Mathlib.Omega.{arith}
 use mathlib.Core.Path.{sym}
 use lib.Seq.{length-take-le}
 use borrow.Author.Needs.{needs}
-use Rattle.replay.proofs.agrees.Statement.{statement}
-use Rattle.replay.proofs.agrees.Tie as tie
+use Rattle.replayed.proofs.agrees.Statement.{statement}
+use Rattle.replayed.proofs.agrees.Tie as tie
 
 returns : tie.Need-returns
 returns c = search needs

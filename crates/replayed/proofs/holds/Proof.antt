@@ -1,9 +1,9 @@
--- `replay::holds` is safe: each byte that it looks at is there.
+-- `replayed::holds` is safe: each byte that it looks at is there.
 use Prim.Native.Nat.{_-_, _≤_}
 use lib.ListN.{length}
 use borrow.Author.Needs.{needs}
-use Rattle.replay.proofs.holds.Statement.{statement}
-use Rattle.replay.proofs.holds.Tie as tie
+use Rattle.replayed.proofs.holds.Statement.{statement}
+use Rattle.replayed.proofs.holds.Tie as tie
 
 abbrev Inv-loop : tie.InvT-loop
 Inv-loop out block i₀ i = i ≤ length out

@@ -1,11 +1,11 @@
--- `replay::refresh` is safe: each place that it writes lies in the output.
+-- `replayed::refresh` is safe: each place that it writes lies in the output.
 use Prim.Native.Nat.{_-_, _≤_}
 use native.Mathlib.Omega.{arith}
 use lib.ListN.{length, length-set}
 use borrow.Author.Needs.{needs}
 use mathlib.Core.Path.{_≡_}
-use Rattle.replay.proofs.refresh.Statement.{statement}
-use Rattle.replay.proofs.refresh.Tie as tie
+use Rattle.replayed.proofs.refresh.Statement.{statement}
+use Rattle.replayed.proofs.refresh.Tie as tie
 
 abbrev Inv-loop : tie.InvT-loop
 Inv-loop out₀ i₀ out i = (i ≤ length out) × (length out ≡ length out₀)

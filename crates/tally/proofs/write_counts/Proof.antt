@@ -1,8 +1,8 @@
--- `replay::write_counts` is safe: the counts that it reads are there.
+-- `tally::write_counts` is safe: the counts that it reads are there.
 use Prim.Native.Nat.{_-_, _≤_}
 use borrow.Author.Needs.{needs}
-use Rattle.replay.proofs.write_counts.Statement.{statement}
-use Rattle.replay.proofs.write_counts.Tie as tie
+use Rattle.tally.proofs.write_counts.Statement.{statement}
+use Rattle.tally.proofs.write_counts.Tie as tie
 
 abbrev Inv-loop : tie.InvT-loop
 Inv-loop counts i₀ i = i ≤ 19
