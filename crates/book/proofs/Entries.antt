@@ -3,21 +3,18 @@ use mathlib.Core.Path.{_≡_, refl, sym, ap, ap₂, _∙_, subst}
 use Prim.Native.Nat.{ℕ, zero, suc, _+_, _-_, _*_, _/_, _%_, _≤_, _<_}
 use native.Mathlib.Nat.{div-add-mod'}
 use native.Mathlib.Omega.{arith}
-use mathlib.Core.Bool.{Bool, true, false, _&&_}
-use mathlib.Core.Option.{Option, none, some}
-use mathlib.Core.List.{List, [], _∷_, _++_}
-use lib.ListN.{length, getD, set}
-use lib.Dec.{leb, ltb, eqb}
-use borrow.Author.Tests.{le-leb, lt-leb, lt-ltb, leb-true, leb-false}
+use mathlib.Core.Option.{some}
+use mathlib.Core.List.{List, _∷_, _++_}
+use lib.ListN.{length, getD}
+use borrow.Author.Tests.{le-leb, lt-ltb}
 use Rattle.layout.specs.Lists.{pick}
 use Rattle.layout.specs.Numbers.{u16At}
-use Rattle.layout.specs.Answers.{CutShort, BadField}
-use Rattle.layout.specs.Read.{Words, Place, placed, stop, Read, got, bad, Reader, chain, repeat, ifNothingLeft, readU16, readSpelling}
-use Rattle.layout.specs.Book.{readEntry, ifRead, wordsIn}
+use Rattle.layout.specs.Read.{Words, Place, placed, Read, got, bad, Reader, chain, repeat}
+use Rattle.layout.specs.Book.{readEntry}
 use Rattle.fields.specs.Runs.{part, firstNul}
 use Rattle.editions.specs.Words.{stepOf, lengthAt, placeAfter, placeOf, isWhole, wordLength, wordAt, wordOf, listedFrom, wordsBy}
 use Rattle.operands.proofs.Reading.{u16-in, u16-out, spelling-in, spelling-out, spelling-nul}
-use Rattle.book.specs.Checks.{Fails, fails, wordsFrom, Entered, entered, nothing, EnteredAll, Indexed, filled, unfilled}
+use Rattle.book.specs.Checks.{Fails, fails, wordsFrom, Entered, entered, nothing, EnteredAll}
 
 fails-at : {A : Type 0} {x y : Read A} → x ≡ y → Fails y → Fails x
 fails-at e h = subst Fails (sym e) h

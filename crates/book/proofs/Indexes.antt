@@ -1,19 +1,19 @@
 -- Laws of an index while it is made, from slot to slot. Assumes nothing.
-use mathlib.Core.Path.{_≡_, refl, sym, ap, _∙_}
-use Prim.Native.Nat.{ℕ, suc, _+_, _-_, _*_, _≤_, _<_}
+use mathlib.Core.Path.{_≡_, refl, ap, _∙_}
+use Prim.Native.Nat.{ℕ, _+_, _-_, _*_, _≤_, _<_}
 use native.Mathlib.Nat.{add-mul, mul-le-mul-right}
 use native.Mathlib.Omega.{arith}
 use mathlib.Core.Bool.{Bool, true, false}
-use mathlib.Core.Option.{Option, none, some}
+use mathlib.Core.Option.{none, some}
 use mathlib.Core.List.{List}
 use lib.ListN.{length, getD, set, length-set}
 use lib.Seq.{getD-set-same, getD-set-other}
 use lib.Dec.{leb, ltb, eqb}
 use borrow.Author.Tests.{leb-true, leb-false, ltb-true, ltb-false, eqb-true, eqb-false}
 use Rattle.layout.specs.Lists.{pick}
-use Rattle.layout.specs.Read.{Words, Place, placed, Read, got, bad, Reader, chain, repeat, ifNothingLeft}
+use Rattle.layout.specs.Read.{Words, placed, Read, got, bad, chain, repeat, ifNothingLeft}
 use Rattle.layout.specs.Book.{readEntry, ifRead, wordsIn}
-use Rattle.editions.specs.Words.{stepOf, placeAfter, wordsBy}
+use Rattle.editions.specs.Words.{stepOf, placeAfter}
 use Rattle.book.specs.Checks.{Fails, fails, wordsFrom, EnteredAll, entered, nothing, Indexed, filled, unfilled}
 use Rattle.book.proofs.Entries.{after-more, all-more, fails-more, fails-longer, Right, words-right}
 

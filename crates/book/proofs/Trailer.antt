@@ -1,18 +1,17 @@
 -- A book, by what stands in it at the trailer's places. Assumes nothing.
-use mathlib.Core.Path.{_≡_, refl, sym, ap, _∙_}
+use mathlib.Core.Path.{_≡_, sym, _∙_}
 use Prim.Native.Nat.{ℕ, _+_, _-_, _≤_, _<_}
 use native.Mathlib.Omega.{arith}
 use mathlib.Core.Bool.{Bool, true, false, false≢true, _&&_, and-false}
-use mathlib.Core.Option.{none, some}
+use mathlib.Core.Option.{none}
 use mathlib.Core.List.{List}
-use lib.ListN.{length, getD, take, drop}
+use lib.ListN.{length, getD}
 use lib.Dec.{leb, eqb}
 use lib.Seq.{getD-drop}
 use borrow.Author.Tests.{le-leb, lt-leb, ne-eqb}
 use Rattle.layout.specs.Numbers.{u16At, u32At}
 use Rattle.layout.specs.Book.{wordsIn, bookDistance, bookCount, isBookMarked, bookIf, bookAt, bookIfTrailer, bookOf}
 use Rattle.fields.specs.Runs.{part}
-use Rattle.editions.specs.Words.{wordsBy}
 use Rattle.book.specs.declared.CheckedBook.the-variants as checked
 use Rattle.cut.proofs.Trailer.{u16-after, u32-after}
 use Rattle.book.specs.Checks.{Indexed, filled, unfilled, BookChecked, good, ill}

@@ -1,6 +1,5 @@
 // The check of a word book, 18, and the index of its words, which is made in the same pass.
 ghost use mathlib.Core.Path.{_≡_};
-ghost use mathlib.Core.Bool.{_&&_};
 ghost use Prim.Native.Nat.{_+_, _≤_, _<_};
 ghost use lib.ListN.{length};
 ghost use Rattle.book.specs.Checks.{Entered, EnteredAll, Indexed, BookChecked};

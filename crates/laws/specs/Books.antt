@@ -1,17 +1,17 @@
 -- The words of a well-formed book have no zero byte, and so has every string that was read; what a string takes of the sheet.
 -- Assumes nothing.
-use mathlib.Core.Path.{_≡_, refl, sym, ap, _∙_, subst}
+use mathlib.Core.Path.{_≡_, sym, subst}
 use Prim.Native.Nat.{ℕ, zero, suc, _+_, _-_, _≤_, _<_}
 use native.Mathlib.Omega.{arith}
-use mathlib.Core.Bool.{Bool, true, false, _&&_}
+use mathlib.Core.Bool.{Bool, true, false}
 use mathlib.Core.Option.{Option, none, some, Option·none-ne-some}
 use mathlib.Core.List.{List, [], _∷_}
 use lib.ListN.{length, getD, take, drop}
 use lib.Dec.{leb, ltb, eqb}
 use Rattle.layout.specs.Lists.{All, all-take, all-drop}
-use Rattle.layout.specs.Read.{Text, plain, inBook, Words, Terms, edition1, edition2, edition3, Place, placed, Read, got, bad, repeat, ifNothingLeft, readU16, readPlain, readWord, readText, readString}
+use Rattle.layout.specs.Read.{Text, plain, inBook, Words, Terms, edition1, edition2, edition3, Place, placed, Read, repeat, ifNothingLeft, readU16, readPlain, readWord, readText, readString}
 use Rattle.layout.specs.Cut.{Edition, First, Second, Third}
-use Rattle.layout.specs.Book.{readEntry, ifRead, wordsIn, bookDistance, bookCount, isBookMarked, bookIf, bookAt, bookIfTrailer, bookOf}
+use Rattle.layout.specs.Book.{readEntry, ifRead, wordsIn, bookIf, bookAt, bookIfTrailer, bookOf}
 use Rattle.layout.specs.Pack.{editionTerms, spelling}
 use Rattle.laws.specs.Fits.{Bytes, Clean}
 use Rattle.laws.specs.ReadFits.{Good, fine, refused, good-then, good-as, u16-good, tested-good, spelling-good, Spells}

@@ -12,7 +12,7 @@ use borrow.Author.Tests.{ltb-false, leb-true}
 use Rattle.layout.specs.Lists.{all-take, all-drop}
 use Rattle.layout.specs.Answers.{Refusal, ActionLenOverflow, BlockLenOverflow, Done, Refused}
 use Rattle.layout.specs.Tree.{Actions, ActionsOf, ActionIndex, firstAction, nextAction, Entry, Action, flat, branch, owner, Try, ActionList, empty, more, body, Catch, noCatch, catch, Finally, noFinally, finally}
-use Rattle.layout.specs.Read.{Text, Words, Terms, deepest, Place, Read, got, bad, readMain}
+use Rattle.layout.specs.Read.{Text, Terms, deepest, Place, Read, got, bad, readMain}
 use Rattle.layout.specs.Strings.{mapBody}
 use Rattle.layout.specs.Payload.{payload, ownerFields, catchName}
 use Rattle.layout.specs.Write.{bodySize, catchSize, finallySize, Position, Event, labelAt, branchAt, payloadTooLong, bodyTooLong, blockStart, toBody, toTry, toCatch, toFinally, past, eventIf, payloadTest, bodyTest, labelsAt, trace, traces, traceBody, traceCatch, traceFinally, events, lookup, blockBytes, blockSize}

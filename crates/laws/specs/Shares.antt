@@ -1,25 +1,25 @@
 -- Where strings may name words, four bytes of a sheet can stand for 65,535 of the book. What is written is at most 65,536 times what
 -- would be with its strings left out, and so at most 196,608 bytes for each byte read. Assumes nothing.
-use mathlib.Core.Path.{_≡_, refl, sym, ap, _∙_}
+use mathlib.Core.Path.{_≡_, refl}
 use Prim.Native.Nat.{ℕ, zero, suc, _+_, _*_, _≤_, _<_}
 use native.Mathlib.Omega.{arith}
-use mathlib.Core.Bool.{Bool, true, false, _&&_}
+use mathlib.Core.Bool.{Bool, true, false}
 use mathlib.Core.Option.{Option, none, some}
 use mathlib.Core.List.{List, [], _∷_}
 use lib.ListN.{length, getD}
 use lib.Dec.{ltb, eqb}
-use borrow.Author.Tests.{ltb-true, ltb-false, lt-ltb}
+use borrow.Author.Tests.{ltb-true, lt-ltb}
 use Rattle.layout.specs.Lists.{All, each, pick}
 use Rattle.layout.specs.OpCode.{OpCode, byte}
-use Rattle.layout.specs.Tree.{PushValueOf, String, Null, Undefined, Register, Boolean, Float, Integer, Constant, FunctionParamOf, functionParam, FlatOf, Small, GotoFrame, GetUrl, StoreRegister, ConstantPool, WaitForFrame, SetTarget, GotoLabel, WaitForFrame2, Push, GetUrl2, GotoFrame2, OwnerOf, With, DefineFunction, DefineFunction2, CatchTargetOf, Variable, ActionOf, flat, branch, owner, Try, ActionListOf, empty, more, ActionsOf, body, CatchOf, noCatch, catch, FinallyOf, noFinally, finally}
-use Rattle.layout.specs.Read.{Text, plain, inBook, Words, Terms, Place, Reader, readU16, readPlain, readWord, readText, readString, readValue, readParam, readCounted, readBody, readAction, behind, readMain}
+use Rattle.layout.specs.Tree.{PushValueOf, String, Null, Undefined, Register, Boolean, Float, Integer, Constant, FunctionParamOf, functionParam, FlatOf, Small, GotoFrame, GetUrl, StoreRegister, ConstantPool, WaitForFrame, SetTarget, GotoLabel, WaitForFrame2, Push, GetUrl2, GotoFrame2, OwnerOf, With, DefineFunction, DefineFunction2, Variable, ActionOf, flat, branch, owner, Try, ActionListOf, empty, more, ActionsOf, body, CatchOf, noCatch, catch, FinallyOf, noFinally, finally}
+use Rattle.layout.specs.Read.{Text, plain, inBook, Words, Terms, Place, readU16, readPlain, readWord, readText, readString, readValue, readParam, readCounted, readBody, readAction, behind, readMain}
 use Rattle.layout.specs.Strings.{mapValue, mapParam, mapFlat, mapOwner, mapTarget, mapAction, mapActions, mapBody, mapCatch, mapFinally}
-use Rattle.layout.specs.Payload.{opcode, payload, ownerFields, catchName, framed}
+use Rattle.layout.specs.Payload.{opcode, payload, framed}
 use Rattle.layout.specs.Write.{size, sizes, bodySize, catchSize, finallySize}
-use Rattle.layout.specs.Lengths.{total, stringLength, paramLength, pushLength, gotoFrame2Length, payloadLength, ownerLength, nameLength, length-payload, length-ownerFields, length-catchName, framed-short, length-framed}
+use Rattle.layout.specs.Lengths.{total, stringLength, paramLength, pushLength, payloadLength, ownerLength, nameLength, length-payload, length-ownerFields, length-catchName, framed-short, length-framed}
 use Rattle.layout.specs.Pack.{spelling}
 use Rattle.laws.specs.Fits.{Bytes, Clean, ValueFits, ParamFits, FlatFits, OwnerFits, NameFits, Well, WellActions, WellBody, WellCatch, WellFinally}
-use Rattle.laws.specs.ReadFits.{Good, good-then, good-as, good-behind, fine, u16-good, tested-good, spelling-good, Spells, BodyGood, text-good, value-good, param-good, counted-good, body-good, action-good, main-good, total-each, all-each}
+use Rattle.laws.specs.ReadFits.{Good, good-then, good-as, good-behind, fine, u16-good, tested-good, spelling-good, Spells, text-good, value-good, param-good, counted-good, body-good, action-good, main-good, total-each, all-each}
 use Rattle.laws.specs.Books.{Of, Short, WordsShort}
 
 -- ---- a tree with its strings put in by v, against the same with its strings put in by w

@@ -1,6 +1,5 @@
 -- `book::after_entries` meets its contract: what is left, from where it stands, is read as all are. Assumes nothing.
 use native.Mathlib.Omega.{arith}
-use borrow.Author.Needs.{needs}
 use Rattle.book.proofs.Entries.{Going, going-start, going-next, going-fails, going-done}
 use Rattle.book.proofs.after_entries.Statement.{statement}
 use Rattle.book.proofs.after_entries.Tie as tie

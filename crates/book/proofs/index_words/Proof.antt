@@ -1,10 +1,9 @@
 -- `book::index_words` meets its contract: from slot to slot, the words before are read and their places are in the index. Assumes nothing.
-use mathlib.Core.Path.{_≡_, refl, _∙_}
-use Prim.Native.Nat.{_-_, _<_}
+use mathlib.Core.Path.{_≡_, refl}
+use Prim.Native.Nat.{_-_}
 use native.Mathlib.Omega.{arith}
 use lib.ListN.{length, length-set}
 use borrow.Author.Needs.{needs}
-use Rattle.editions.specs.Words.{stepOf}
 use Rattle.book.proofs.Indexes.{some-left, Indexing, indexing-start, slot-few, slot-within, indexing-next, indexing-fails, indexing-done}
 use Rattle.book.proofs.index_words.Statement.{statement}
 use Rattle.book.proofs.index_words.Tie as tie

@@ -1,5 +1,4 @@
 -- `editions::names_word` meets its contract. Assumes nothing.
-use borrow.Author.Needs.{needs}
 use Rattle.editions.proofs.names_word.Statement.{statement}
 use Rattle.editions.proofs.names_word.Tie as tie
 

@@ -3,7 +3,6 @@ use mathlib.Core.Path.{sym, ap, _∙_}
 use native.Mathlib.Omega.{arith}
 use lib.ListN.{length}
 use Rattle.positions.specs.Scanned.{faultOf}
-use Rattle.editions.specs.Words.{wordsBy}
 use Rattle.editions.proofs.Listed.{length-words, word-listed}
 use Rattle.operands.proofs.Reading as reading
 use Rattle.operands.proofs.Scans.{stops}

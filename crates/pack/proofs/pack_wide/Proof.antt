@@ -1,5 +1,5 @@
 -- `pack::pack_wide` meets its contract: zeros are lent, 4,096 slots. Assumes nothing.
-use mathlib.Core.Path.{_≡_, sym, _∙_}
+use mathlib.Core.Path.{sym, _∙_}
 use mathlib.Core.Bool.{false≢true}
 use native.Mathlib.Omega.{arith}
 use Rattle.pack.proofs.Packs as packs
