@@ -12,7 +12,7 @@ counted() { # CASE SIDE TIMES
   valgrind --tool=callgrind --callgrind-out-file=/dev/null "$program" run "$@" 2>&1 | sed -n 's/.*Collected : //p'
 }
 printf '%-10s %12s %12s %12s\n' case ours both encoding
-for case in screen recorded large tiny tiny2 strings labels form2 deep; do
+for case in screen recorded large tiny tiny2 tiny3 strings labels form2 deep book3 named3 turn3 spelt2; do
   line=$(printf '%-10s' "$case")
   for side in ours both encoding; do
     say "counts $case, $side"
