@@ -7,6 +7,7 @@ mod sheets;
 use merinovault::{EMPTY_BOOK, Mode, pack_with_book as pack};
 use oracle::answer;
 use oracle::sheet::Edition;
+use sheets::{ENTRIES, NAMES};
 use std::hint::black_box;
 use std::time::Instant;
 
@@ -110,7 +111,13 @@ fn alone(sheet: Vec<u8>) -> Lent {
 
 /// With a book of as many entries as there can be.
 fn with_book(sheet: Vec<u8>) -> Lent {
-    (sheet, sheets::book())
+    (sheet, sheets::book(ENTRIES))
+}
+
+/// So many strings, each far from the one before in a book of so many entries.
+fn scattered(names: usize, entries: usize) -> Lent {
+    let sheet = sheets::named(sheets::SCATTERED, names, entries);
+    (sheet, sheets::book(entries))
 }
 
 /// The cases, by name; those with a 2 are of edition 2, with a 3 of edition 3.
@@ -126,8 +133,10 @@ const CASES: [(&str, fn() -> Lent); 14] = [
     ("form2", || alone(sheets::form())),
     ("deep", || alone(sheets::deep())),
     ("book3", || with_book(sheets::tiny(Edition::Three))),
-    ("named3", || with_book(sheets::named(sheets::SCATTERED))),
-    ("turn3", || with_book(sheets::named(sheets::IN_TURN))),
+    ("named3", || scattered(NAMES, ENTRIES)),
+    ("turn3", || {
+        with_book(sheets::named(sheets::IN_TURN, NAMES, ENTRIES))
+    }),
     ("spelt2", || alone(sheets::spelt(sheets::SCATTERED))),
 ];
 
@@ -215,19 +224,28 @@ fn ratios(rounds: u32) {
     named_against_spelt(rounds);
 }
 
-/// How long a byte of the block takes where strings are entries of a book of 65,535, in nanoseconds and against the same strings
-/// spelt. In `named3` each entry is far from the one before, in `turn3` it is the next one.
+/// How long a byte of the block takes where strings are entries of a book of 65,535, against the same strings spelt. In `named3`
+/// each entry is far from the one before, in `turn3` it is the next one.
 fn named_against_spelt(rounds: u32) {
-    println!("\nnanoseconds for each byte of the block, and against the same strings spelt");
+    println!("\ntime for each byte of the block, against the same strings spelt");
     let each = |case: &str| {
         let (sheet, book) = made(case);
         let times = time(&sheet, &book, rounds);
-        (times.block, 1e9 * times.ours / times.block as f64)
+        (times.block, times.ours / times.block as f64)
     };
     let (length, spelt) = each(SPELT);
-    println!("{SPELT:<10} {length:>9} {spelt:>7.3} {:>7.2}", 1.0);
+    println!("{SPELT:<10} {length:>9} {:>7.2}", 1.0);
     for case in NAMED {
         let (length, named) = each(case);
-        println!("{case:<10} {length:>9} {named:>7.3} {:>7.2}", named / spelt);
+        println!("{case:<10} {length:>9} {:>7.2}", named / spelt);
+    }
+    println!("\nthe same by the number of strings, and by the number of entries");
+    let fewer = [NAMES / 8, NAMES / 4, NAMES / 2, NAMES].map(|names| (names, ENTRIES));
+    let smaller = [4_096, 8_192, 16_384, 32_768, ENTRIES].map(|entries| (NAMES, entries));
+    for (names, entries) in fewer.into_iter().chain(smaller) {
+        let (sheet, book) = scattered(names, entries);
+        let times = time(&sheet, &book, rounds);
+        let named = times.ours / times.block as f64;
+        println!("{names:>9} {entries:>9} {:>7.2}", named / spelt);
     }
 }

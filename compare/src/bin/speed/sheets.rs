@@ -165,21 +165,21 @@ pub fn deep() -> Vec<u8> {
     sheet(&main)
 }
 
-/// How many strings the sheets that name entries have, and how many entries the book has that they name.
-const NAMES: usize = 200_000;
-const ENTRIES: usize = 65_535;
+/// How many strings the longest sheet that names entries has, and how many entries the largest book.
+pub const NAMES: usize = 200_000;
+pub const ENTRIES: usize = 65_535;
 
 /// The text of an entry: 8 to 16 letters and digits.
 fn entry(n: usize) -> String {
     format!("{}{n:05}", &"field of a form"[..3 + n % 9])
 }
 
-/// A book with as many entries as there can be.
-pub fn book() -> Vec<u8> {
-    let entries: Vec<u8> = (0..ENTRIES).flat_map(|n| string(&entry(n))).collect();
+/// A book with so many entries.
+pub fn book(count: usize) -> Vec<u8> {
+    let entries: Vec<u8> = (0..count).flat_map(|n| string(&entry(n))).collect();
     let mut bytes = entries.clone();
     bytes.extend((entries.len() as u32).to_le_bytes());
-    bytes.extend(word(ENTRIES));
+    bytes.extend(word(count));
     bytes.extend([0x42, 0x31]);
     bytes
 }
@@ -188,7 +188,6 @@ pub fn book() -> Vec<u8> {
 fn pushed(edition: Edition, values: impl Iterator<Item = Vec<u8>>) -> Vec<u8> {
     let mut room = LONGEST_SHEET - 1_000;
     let values: Vec<Vec<u8>> = values
-        .take(NAMES)
         .take_while(|value| {
             let taken = room >= value.len();
             room = room.saturating_sub(value.len());
@@ -199,19 +198,20 @@ fn pushed(edition: Edition, values: impl Iterator<Item = Vec<u8>>) -> Vec<u8> {
     sheet_in(edition, &body(&[], &pushes))
 }
 
-/// The entry of the n-th string: far from the one before, or the next one.
-pub type Order = fn(usize) -> usize;
+/// The entry of the n-th string, of so many entries: far from the one before, or the next one.
+pub type Order = fn(usize, usize) -> usize;
 
-pub const SCATTERED: Order = |n| n * 40_507 % ENTRIES;
-pub const IN_TURN: Order = |n| n % ENTRIES;
+pub const SCATTERED: Order = |n, entries| n * 40_507 % entries;
+pub const IN_TURN: Order = |n, entries| n % entries;
 
-/// A sheet of edition 3 of nearly the longest length, whose 200,000 strings are entries.
-pub fn named(order: Order) -> Vec<u8> {
-    let value = |n| [&[0, 0xFF, 0xFF][..], &word(order(n))].concat();
-    pushed(Edition::Three, (0..).map(value))
+/// A sheet of edition 3 with so many strings, each one of so many entries.
+pub fn named(order: Order, names: usize, entries: usize) -> Vec<u8> {
+    let value = |n| [&[0, 0xFF, 0xFF][..], &word(order(n, entries))].concat();
+    pushed(Edition::Three, (0..names).map(value))
 }
 
-/// The same strings spelt in a sheet of edition 2, as far as it holds them.
+/// The strings of the longest such sheet spelt in a sheet of edition 2, as far as it holds them.
 pub fn spelt(order: Order) -> Vec<u8> {
-    pushed(Edition::Two, (0..).map(|n| text_value(&entry(order(n)))))
+    let value = |n| text_value(&entry(order(n, ENTRIES)));
+    pushed(Edition::Two, (0..NAMES).map(value))
 }
