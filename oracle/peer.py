@@ -16,7 +16,7 @@ from collections import Counter
 
 GENERATE, ORACLE, REPLAY = "oracle/target/release/generate", "oracle/target/release/oracle", "crates/replay/stdin"
 HAXE = os.environ.get("HAXE", "haxe")
-SOURCES = ["replay", "mixed:1:4000", "damaged:1:100", "small:1:1", "distances:1:1", "limits:1:1"]
+SOURCES = ["replay", "mixed:1:4000", "damaged:1:100", "small:1:1", "distances:1:1", "limits:1:1", "books:1:1"]
 # A file holds this many blocks, and no further one after so many bytes.
 BLOCKS, BYTES = 500, 1 << 20
 # So many blocks of a source are sent alone, which is slow.
