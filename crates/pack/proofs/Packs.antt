@@ -1,6 +1,5 @@
 -- Laws of packing: from what the steps leave to the answer by the definitions. Assumes nothing.
 use mathlib.Core.Path.{_≡_, refl, sym, ap, _∙_, subst}
-use mathlib.Core.Bool.{true}
 use Prim.Native.Nat.{ℕ, _-_, _≤_, _<_}
 use native.Mathlib.Omega.{arith}
 use mathlib.Core.Logic.{_⊎_, inl, inr, ⊎-elim}
@@ -24,7 +23,7 @@ use Rattle.positions.specs.declared.ActionNumber.{ActionNumber}
 use Rattle.positions.specs.declared.BytePosition.{BytePosition}
 use Rattle.positions.specs.declared.Fault.{Fault}
 use Rattle.positions.specs.Scanned.{meant}
-use Rattle.scan.specs.Mains.{Holds, MainWhole}
+use Rattle.scan.specs.Mains.{Empty, Holds, MainWhole}
 use Rattle.scan.proofs.Mains.{zeros-cleared}
 use Rattle.reading.specs.Readings.{said, MainRead, read-refused}
 use Rattle.reading.specs.declared.Reading.{Reading}
@@ -42,7 +41,7 @@ use Rattle.judge.specs.declared.Verdict.the-variants as verdict
 use Rattle.answer.specs.Answered.{number, value, action, Answered}
 use Rattle.if_room.specs.Near.{MainNear, MainAnswered}
 use Rattle.if_room.proofs.Nears.{refused, answered-by}
-use Rattle.pack.specs.Steps.{TellsFault, TellsBranch, MainShort, TreePacked, TablesLent, ReadPacked, EditionPacked}
+use Rattle.pack.specs.Steps.{TellsFault, TellsBranch, MainShort, TreePacked, ReadPacked, EditionPacked}
 use Rattle.answer.specs.declared.Answer.{Answer}
 use Rattle.answer.specs.declared.Answer.the-variants as answer
 
@@ -180,14 +179,14 @@ module _ (terms : Terms) (b : List ℕ) (start : ℕ) (tab homes over : List ℕ
 
 -- ---- what is lent
 
--- Zeros serve as tables: n slots, and as many homes m where the mode is contained.
-pub zeros-lent : (terms : Terms) (mode : Mode) (n m : ℕ) → terms .labelBound < 65536 → terms .labelBound ≤ n → (mode .contained ≡ true → terms .labelBound ≤ m)
-    → TablesLent terms mode (replicate n 0) (replicate m 0)
-zeros-lent terms mode n m few h k = record {
+-- Zeros serve as tables, with n slots and m homes, and as three numbers.
+pub zeros-empty : (terms : Terms) (n m : ℕ) → terms .labelBound < 65536 → terms .labelBound ≤ n → Empty terms (replicate n 0) (replicate m 0) (replicate 3 0)
+zeros-empty terms n m few h = record {
   slots = record { few = few; enough = omega (arith, h, length-replicate {A = ℕ} n 0) };
   no-records = zeros-cleared n;
   no-homes = zeros-cleared m;
-  lent = λ e. omega (arith, k e, length-replicate {A = ℕ} m 0);
+  three = length-replicate {A = ℕ} 3 0;
+  nothing = refl;
 }
 
 -- ---- a main body, by its edition

@@ -15,10 +15,11 @@ use Rattle.positions.specs.declared.ActionNumber.{ActionNumber}
 use Rattle.positions.specs.declared.BytePosition.{BytePosition}
 use Rattle.positions.specs.declared.Fault.{Fault}
 use Rattle.positions.specs.Scanned.{meant}
-use Rattle.labels.specs.Table.{Cleared, Slots}
 use Rattle.judge.specs.declared.BadBranch.{BadBranch}
-use Rattle.judge.specs.Judging.{refusalOf, HomesLent, MainJudgeable}
+use Rattle.judge.specs.Judging.{refusalOf, MainJudgeable}
 use Rattle.if_room.specs.Near.{MainAnswered}
+use Rattle.reading.specs.Readings.{MainRead}
+use Rattle.reading.specs.declared.Reading.{Reading}
 use Rattle.answer.specs.declared.Answer.{Answer}
 use Rattle.answer.specs.Answered.{number, value, action, Answered}
 
@@ -43,16 +44,18 @@ TreePacked terms mode = MainAnswered terms (packTree mode)
 abbrev pub Limited : List ℕ → ℕ → Type 0
 Limited b start = (length b ≤ 1048576) × (start ≤ 1048576)
 
--- the tables are lent empty, with a slot for each label that the terms allow, and a home where the mode is contained
-pub record TablesLent (terms : Terms) (mode : Mode) (tab homes : List ℕ) : Type 0 where
-  pub slots : Slots terms tab
-  pub no-records : Cleared tab
-  pub no-homes : Cleared homes
-  pub lent : HomesLent terms mode homes
-
 -- what is left of a main body that starts at `start` in its sheet: the packer's answer to what is read of it
 abbrev pub ReadPacked : Terms → Mode → ℕ → List ℕ → List ℕ → Answer → List ℕ → Type 0
 ReadPacked terms mode start b old r new = Answered (packRead mode start (readMain terms b deepest) (length old)) old r new
+
+-- what was read of a main body, wherever that starts in its sheet, with the tables and the three numbers that reading left
+pub record BeenRead (terms : Terms) (b tab homes over : List ℕ) (x : Reading) : Type 0 where
+  pub start : ℕ
+  pub is-read : MainRead terms b start tab homes over x
+
+-- what is left of it: the packer's answer, wherever the main body starts
+abbrev pub PacksRead : Terms → Mode → List ℕ → List ℕ → List ℕ → List ℕ → Reading → List ℕ → Answer → List ℕ → Type 0
+PacksRead terms mode b tab homes over x old r new = (start : ℕ) → MainRead terms b start tab homes over x → ReadPacked terms mode start b old r new
 
 -- of an edition, with a book
 abbrev pub EditionPacked : Edition → List ℕ → Mode → ℕ → List ℕ → List ℕ → Answer → List ℕ → Type 0

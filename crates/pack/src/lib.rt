@@ -10,7 +10,7 @@ ghost use Rattle.answer.specs.Answered.{number, value, action};
 ghost use Rattle.scan.specs.Mains.{MainWhole};
 ghost use Rattle.judge.specs.Judging.{modeOf, HomesLent};
 ghost use Rattle.editions.specs.Allowed.{meant, termsOf};
-ghost use Rattle.pack.specs.Steps.{TellsFault, TellsBranch, MainShort, TreePacked, Limited, TablesLent, ReadPacked, EditionPacked};
+ghost use Rattle.pack.specs.Steps.{TellsFault, TellsBranch, MainShort, TreePacked, Limited, BeenRead, PacksRead, ReadPacked, EditionPacked};
 use answer::Answer;
 use book::CheckedBook;
 use book::check_book;
@@ -105,27 +105,27 @@ fn pack_whole<'a>(
     pack_short(b, words, index, terms, end, mode, tab, homes, out)
 }
 
-// The main body of a sheet, which starts at `start`, by tables that are lent empty: as many slots as the terms allow label numbers,
-// and as many homes where the mode is contained.
-fn pack_main<'a>(
+// What was read of a main body: 3 to 7 where it stops, else what a main body that reads whole comes to, by the tables and the three
+// numbers that reading left.
+fn pack_read<'a>(
     b: &'a [u8],
     words: &'a [u8],
     index: &[u32],
     terms: Terms,
-    start: usize,
+    reading: Reading,
     mode: Mode,
-    tab: &mut [usize],
-    homes: &mut [usize],
+    tab: &[usize],
+    homes: &[usize],
+    over: &[usize],
     out: &mut [u8],
 ) -> Answer
-    requires { ⌜ Limited (now b) start × TablesLent (termsOf terms (now words) (now index)) (modeOf mode) (now tab) (now homes) ⌝ }
-    ensures { λ r. ⌜ ReadPacked (termsOf terms (now (words .entry)) (now (index .entry))) (modeOf mode) start (now (b .entry)) (now (out .entry)) r (now (out .exit)) ⌝ }
+    requires { ⌜ BeenRead (termsOf terms (now words) (now index)) (now b) (now tab) (now homes) (now over) reading × HomesLent (termsOf terms (now words) (now index)) (modeOf mode) (now homes) ⌝ }
+    ensures { λ r. ⌜ PacksRead (termsOf terms (now (words .entry)) (now (index .entry))) (modeOf mode) (now (b .entry)) (now (tab .entry)) (now (homes .entry)) (now (over .entry)) reading (now (out .entry)) r (now (out .exit)) ⌝ }
 {
-    let mut over = [0; 3];
-    match read_main(b, words, index, terms, start, tab, homes, &mut over) {
+    match reading {
         Reading::Stops(f, place, action) => fault_answer(f, place, action),
         Reading::Whole(pos) => {
-            pack_whole(b, words, index, terms, pos, mode, tab, homes, &over, out)
+            pack_whole(b, words, index, terms, pos, mode, tab, homes, over, out)
         }
     }
 }
@@ -138,30 +138,42 @@ fn pack_first<'a>(b: &'a [u8], book: &'a [u8], start: usize, mode: Mode, out: &m
     let terms = first_terms();
     let no_index = [0; 0];
     let mut tab = [0; Terms::FIRST_LABELS];
+    let mut over = [0; 3];
     if mode.contained {
         let mut homes = [0; Terms::FIRST_LABELS];
-        return pack_main(
+        let r = read_main(
             b,
             book,
             &no_index,
             terms,
             start,
-            mode,
             &mut tab,
             &mut homes,
-            out,
+            &mut over,
         );
+        return pack_read(b, book, &no_index, terms, r, mode, &tab, &homes, &over, out);
     }
     let mut no_homes = [0; 0];
-    pack_main(
+    let r = read_main(
         b,
         book,
         &no_index,
         terms,
         start,
-        mode,
         &mut tab,
         &mut no_homes,
+        &mut over,
+    );
+    pack_read(
+        b,
+        book,
+        &no_index,
+        terms,
+        r,
+        mode,
+        &tab,
+        &no_homes,
+        &over,
         out,
     )
 }
@@ -180,32 +192,33 @@ fn pack_wide<'a>(
     ensures { λ r. ⌜ ReadPacked (termsOf terms (now (words .entry)) (now (index .entry))) (modeOf mode) start (now (b .entry)) (now (out .entry)) r (now (out .exit)) ⌝ }
 {
     let mut tab = [0; Terms::SECOND_LABELS];
+    let mut over = [0; 3];
     if mode.contained {
         let mut homes = [0; Terms::SECOND_LABELS];
-        return pack_main(
+        let r = read_main(
             b,
             words,
             index,
             terms,
             start,
-            mode,
             &mut tab,
             &mut homes,
-            out,
+            &mut over,
         );
+        return pack_read(b, words, index, terms, r, mode, &tab, &homes, &over, out);
     }
     let mut no_homes = [0; 0];
-    pack_main(
+    let r = read_main(
         b,
         words,
         index,
         terms,
         start,
-        mode,
         &mut tab,
         &mut no_homes,
-        out,
-    )
+        &mut over,
+    );
+    pack_read(b, words, index, terms, r, mode, &tab, &no_homes, &over, out)
 }
 
 // A main body of edition 2.
