@@ -510,16 +510,16 @@ fn several_threads_pack_at_once() {
     });
 }
 
-/// docs/LINKING.md: so much stack is enough for a call, in each edition and mode.
+/// docs/LINKING.md: so many KiB of stack are enough for a call, by the edition, in each mode.
 #[test]
-fn a_thread_with_128_kib_packs_the_deepest_sheet() {
-    for (edition, label) in [(1, 1023), (2, 4095), (3, 4095)] {
+fn a_small_thread_packs_the_deepest_sheet() {
+    for (edition, label, kib) in [(1, 1023, 64), (2, 4095, 128), (3, 4095, 128)] {
         let innermost = body(&[(label, 0)], &[&jump(label)]);
         let deepest = (1..16).fold(innermost, |inside, _| body(&[], &[&with(&inside)]));
         for mode in MODES {
             let sheet = sheet_in(edition, &[], &deepest);
             let call = move || pack(&sheet, mode, &mut [0; 100]);
-            let thread = std::thread::Builder::new().stack_size(128 * 1024);
+            let thread = std::thread::Builder::new().stack_size(kib * 1024);
             let answer = thread.spawn(call).expect("a thread").join();
             assert_eq!(answer.expect("an answer"), Ok(15 * 5 + 5 + 1));
         }
