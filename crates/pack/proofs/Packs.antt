@@ -1,12 +1,12 @@
 -- Laws of packing: from what the steps leave to the answer by the definitions. Assumes nothing.
 use mathlib.Core.Path.{_≡_, refl, sym, ap, _∙_, subst}
-use Prim.Native.Nat.{ℕ, _-_, _≤_, _<_}
+use Prim.Native.Nat.{ℕ, _-_}
 use native.Mathlib.Omega.{arith}
 use mathlib.Core.Logic.{_⊎_, inl, inr, ⊎-elim}
 use mathlib.Core.Option.{Option, none, some}
 use mathlib.Core.List.{List, [], _∷_}
 use lib.IntN.{pos}
-use lib.ListN.{length, getD, take, drop, replicate, length-replicate}
+use lib.ListN.{length, getD, take, drop}
 use Rattle.layout.specs.Answers.{Refusal, SheetTooLong, BadTrailer, BadBook, ReadingFault, ActionLenOverflow, BlockLenOverflow, Refused, refusalNumber, refusalValue, refusalAction}
 use Rattle.layout.specs.Answers as answers
 use Rattle.layout.specs.Tree.{Actions}
@@ -23,8 +23,7 @@ use Rattle.positions.specs.declared.ActionNumber.{ActionNumber}
 use Rattle.positions.specs.declared.BytePosition.{BytePosition}
 use Rattle.positions.specs.declared.Fault.{Fault}
 use Rattle.positions.specs.Scanned.{meant}
-use Rattle.scan.specs.Mains.{Empty, Holds, MainWhole}
-use Rattle.scan.proofs.Mains.{zeros-cleared}
+use Rattle.scan.specs.Mains.{Holds, MainWhole}
 use Rattle.reading.specs.Readings.{said, MainRead, read-refused}
 use Rattle.reading.specs.declared.Reading.{Reading}
 use Rattle.reading.specs.declared.Reading.the-variants as reading
@@ -176,18 +175,6 @@ module _ (terms : Terms) (b : List ℕ) (start : ℕ) (tab homes over : List ℕ
     whole-packed mode o r after p =
         let m = read-whole .measured in
         rw (read-tree terms mode b (m .tree) start (length o) (m .reads)) (p .answered (m .tree) (m .reads))
-
--- ---- what is lent
-
--- Zeros serve as tables, with n slots and m homes, and as three numbers.
-pub zeros-empty : (terms : Terms) (n m : ℕ) → terms .labelBound < 65536 → terms .labelBound ≤ n → Empty terms (replicate n 0) (replicate m 0) (replicate 3 0)
-zeros-empty terms n m few h = record {
-  slots = record { few = few; enough = omega (arith, h, length-replicate {A = ℕ} n 0) };
-  no-records = zeros-cleared n;
-  no-homes = zeros-cleared m;
-  three = length-replicate {A = ℕ} 3 0;
-  nothing = refl;
-}
 
 -- ---- a main body, by its edition
 

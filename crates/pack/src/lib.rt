@@ -178,7 +178,8 @@ fn pack_first<'a>(b: &'a [u8], book: &'a [u8], start: usize, mode: Mode, out: &m
     )
 }
 
-// A main body by terms that allow the label numbers of edition 2, and those words or none.
+// A main body by terms that allow the label numbers of edition 2, and those words or none. Reading is called here and not in
+// `pack_read`, so that these tables keep a frame of their own and edition 1 does not pay for them.
 fn pack_wide<'a>(
     b: &'a [u8],
     words: &'a [u8],

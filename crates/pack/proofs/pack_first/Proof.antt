@@ -6,11 +6,20 @@ use mathlib.Core.List.{[]}
 use Prim.Native.Nat.{ℕ}
 use native.Mathlib.Omega.{arith}
 use lib.ListN.{length-replicate}
-use Rattle.layout.specs.Read.{Terms, edition1}
+use Rattle.layout.specs.Read as definition
+use Rattle.layout.specs.Read.{edition1}
+use Rattle.editions.specs.Allowed.{wordless}
+use Rattle.editions.specs.declared.Terms.{Terms}
+use Rattle.scan.proofs.Mains.{zeros-cleared, zeros-slots, lent-empty}
 use Rattle.pack.proofs.Packs as packs
 use borrow.Author.Needs.{needs}
 use Rattle.pack.proofs.pack_first.Statement.{statement}
 use Rattle.pack.proofs.pack_first.Tie as tie
+
+-- terms that are those of edition 1 have its bound
+first-bound : (t : Terms) → wordless t edition1 → t .«label_bound» ≡ 1024
+unfolding edition1
+first-bound t h = ap (λ (k : definition.Terms). k .labelBound) (h [] [])
 
 first-terms-requires : tie.Need-first-terms-requires
 first-terms-requires c κs = search needs
@@ -28,10 +37,10 @@ slice-aggregate-read-main-4 : tie.Need-slice-aggregate-read-main-4
 slice-aggregate-read-main-4 c = search needs
 
 read-main-requires : tie.Need-read-main-requires
-unfolding edition1
 read-main-requires c κs =
-    let bound : c .before .before .before .before .before .first-terms .result .«label_bound» ≡ 1024 = ap (λ (k : Terms). k .labelBound) (c .before .before .before .before .before .first-terms .ensures [] []) in
-    (c .before .before .before .before .before .before .before .before .before .pre .0, c .before .before .before .before .before .before .before .before .before .pre .1, packs.zeros-empty _ 1024 1024 (omega (arith, bound)) (omega (arith, bound)))
+    let asked = c .before .before .before .before .before .before .before .before .before .pre in
+    let bound = first-bound (c .before .before .before .before .before .first-terms .result) (c .before .before .before .before .before .first-terms .ensures) in
+    (asked .0, asked .1, lent-empty (zeros-slots _ 1024 (omega (arith, bound)) (omega arith)) (zeros-cleared 1024) (zeros-cleared 1024))
 
 slice-aggregate-pack-read : tie.Need-slice-aggregate-pack-read
 slice-aggregate-pack-read c = search needs
@@ -46,9 +55,8 @@ slice-aggregate-pack-read-4 : tie.Need-slice-aggregate-pack-read-4
 slice-aggregate-pack-read-4 c = search needs
 
 pack-read-requires : tie.Need-pack-read-requires
-unfolding edition1
 pack-read-requires c κs =
-    let bound : c .before .before .before .before .before .before .before .before .before .before .before .before .before .before .first-terms .result .«label_bound» ≡ 1024 = ap (λ (k : Terms). k .labelBound) (c .before .before .before .before .before .before .before .before .before .before .before .before .before .before .first-terms .ensures [] []) in
+    let bound = first-bound (c .before .before .before .before .before .before .before .before .before .before .before .before .before .before .first-terms .result) (c .before .before .before .before .before .before .before .before .before .before .before .before .before .before .first-terms .ensures) in
     (record { start = _; is-read = c .before .before .before .before .before .before .before .before .read-main .ensures }, λ e. omega (arith, bound, c .before .before .before .before .before .before .before .before .read-main .kept .1 .1 .1 .1 .1 .1 .0, length-replicate {A = ℕ} 1024 0))
 
 same-length : tie.Need-same-length
@@ -70,10 +78,10 @@ slice-aggregate-read-main-8 : tie.Need-slice-aggregate-read-main-8
 slice-aggregate-read-main-8 c = search needs
 
 read-main-requires-2 : tie.Need-read-main-requires-2
-unfolding edition1
 read-main-requires-2 c κs =
-    let bound : c .before .before .before .before .before .first-terms .result .«label_bound» ≡ 1024 = ap (λ (k : Terms). k .labelBound) (c .before .before .before .before .before .first-terms .ensures [] []) in
-    (c .before .before .before .before .before .before .before .before .before .pre .0, c .before .before .before .before .before .before .before .before .before .pre .1, packs.zeros-empty _ 1024 0 (omega (arith, bound)) (omega (arith, bound)))
+    let asked = c .before .before .before .before .before .before .before .before .before .pre in
+    let bound = first-bound (c .before .before .before .before .before .first-terms .result) (c .before .before .before .before .before .first-terms .ensures) in
+    (asked .0, asked .1, lent-empty (zeros-slots _ 1024 (omega (arith, bound)) (omega arith)) (zeros-cleared 1024) (zeros-cleared 0))
 
 slice-aggregate-pack-read-5 : tie.Need-slice-aggregate-pack-read-5
 slice-aggregate-pack-read-5 c = search needs

@@ -4,7 +4,7 @@ use mathlib.Core.Bool.{false≢true}
 use Prim.Native.Nat.{ℕ}
 use native.Mathlib.Omega.{arith}
 use lib.ListN.{length-replicate}
-use Rattle.pack.proofs.Packs as packs
+use Rattle.scan.proofs.Mains.{zeros-cleared, zeros-slots, lent-empty}
 use borrow.Author.Needs.{needs}
 use Rattle.pack.proofs.pack_wide.Statement.{statement}
 use Rattle.pack.proofs.pack_wide.Tie as tie
@@ -21,7 +21,7 @@ slice-aggregate-read-main-3 c = search needs
 read-main-requires : tie.Need-read-main-requires
 read-main-requires c κs =
     let asked = c .before .before .before .before .before .before .before .before .pre in
-    (asked .0 .0, asked .0 .1, packs.zeros-empty _ 4096 4096 (omega (arith, asked .1)) (omega (arith, asked .1)))
+    (asked .0 .0, asked .0 .1, lent-empty (zeros-slots _ 4096 (omega (arith, asked .1)) (omega arith)) (zeros-cleared 4096) (zeros-cleared 4096))
 
 slice-aggregate-pack-read : tie.Need-slice-aggregate-pack-read
 slice-aggregate-pack-read c = search needs
@@ -53,7 +53,7 @@ slice-aggregate-read-main-6 c = search needs
 read-main-requires-2 : tie.Need-read-main-requires-2
 read-main-requires-2 c κs =
     let asked = c .before .before .before .before .before .before .before .before .pre in
-    (asked .0 .0, asked .0 .1, packs.zeros-empty _ 4096 0 (omega (arith, asked .1)) (omega (arith, asked .1)))
+    (asked .0 .0, asked .0 .1, lent-empty (zeros-slots _ 4096 (omega (arith, asked .1)) (omega arith)) (zeros-cleared 4096) (zeros-cleared 0))
 
 slice-aggregate-pack-read-4 : tie.Need-slice-aggregate-pack-read-4
 slice-aggregate-pack-read-4 c = search needs
