@@ -61,7 +61,7 @@ Rising low (x ∷ xs) high = (low ≤ x) × Rising (x + 1) xs high
 
 within : {low low' high high' : ℕ} (xs : List ℕ) → low' ≤ low → high ≤ high' → Rising low xs high → Rising low' xs high'
 within [] l k h = omega arith
-within (x ∷ xs) l k h = (omega (arith, h.0), within xs (omega arith) k h.1)
+within {low = low} {low' = low'} {high = high} {high' = high'} (x ∷ xs) l k h = (omega (arith, h.0), within {low = x + 1} {low' = x + 1} {high = high} {high' = high'} xs (omega arith) k h.1)
 
 both : (low mid high : ℕ) (xs ys : List ℕ) → Rising low xs mid → Rising mid ys high → Rising low (xs ++ ys) high
 both low mid high [] ys h k = within ys h (omega arith) k

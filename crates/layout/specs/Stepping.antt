@@ -130,7 +130,7 @@ module _ (s : List ℕ) where
   over {q} {a} {n} r h (first {x} {r = b} {n = i} g t f) e =
       let e₁ : s ≡ q ++ (x ++ (b ++ r)) = e ∙ ap (λ (u : List ℕ). q ++ u) (ap (λ (u : List ℕ). u ++ r) f ∙ append_assoc x b r) in
       let next : Reached (q ++ x) (n + 1) = record { end = end_at x 0; same = h.same ∙ on_step q x (b ++ r) n h.end g e₁ } in
-      let last : Reached ((q ++ x) ++ b) (n + 1 + i) = over r next t (e₁ ∙ sym (append_assoc q x (b ++ r))) in
+      let last : Reached ((q ++ x) ++ b) (n + 1 + i) = over {q = q ++ x} {a = b} {n = n + 1} {i = i} r next t (e₁ ∙ sym (append_assoc q x (b ++ r))) in
       let u : (q ++ x) ++ b ≡ q ++ a = append_assoc q x b ∙ ap (λ (v : List ℕ). q ++ v) (sym f) in
       let v : n + 1 + i ≡ n + suc i = omega arith in
       subst (λ (j : ℕ). Reached (q ++ a) j) v (subst (λ (w : List ℕ). Reached w (n + 1 + i)) u last)
