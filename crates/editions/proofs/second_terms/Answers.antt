@@ -1,0 +1,13 @@
+-- Edition 2 has its bound and no words. Assumes nothing.
+use mathlib.Core.Path.{refl}
+use native.Mathlib.Omega.{arith}
+use Rattle.layout.specs.Read.{edition2}
+use Rattle.editions.specs.Words.{words_if}
+use Rattle.editions.proofs.second_terms.Goals as goal
+
+pub overflow_cast-result : goal.overflow_cast-result
+overflow_cast-result c = omega arith
+
+pub returns : goal.returns
+unfolding edition2 words_if
+returns c = refl
