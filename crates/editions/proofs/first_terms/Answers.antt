@@ -10,4 +10,4 @@ overflow_cast-result c = omega arith
 
 pub returns : goal.returns
 unfolding edition1 words_if
-returns c = refl
+returns c e index = refl

@@ -13,4 +13,4 @@ overflow_cast-result-2 c = omega (arith, c.requires)
 
 pub returns : goal.returns
 unfolding edition3 words_if
-returns c = refl
+returns c e index = refl

@@ -10,28 +10,18 @@ use Rattle.layout.specs.Lists.{each, first_with, pick}
 use Rattle.layout.specs.OpCode.{opcode_of, opcodes, small_op_codes, byte, small_byte}
 use Rattle.opcode.specs.Listed.{listed, is_some}
 use Rattle.opcode.proofs.Words.{word, word_at}
-use Rattle.opcode.proofs.OpCode.is_listed.Statement.{statement}
-use Rattle.opcode.proofs.OpCode.is_listed.Tie as tie
+use Rattle.opcode.proofs.OpCode.is_listed.Goals as goal
 
 -- a word of the test's bits at the 64 opcodes from 64 * k on has the bit of each of them
 in-word : {w : ℕ} (k op : ℕ) → w ≡ word listed (64 * k) 64 → op / 64 ≡ k → eqb (w / 2 ^ (op % 64) % 2) 1 ≡ listed op
 in-word k op e d = ap (λ w. eqb (w / 2 ^ (op % 64) % 2) 1) e ∙ word_at listed (64 * k) 64 (op % 64) op (omega arith) (omega arith)
 
-cast-result : tie.Need-overflow-cast-result
-cast-result c = search rules
-
-shr-result : tie.Need-overflow-shr-result
-shr-result c = search rules
-
-returns : tie.Need-returns
+pub returns : goal.returns
 unfolding listed is_some opcode_of opcodes small_op_codes byte small_byte each first_with pick word bit
 returns c =
-    let op : ℕ = c.before.before.args.op in
+    let op : ℕ = c.args.op in
     ⊎_elim (λ s. in-word 0 op s.1 s.0.keys1)
     (⊎_elim (λ s. in-word 1 op s.1 s.0.keys2)
     (⊎_elim (λ s. in-word 2 op s.1 s.0.keys3)
     (λ s. in-word 3 op s.1 (omega (arith, s.0.rest)))))
-    c.before.match.branch
-
-pub is-listed-spec : {M : Type 1} → statement M
-is-listed-spec = tie.close (tie.spec cast-result shr-result returns)
+    c.match-op-div64.branch

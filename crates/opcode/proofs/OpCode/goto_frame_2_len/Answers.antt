@@ -2,8 +2,7 @@
 use mathlib.Core.Path.{◌≡◌, refl}
 use Prim.Native.Nat.{ℕ, zero, suc}
 use Rattle.layout.specs.Lengths.{goto_frame2_length}
-use Rattle.opcode.proofs.OpCode.goto_frame_2_len.Statement.{statement}
-use Rattle.opcode.proofs.OpCode.goto_frame_2_len.Tie as tie
+use Rattle.opcode.proofs.OpCode.goto_frame_2_len.Goals as goal
 
 -- a bias that is not 0 takes three bytes
 some_bias : (n : ℕ) → (n ≡ 0 → ⊥) → 3 ≡ goto_frame2_length n
@@ -11,12 +10,9 @@ unfolding goto_frame2_length
 some_bias zero h = absurd (h refl)
 some_bias (suc n) h = refl
 
-returns : tie.Need-returns
+pub returns-then-bias-eq0 : goal.returns-then-bias-eq0
 unfolding goto_frame2_length
-returns c = rw c.if1.true
+returns-then-bias-eq0 c = rw c.if-bias-eq0.true
 
-returns-2 : tie.Need-returns-2
-returns-2 c = some_bias c.before.args.bias c.if1.false
-
-pub goto-frame-2-len-spec : {M : Type 1} → statement M
-goto-frame-2-len-spec = tie.close (tie.spec returns returns-2)
+pub returns-else-bias-eq0 : goal.returns-else-bias-eq0
+returns-else-bias-eq0 c = some_bias c.args.bias c.if-bias-eq0.false
