@@ -704,6 +704,7 @@ block_published b h =
 -- ---- labels are placed where a record starts or a body ends
 
 member_left : (x : ℕ) (xs ys : List ℕ) → Member x xs → Member x (xs ++ ys)
+member_left x [] ys m = elim m [ ]
 member_left x (y ∷ xs) ys here = here
 member_left x (y ∷ xs) ys (there m) = there (member_left x xs ys m)
 
@@ -782,14 +783,21 @@ last_placed ps (y ∷ ls) l x h e = go (eqb l y.0) (last_place ls l) refl e (λ 
 
 -- ---- the three differences, by name
 
+-- eight bits are the one byte of the number they make
+bits_byte : (a b c d e f g h : Bool) (bs : List ℕ) → BITS a b c d e f g h bs
+    → bs ≡ (128 * bit_of a + 64 * bit_of b + 32 * bit_of c + 16 * bit_of d + 8 * bit_of e + 4 * bit_of f + 2 * bit_of g + bit_of h) ∷ []
+bits_byte a b c d e f g h bs eight_bits = refl
+
 -- GetUrl2: the byte that the specification's table gives, and the byte that the source writes
 pub get_url2_published : (v t : Bool) (m : ℕ) (bs : List ℕ) → GetURL2Flags as_published v t m bs
     → bs ≡ (64 * (m % 4) + 2 * bit_of t + bit_of v) ∷ []
-get_url2_published v t m bs (from_most {x = x} {y = y} e eight_bits) = ap (λ (n : ℕ). n ∷ []) (omega (arith, bit_false))
+get_url2_published v t m bs (from_most {x = x} {y = y} e b) =
+    bits_byte x y false false false false t v bs b ∙ ap (λ (n : ℕ). n ∷ []) (omega (arith, bit_false))
 
 pub get_url2_written : (v t : Bool) (m : ℕ) (bs : List ℕ) → GetURL2Flags as_written v t m bs
     → bs ≡ (128 * bit_of v + 64 * bit_of t + m % 4) ∷ []
-get_url2_written v t m bs (from_least {x = x} {y = y} e eight_bits) = ap (λ (n : ℕ). n ∷ []) (omega (arith, bit_false))
+get_url2_written v t m bs (from_least {x = x} {y = y} e b) =
+    bits_byte v t false false false false x y bs b ∙ ap (λ (n : ℕ). n ∷ []) (omega (arith, bit_false))
 
 low_word : (w lo hi : ℕ) → w ≡ lo + 4294967296 * hi → lo < 4294967296 → w % 4294967296 ≡ lo
 low_word w lo hi e h = rw e (omega arith)
@@ -809,6 +817,7 @@ double_written w bs (high_word_first {lo = lo} {hi = hi} l u e) =
 
 -- what all have, an element has
 all_member : {A : Type 0} (P : A → Type 0) (x : A) (xs : List A) → All P xs → Member x xs → P x
+all_member P x [] h m = elim m [ ]
 all_member P x (y ∷ xs) h here = h.0
 all_member P x (y ∷ xs) h (there m) = all_member P x xs h.1 m
 
@@ -830,6 +839,7 @@ end_not_simple n m =
 -- End: no record of the specification has it as its contents, and the source writes the byte 0
 pub end_unpublished : (r : List ℕ) → FlatRecord as_published (Small SmallOpCode.End) r → ⊥
 end_unpublished r (ActionSimple {ActionCode = n} m a) = end_not_simple n m
+end_unpublished r (EndAmongActions z) = elim z [ ]
 
 pub end_written : (r : List ℕ) → FlatRecord as_written (Small SmallOpCode.End) r → r ≡ 0 ∷ []
 end_written r (ActionSimple {ActionCode = n} m a) = absurd (end_not_simple n m)
