@@ -10,7 +10,7 @@ use Rattle.std.proofs.Math.IntN.{pos, sub_ℕ}
 use Rattle.layout.specs.Lists.{All, all_right}
 use Rattle.layout.specs.Numbers.{le16, u16_at}
 use Rattle.layout.specs.Answers.{Done}
-use Rattle.layout.specs.Tree.{Branch, Action, branch, Actions, body_count}
+use Rattle.layout.specs.Tree.{Branch, Action, flat, branch, owner, Try, Actions, body_count}
 use Rattle.layout.specs.Payload.{branch_op_code, framed}
 use Rattle.layout.specs.Write.{Position, block_start, Event, label_at, branch_at, payload_too_long, body_too_long, lookup, distance_bits, branch_bits, block_bytes, events}
 use Rattle.layout.specs.Judge.{distance, too_far, Mode}
@@ -150,6 +150,9 @@ module _ (t : Actions) (fits : BodyFits t) (near : too_far (events t) (events t)
   branch_steps (branch_at l s ∷ es) h = (is h.0.before h.0.action h.0.later h.0.is_among h.0.is_number h.0.is_so.0 h.0.is_so.1, branch_steps es h.1)
     where
       is : (before : List Action) (a : Action) (after : List Action) → xs ≡ before ++ (a ∷ after) → length before ≡ s.number → BranchTo l a → s.at ≡ total own_size before + 3 → BranchStep t (block_bytes t) l s
+      is before (flat f) after e n b i = elim b [ ]
+      is before (owner o b) after e n c i = elim c [ ]
+      is before (Try b c f) after e n g i = elim g [ ]
       is before (branch k l) after e n branch_to i =
           let p : ℕ = total own_size before in
           let j : p + 5 ≡ s.at + 2 = omega (arith, i) in
