@@ -7,7 +7,7 @@ use positions::{ActionNumber, BytePosition};
 
 // The answers of documents 01 and 02 to a packer, each with its value, and 3 to 10, 14 and 15 with the number of an action; a distance
 // as its 64 bits.
-#[derive(Drop)]
+#[derive(Clone, Copy)]
 pub enum Answer {
     Done(usize),
     SheetTooLong(usize),

@@ -6,7 +6,7 @@ use fields::{first_nul, u16_at, u32_at};
 use words::step_of;
 
 // Where the entries of a well-formed book start and end in it, and how many there are.
-#[derive(Drop)]
+#[derive(Clone, Copy)]
 pub enum CheckedBook {
     Good(usize, usize, usize),
     Bad,

@@ -7,7 +7,7 @@ use editions::Edition;
 use fields::{u16_at, u32_at};
 
 // The edition, and where the main body starts and ends in the sheet; or a refusal.
-#[derive(Drop)]
+#[derive(Clone, Copy)]
 pub enum CutMain {
     Main(Edition, usize, usize),
     SheetTooLong(usize),

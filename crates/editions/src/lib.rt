@@ -4,7 +4,7 @@ ghost use Rattle.layout.specs.Read.{edition1, edition2};
 ghost use Rattle.editions.specs.Allowed.{wordless, booked};
 
 // The edition that a trailer names.
-#[derive(Drop)]
+#[derive(Clone, Copy)]
 pub enum Edition {
     First,
     Second,
@@ -13,7 +13,7 @@ pub enum Edition {
 
 // What a sheet is read by: label numbers under a bound, and whether its strings may name the words of a book, and how many there are.
 // The walks are handed it by value, so its fields are narrow: together they fill one word.
-#[derive(Drop)]
+#[derive(Clone, Copy)]
 pub struct Terms {
     pub label_bound: u32,
     pub word_count: u16,

@@ -21,7 +21,7 @@ use positions::{ActionNumber, BytePosition};
 
 // What is asked of a sheet's branches besides their distances: in strict mode, that each one's label is recorded; in a contained
 // mode, that its record, if it has one, is in the function body of the branch.
-#[derive(Drop)]
+#[derive(Clone, Copy)]
 pub struct Mode {
     pub strict: bool,
     pub contained: bool,
@@ -29,7 +29,7 @@ pub struct Mode {
 
 // What is wrong with a branch: the 64 bits of a distance that does not fit; or, where its label is never recorded or is recorded in
 // another function body, the position of its operand.
-#[derive(Drop)]
+#[derive(Clone, Copy)]
 pub enum BadBranch {
     Far(u64),
     NeverRecorded(BytePosition),
@@ -38,14 +38,14 @@ pub enum BadBranch {
 
 // Where reading and writing would end and the number of the next action, or the first branch in writing order that is refused, with
 // its own.
-#[derive(Drop)]
+#[derive(Clone, Copy)]
 pub enum Judged {
     Ends(usize, BytePosition, ActionNumber),
     Refused(BadBranch, ActionNumber),
 }
 
 // That no branch is refused, or the first in writing order that is, with its number.
-#[derive(Drop)]
+#[derive(Clone, Copy)]
 pub enum Verdict {
     Passed,
     Refused(BadBranch, ActionNumber),

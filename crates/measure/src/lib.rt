@@ -7,7 +7,7 @@ use positions::{ActionNumber, BytePosition, Fault, Scan};
 
 // The place and the position after a payload, with a branch's label, or how many bodies follow; or a fault and its place. The body
 // of a function is told apart: what stands in it has another home than the function.
-#[derive(Drop)]
+#[derive(Clone, Copy)]
 pub enum Laid {
     Flat(usize, BytePosition),
     Branch(usize, BytePosition, usize),

@@ -7,7 +7,7 @@ ghost use Rattle.layout.specs.Lengths.{push_length, goto_frame2_length};
 ghost use Rattle.opcode.specs.Listed.{listed};
 
 // An opcode's byte. Its constants are those of OpCode of source 000, in that order.
-#[derive(Drop)]
+#[derive(Clone, Copy)]
 pub struct OpCode(pub u8);
 
 impl OpCode {

@@ -9,7 +9,7 @@ use opcode::OpCode;
 use words::word_at;
 
 // A run of bytes of the main body, or of the words of a book, and the place in the main body after the string.
-#[derive(Drop)]
+#[derive(Clone, Copy)]
 pub struct Span {
     pub from_book: bool,
     pub at: usize,
@@ -18,7 +18,7 @@ pub struct Span {
 }
 
 // A Try's catch target is a name or a register.
-#[derive(Drop)]
+#[derive(Clone, Copy)]
 pub enum CatchTarget {
     Nothing,
     Variable(Span),
@@ -26,7 +26,7 @@ pub enum CatchTarget {
 }
 
 // A pushed value; a double is its 64 bits, an integer its 32.
-#[derive(Drop)]
+#[derive(Clone, Copy)]
 pub enum PushValue {
     String(Span),
     Null,
@@ -39,14 +39,14 @@ pub enum PushValue {
 }
 
 // A pushed value and the place after it.
-#[derive(Drop)]
+#[derive(Clone, Copy)]
 pub struct PushAt {
     pub value: PushValue,
     pub next: usize,
 }
 
 // A function's name, the count of its parameters and the first one's place.
-#[derive(Drop)]
+#[derive(Clone, Copy)]
 pub struct Function {
     pub name: Span,
     pub count: usize,
@@ -54,7 +54,7 @@ pub struct Function {
 }
 
 // An action. A list (ConstantPool, Push) is its count and its first element's place; With and Try hold their first body's place.
-#[derive(Drop)]
+#[derive(Clone, Copy)]
 pub enum Action {
     Small(u8),
     GotoFrame(usize),

@@ -12,7 +12,7 @@ use positions::{ActionNumber, BytePosition, Fault, Walked};
 use scan::scan_main;
 
 // The position at which its writing would end, or a fault with its place in the sheet and the action that it names.
-#[derive(Drop)]
+#[derive(Clone, Copy)]
 pub enum Reading {
     Whole(BytePosition),
     Stops(Fault, usize, ActionNumber),

@@ -109,7 +109,7 @@ fn replay_sheet<'a>(
 }
 
 // What replaying a record gives: whether all is as it says, and how many steps were counted through the block.
-#[derive(Drop)]
+#[derive(Clone, Copy)]
 pub struct Replayed {
     pub agrees: bool,
     pub steps: usize,

@@ -6,14 +6,14 @@ ghost use Rattle.step.specs.Steps.{look_at, told};
 use fields::u16_at;
 
 // How far the step at a place goes: to the place after it, or past the end.
-#[derive(Drop)]
+#[derive(Clone, Copy)]
 pub enum Look {
     Next(usize),
     Cut,
 }
 
 // The number of steps made, or the place where the block is unclean.
-#[derive(Drop)]
+#[derive(Clone, Copy)]
 pub enum Stepped {
     Done(usize),
     Unclean(usize),

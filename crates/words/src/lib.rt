@@ -8,7 +8,7 @@ ghost use Rattle.words.specs.Found.{Found};
 use fields::u16_at;
 
 // Where the bytes of a word stand.
-#[derive(Drop)]
+#[derive(Clone, Copy)]
 pub struct Word {
     pub at: usize,
     pub len: usize,

@@ -15,7 +15,7 @@ use positions::{BytePosition, Ends};
 use writer::{Writer, append_u8, finish, write_block_length_at, writer_at};
 
 // The bodies that follow an action's payload: none, one, or those of a Try by its shape.
-#[derive(Drop)]
+#[derive(Clone, Copy)]
 pub enum Bodies {
     Nothing,
     One,
