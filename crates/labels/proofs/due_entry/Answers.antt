@@ -5,7 +5,7 @@ use mathlib.Core.Logic.{⊎_elim}
 use Prim.Native.Nat.{min, ◌+◌, ◌*◌, ◌≤◌}
 use native.Mathlib.Omega.{arith}
 use lib.ListN.{length}
-use Rattle.labels.specs.Table.{entries_at, none_left, due}
+use Rattle.labels.specs.Table.{entries_at, none_left, unless_under, due, key}
 use Rattle.labels.proofs.Recording as laws
 use Rattle.labels.proofs.due_entry.Goals as goal
 use Rattle.labels.proofs.due_entry.Goals.{else-e-from, else-x-least, then-e-from, then-x-least}
@@ -15,24 +15,11 @@ loop-left-init c =
     let a = c.args in
     (omega (arith, laws.due_most (entries_at a.b.now a.n a.at) a.from), omega arith, omega arith)
 
-pub u32_at-e-requires : goal.u32_at-e-requires
-u32_at-e-requires c = omega arith
-
-pub overflow_add-p : goal.overflow_add-p
-overflow_add-p c = omega arith
-
-pub overflow_sub-left : goal.overflow_sub-left
-overflow_sub-left c = omega arith
-
-pub loop-left-smaller : goal.loop-left-smaller
-loop-left-smaller c = omega arith
-
 pub loop-left-preserved : goal.loop-left-preserved
 loop-left-preserved c =
     let l = c.loop-left in
-    let x = elim c.if-e-from.branch [ then-e-from s ↦ s.1 ∙ laws.unless_under_lem _ _ s.0.taken | else-e-from s ↦ s.1 ∙ laws.unless_over _ _ s.0.left ] in
-    let least : c.if-x-least.least ≡ min c.if-e-from.x l.least =
-    elim c.if-x-least.branch [ then-x-least s ↦ omega (arith, s.0.taken) | else-x-least s ↦ omega (arith, s.0.left) ] in
+    let x : c.if-e-from.x ≡ unless_under c.args.from c.u32_at-e.result = elim c.if-e-from.branch [ then-e-from w ↦ w.x-is ∙ laws.unless_under_lem _ _ w.if-e-from.true | else-e-from w ↦ w.x-is ∙ laws.unless_over _ _ w.if-e-from.false ] in
+    let least : c.if-x-least.least ≡ min c.if-e-from.x l.least = elim c.if-x-least.branch [ then-x-least w ↦ omega arith | else-x-least w ↦ omega arith ] in
     let again = laws.due_more _ _ _ _ _ c.loop-left-test.true c.u32_at-e.ensures x least in
     (again ∙ l.invariant.0, omega arith, omega arith)
 

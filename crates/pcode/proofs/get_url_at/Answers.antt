@@ -6,21 +6,17 @@ use lib.ListN.{length}
 use Rattle.editions.specs.declared.Terms as code-terms
 use Rattle.pcode.specs.Shown.{span_at}
 use Rattle.pcode.proofs.Readings.{span_least}
-use Rattle.pcode.proofs.get_url_at.Statement.{statement}
-use Rattle.pcode.proofs.get_url_at.Tie as tie
+use Rattle.pcode.proofs.get_url_at.Goals as goal
 
 -- the first ends before the second
 first-room : (t : code-terms.Terms) (e index b : List ℕ) (p : ℕ) → (span_at t e index b (span_at t e index b p).next).next ≤ length b → (span_at t e index b p).next ≤ length b
 first-room t e index b p h = omega (arith, span_least t e index b (span_at t e index b p).next)
 
-span-at-requires : tie.Need-span-at-requires
-span-at-requires c κs = first-room _ _ _ _ _ c.before.before.before.requires
+pub span_at-url-requires : goal.span_at-url-requires
+span_at-url-requires c = first-room _ _ _ _ _ c.requires
 
-span-at-requires-2 : tie.Need-span-at-requires-2
-span-at-requires-2 c κs = rw c.span-at.ensures c.before.before.before.before.requires
+pub span_at-requires : goal.span_at-requires
+span_at-requires c = rw c.span_at-url.ensures c.requires
 
-returns : tie.Need-returns
-returns c = rw (c.span-at2.ensures, c.before.span-at.ensures)
-
-pub get-url-at-spec : {M : Type 1} → statement M
-get-url-at-spec = tie.close (tie.spec span-at-requires span-at-requires-2 returns)
+pub returns : goal.returns
+returns c = rw (c.span_at.ensures, c.span_at-url.ensures)

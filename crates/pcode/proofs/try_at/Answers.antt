@@ -10,8 +10,7 @@ use Rattle.layout.specs.Read.{has_catch, has_register}
 use Rattle.pcode.specs.Shown.{span_at, after_catch, after_try}
 use Rattle.editions.specs.declared.Terms as code-terms
 use Rattle.pcode.proofs.Readings.{span_least}
-use Rattle.pcode.proofs.try_at.Statement.{statement}
-use Rattle.pcode.proofs.try_at.Tie as tie
+use Rattle.pcode.proofs.try_at.Goals as goal
 
 -- the bits of a shape, by the code's tests
 module _ (shape : ℕ) where
@@ -47,49 +46,31 @@ module _ (t : code-terms.Terms) (e index b : List ℕ) (p : ℕ) where
   register-room : (get_or b p 0 % 2 ≡ 0 → ⊥) → (get_or b p 0 / 4 % 2 ≡ 0 → ⊥) → after_try t e index b p ≤ length b → p + 1 + 1 ≤ length b
   register-room c r h = rw (a-catch _ c, a-register _ r) at h
 
-shared-slice-read-shape : tie.Need-shared-slice-read-shape
-shared-slice-read-shape c =
-    let s = c.before.before.before.before in
-    omega (arith, shape-room s.args.terms s.args.words.now s.args.index.now s.args.b.now s.args.at s.requires)
+pub bounds-b-at : goal.bounds-b-at
+bounds-b-at c =
+    omega (arith, shape-room c.args.terms c.args.words.now c.args.index.now c.args.b.now c.args.at c.requires)
 
-add-p : tie.Need-overflow-add-p
-add-p c =
-    let s = c.before.before.before.before in
-    omega (arith, shape-room s.args.terms s.args.words.now s.args.index.now s.args.b.now s.args.at s.requires)
+pub overflow_add-p : goal.overflow_add-p
+overflow_add-p c =
+    omega (arith, shape-room c.args.terms c.args.words.now c.args.index.now c.args.b.now c.args.at c.requires)
 
-returns : tie.Need-returns
-returns c = rw (no_catch _ c.if1.true)
+pub returns-then-shape-eq0 : goal.returns-then-shape-eq0
+returns-then-shape-eq0 c = rw (no_catch _ c.if-shape-eq0.true)
 
-span-at-requires : tie.Need-span-at-requires
-span-at-requires c κs =
-    let s = c.before.before.before.before.before.before in
-    omega (arith, name-room s.args.terms s.args.words.now s.args.index.now s.args.b.now s.args.at c.before.if1.false c.if2.true s.requires)
+pub span_at-name-requires : goal.span_at-name-requires
+span_at-name-requires c =
+    omega (arith, name-room c.args.terms c.args.words.now c.args.index.now c.args.b.now c.args.at c.if-shape-eq0.false c.if-shape-eq0-2.true c.requires)
 
-returns-2 : tie.Need-returns-2
-returns-2 c = rw (c.span-at.ensures, a-catch _ c.before.before.if1.false, no_register _ c.before.if2.true)
+pub returns-then-shape-eq0-2 : goal.returns-then-shape-eq0-2
+returns-then-shape-eq0-2 c = rw (c.span_at-name.ensures, a-catch _ c.if-shape-eq0.false, no_register _ c.if-shape-eq0-2.true)
 
-shared-slice-read-t10 : tie.Need-shared-slice-read-t10
-shared-slice-read-t10 c =
-    let s = c.before.before.before.before.before.before.before in
-    omega (arith, register-room s.args.terms s.args.words.now s.args.index.now s.args.b.now s.args.at c.before.before.if1.false c.before.if2.false s.requires)
+pub bounds-b-p : goal.bounds-b-p
+bounds-b-p c =
+    omega (arith, register-room c.args.terms c.args.words.now c.args.index.now c.args.b.now c.args.at c.if-shape-eq0.false c.if-shape-eq0-2.false c.requires)
 
-add-t17 : tie.Need-overflow-add-t17
-add-t17 c =
-    let s = c.before.before.before.before.before.before.before in
-    omega (arith, register-room s.args.terms s.args.words.now s.args.index.now s.args.b.now s.args.at c.before.before.if1.false c.before.if2.false s.requires)
+pub overflow_add-result : goal.overflow_add-result
+overflow_add-result c =
+    omega (arith, register-room c.args.terms c.args.words.now c.args.index.now c.args.b.now c.args.at c.if-shape-eq0.false c.if-shape-eq0-2.false c.requires)
 
-returns-3 : tie.Need-returns-3
-returns-3 c = rw (a-catch _ c.before.before.if1.false, a-register _ c.before.if2.false)
-
-pub try-at-spec : {M : Type 1} → statement M
-try-at-spec =
-    tie.close
-    (tie.spec
-    shared-slice-read-shape
-    add-p
-    returns
-    span-at-requires
-    returns-2
-    shared-slice-read-t10
-    add-t17
-    returns-3)
+pub returns : goal.returns
+returns c = rw (a-catch _ c.if-shape-eq0.false, a-register _ c.if-shape-eq0-2.false)

@@ -13,8 +13,7 @@ use Rattle.words.specs.Found.{found_at}
 use Rattle.pcode.specs.Shown.{book_span, plain_span, span_at}
 use Rattle.pcode.proofs.Readings.{span_word, span_plain, span_least}
 use borrow.Author.Rules.{rules}
-use Rattle.pcode.proofs.span_at.Statement.{statement}
-use Rattle.pcode.proofs.span_at.Tie as tie
+use Rattle.pcode.proofs.span_at.Goals as goal
 
 length-room : (t : code-terms.Terms) (e index b : List ℕ) (p : ℕ) → (span_at t e index b p).next ≤ length b → p + 2 ≤ length b
 length-room t e index b p l = omega (arith, span_least t e index b p)
@@ -36,47 +35,23 @@ module _ (t : code-terms.Terms) (e index b : List ℕ) (p n : ℕ) (k : n ≡ u1
   is_plain : (t.names_words && eqb n 65535) ≡ false → plain_span (p + 2) n ≡ span_at t e index b p
   is_plain h = ap (plain_span (p + 2)) k ∙ sym (span_plain t e index b p (tests h))
 
-u16-at-requires : tie.Need-u16-at-requires
-u16-at-requires c κs = length-room _ _ _ _ _ c.before.before.before.requires
+pub u16_at-n-requires : goal.u16_at-n-requires
+u16_at-n-requires c = length-room _ _ _ _ _ c.requires
 
-add-p : tie.Need-overflow-add-p
-add-p c = omega (arith, length-room _ _ _ _ _ c.before.before.before.before.requires)
+pub overflow_add-p : goal.overflow_add-p
+overflow_add-p c = omega (arith, length-room _ _ _ _ _ c.requires)
 
-names-word-requires : tie.Need-names-word-requires
-names-word-requires c κs = search rules
+pub u16_at-i-requires : goal.u16_at-i-requires
+u16_at-i-requires c = word_room _ _ _ _ _ _ c.u16_at-n.ensures.0 (sym c.names_word.ensures ∙ c.if-names_word.true) c.requires
 
-u16-at-requires-2 : tie.Need-u16-at-requires-2
-u16-at-requires-2 c κs = word_room _ _ _ _ _ _ c.before.before.u16-at.ensures.0 (sym c.before.names-word.ensures ∙ c.if1.true) c.before.before.before.before.before.before.requires
+pub overflow_add-result : goal.overflow_add-result
+overflow_add-result c = omega (arith, word_room _ _ _ _ _ _ c.u16_at-n.ensures.0 (sym c.names_word.ensures ∙ c.if-names_word.true) c.requires)
 
-cast-word-at : tie.Need-overflow-cast-word-at
-cast-word-at c = search rules
+pub returns-then-names_word : goal.returns-then-names_word
+returns-then-names_word c = is_word _ _ _ _ _ _ c.u16_at-n.ensures.0 _ _ (sym c.names_word.ensures ∙ c.if-names_word.true) c.u16_at-i.ensures.0 c.word_at-word.ensures.is
 
-word-at-requires : tie.Need-word-at-requires
-word-at-requires c κs = search rules
+pub overflow_add-result-2 : goal.overflow_add-result-2
+overflow_add-result-2 c = omega (arith, plain-room _ _ _ _ _ _ c.u16_at-n.ensures.0 (sym c.names_word.ensures ∙ c.if-names_word.false) c.requires)
 
-add-t11 : tie.Need-overflow-add-t11
-add-t11 c = omega (arith, word_room _ _ _ _ _ _ c.before.before.before.before.before.u16-at.ensures.0 (sym c.before.before.before.before.names-word.ensures ∙ c.before.before.before.if1.true) c.before.before.before.before.before.before.before.before.before.requires)
-
-returns : tie.Need-returns
-returns c = is_word _ _ _ _ _ _ c.before.before.before.before.before.u16-at.ensures.0 _ _ (sym c.before.before.before.before.names-word.ensures ∙ c.before.before.before.if1.true) c.before.before.u16-at2.ensures.0 c.word_at.ensures.is
-
-add-t12 : tie.Need-overflow-add-t12
-add-t12 c = omega (arith, plain-room _ _ _ _ _ _ c.before.before.u16-at.ensures.0 (sym c.before.names-word.ensures ∙ c.if1.false) c.before.before.before.before.before.before.requires)
-
-returns-2 : tie.Need-returns-2
-returns-2 c = is_plain _ _ _ _ _ _ c.before.before.u16-at.ensures.0 (sym c.before.names-word.ensures ∙ c.if1.false)
-
-pub span-at-spec : {M : Type 1} → statement M
-span-at-spec =
-    tie.close
-    (tie.spec
-    u16-at-requires
-    add-p
-    names-word-requires
-    u16-at-requires-2
-    cast-word-at
-    word-at-requires
-    add-t11
-    returns
-    add-t12
-    returns-2)
+pub returns : goal.returns
+returns c = is_plain _ _ _ _ _ _ c.u16_at-n.ensures.0 (sym c.names_word.ensures ∙ c.if-names_word.false)

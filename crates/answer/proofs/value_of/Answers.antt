@@ -1,0 +1,69 @@
+
+use mathlib.Core.Path.{refl}
+use native.Mathlib.Omega.{arith}
+use Rattle.layout.specs.Lists.{pick}
+use Rattle.layout.specs.Numbers.{bits64}
+use Rattle.answer.specs.Answered.{number, value, value_by}
+use Rattle.answer.proofs.Values.{natural_bits, signed_bits}
+use borrow.Author.Rules.{rules}
+use Rattle.answer.proofs.value_of.Goals as goal
+
+pub returns-in-Done : goal.returns-in-Done
+unfolding value number value_by pick
+returns-in-Done c = rw c.a-1.given.1 (natural_bits _ (omega arith), refl)
+
+pub returns-in-SheetTooLong : goal.returns-in-SheetTooLong
+unfolding value number value_by pick
+returns-in-SheetTooLong c = rw c.a-in-SheetTooLong-1.given.1 (natural_bits _ (omega arith), refl)
+
+pub returns-in-BadTrailer : goal.returns-in-BadTrailer
+unfolding value number value_by pick bits64
+returns-in-BadTrailer c = rw c.enum_told-1.given.1 (refl, refl)
+
+pub returns-in-CutShort : goal.returns-in-CutShort
+unfolding value number value_by pick
+returns-in-CutShort c = rw c.a-in-CutShort-1.given.1 (natural_bits _ (omega arith), refl)
+
+pub returns-in-UnknownCode : goal.returns-in-UnknownCode
+unfolding value number value_by pick
+returns-in-UnknownCode c = rw c.a-in-UnknownCode-1.given.1 (natural_bits _ (omega arith), refl)
+
+pub returns-in-BadField : goal.returns-in-BadField
+unfolding value number value_by pick
+returns-in-BadField c = rw c.a-in-BadField-1.given.1 (natural_bits _ (omega arith), refl)
+
+pub returns-in-TooDeep : goal.returns-in-TooDeep
+unfolding value number value_by pick
+returns-in-TooDeep c = rw c.a-in-TooDeep-1.given.1 (natural_bits _ (omega arith), refl)
+
+pub returns-in-LeftOver : goal.returns-in-LeftOver
+unfolding value number value_by pick
+returns-in-LeftOver c = rw c.a-in-LeftOver-1.given.1 (natural_bits _ (omega arith), refl)
+
+pub returns-in-ActionLenOverflow : goal.returns-in-ActionLenOverflow
+unfolding value number value_by pick
+returns-in-ActionLenOverflow c = rw c.a-in-ActionLenOverflow-1.given.1 (natural_bits _ (omega arith), refl)
+
+pub returns-in-BlockLenOverflow : goal.returns-in-BlockLenOverflow
+unfolding value number value_by pick
+returns-in-BlockLenOverflow c = rw c.a-in-BlockLenOverflow-1.given.1 (natural_bits _ (omega arith), refl)
+
+pub returns-in-JumpOffsetOverflow : goal.returns-in-JumpOffsetOverflow
+unfolding value number value_by pick
+returns-in-JumpOffsetOverflow c = rw c.a-in-JumpOffsetOverflow-1.given.1 (signed_bits _ (omega arith), refl)
+
+pub returns-in-NoRoom : goal.returns-in-NoRoom
+unfolding value number value_by pick
+returns-in-NoRoom c = rw c.a-in-NoRoom-1.given.1 (natural_bits _ (omega arith), refl)
+
+pub returns-in-NeverRecorded : goal.returns-in-NeverRecorded
+unfolding value number value_by pick
+returns-in-NeverRecorded c = rw c.a-in-NeverRecorded-1.given.1 (natural_bits _ (omega arith), refl)
+
+pub returns-in-StrayBranch : goal.returns-in-StrayBranch
+unfolding value number value_by pick
+returns-in-StrayBranch c = rw c.a-in-StrayBranch-1.given.1 (natural_bits _ (omega arith), refl)
+
+pub returns-in-BadBook : goal.returns-in-BadBook
+unfolding value number value_by pick
+returns-in-BadBook c = rw c.enum_told-in-BadBook-1.given.1 (unfold bits64 in refl, refl)
