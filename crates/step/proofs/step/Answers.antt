@@ -15,10 +15,10 @@ pub overflow_add-count : goal.overflow_add-count
 overflow_add-count c = let g = c.loop-at.invariant in omega (arith, g.inside, g.counted)
 
 pub loop-at-smaller : goal.loop-at-smaller
-loop-at-smaller c = omega (arith, walks.going_forward _ _ _ _ c.loop-at.invariant c.if-block-at.false _ c.look_at.ensures _ c.next-1.given.1)
+loop-at-smaller c = omega (arith, walks.going_forward _ _ _ _ c.loop-at.invariant c.if-block-at.false _ c.look_at.ensures _ c.in-Next.is)
 
 pub loop-at-preserved : goal.loop-at-preserved
-loop-at-preserved c = walks.going_on _ _ _ _ c.loop-at.invariant c.if-block-at.false _ c.look_at.ensures _ _ c.next-1.given.1 refl
+loop-at-preserved c = walks.going_on _ _ _ _ c.loop-at.invariant c.if-block-at.false _ c.look_at.ensures _ _ c.in-Next.is refl
 
 pub returns-then-ended : goal.returns-then-ended
 returns-then-ended c = walks.going_clean _ _ _ _ c.loop-at.invariant c.if-block-at.true c.if-ended.true
@@ -27,4 +27,4 @@ pub returns-else-ended : goal.returns-else-ended
 returns-else-ended c = walks.going_endless _ _ _ _ c.loop-at.invariant c.if-block-at.true c.if-ended.false
 
 pub returns-in-Cut : goal.returns-in-Cut
-returns-in-Cut c = walks.going_cut _ _ _ _ c.loop-at.invariant c.if-block-at.false _ c.look_at.ensures c.enum_told-1.given.1
+returns-in-Cut c = walks.going_cut _ _ _ _ c.loop-at.invariant c.if-block-at.false _ c.look_at.ensures c.in-Cut.is
