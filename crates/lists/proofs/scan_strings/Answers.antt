@@ -1,0 +1,30 @@
+
+use Rattle.editions.specs.Allowed.{terms_of}
+use Rattle.editions.proofs.Listed.{terms_short}
+use borrow.Author.Rules.{rules}
+use Rattle.layout.specs.Read.{placed, read_counted}
+use Rattle.layout.specs.Lengths.{total}
+use Rattle.positions.specs.Scanned.{fault_of, scanned}
+use Rattle.lists.specs.Elements.{read_named, named_size}
+use Rattle.lists.proofs.Lists as lists
+use native.Mathlib.Omega.{arith}
+use Rattle.lists.proofs.scan_strings.Goals as goal
+
+pub returns-then-b-at-lt2 : goal.returns-then-b-at-lt2
+unfolding fault_of
+returns-then-b-at-lt2 c = lists.counted_out _ _ _ _ _ (omega arith)
+
+pub loop-left-init : goal.loop-left-init
+loop-left-init c = lists.counted_start _ _ _ _ _ _ (omega arith) c.u16_at-left.ensures.0 c.requires.0
+
+pub scan_named-requires : goal.scan_named-requires
+scan_named-requires c = (c.loop-left.invariant.roomy, search rules)
+
+pub returns-in-Stops : goal.returns-in-Stops
+returns-in-Stops c = lists.going_stops _ _ _ _ _ _ _ c.loop-left.invariant c.loop-left-test.true _ c.scan_named.ensures _ _ c.in-Stops.is
+
+pub loop-left-preserved : goal.loop-left-preserved
+loop-left-preserved c = let g = c.loop-left.invariant in lists.going_ends _ _ _ _ _ _ _ g c.loop-left-test.true _ c.scan_named.ensures (lists.named_grows _ _ g.roomy.bytes (terms_short c.args.terms _ _) _) _ _ c.in-Ends.is
+
+pub returns : goal.returns
+returns c = lists.going_end _ _ _ _ _ _ _ c.loop-left.invariant c.loop-left-test.false
