@@ -75,6 +75,7 @@ module _ (e : List ℕ) where
     where
       go : (x : Read Words) → Fails x → Fails (chain x (λ ws r. got (word_at e p ∷ ws) r))
       go (bad g s) fails = fails
+      go (got a next) h = elim h [ ]
 
   pub none_here : (n p : ℕ) → 0 < n → Fails (read_entry e (placed p)) → Fails (repeat (read_entry e) n (placed p))
   unfolding repeat
@@ -83,6 +84,7 @@ module _ (e : List ℕ) where
     where
       go : (x : Read (List ℕ)) → Fails x → Fails (chain x (λ a q. chain (repeat (read_entry e) n q) (λ ws r. got (a ∷ ws) r)))
       go (bad g s) fails = fails
+      go (got a next) h = elim h [ ]
 
 -- where so many entries are left, from place p on, of n from place `at` on
 pub record Going (e : List ℕ) (at n left p : ℕ) : Type 0 where
@@ -180,6 +182,7 @@ module _ (e : List ℕ) where
 
   fails_chain : {A B : Type 0} (x : Read A) (f : A → Reader B) → Fails x → Fails (chain x f)
   fails_chain (bad g s) f fails = fails
+  fails_chain (got a next) f h = elim h [ ]
 
   pub fails_more : (m n p q : ℕ) → repeat (read_entry e) m (placed p) ≡ got (words_from e m p) (placed q) → Fails (repeat (read_entry e) n (placed q))
       → Fails (repeat (read_entry e) (m + n) (placed p))

@@ -54,6 +54,7 @@ none_in e n h = go (repeat (read_entry e) n (placed 0)) h
   where
     go : (x : Read Words) → Fails x → if_read (chain x (λ ws p. if_nothing_left (eqb p.at (length e)) ws p)) ≡ none
     go (bad f s) fails = unfold if_read in refl
+    go (got a next) h = elim h [ ]
 
 all_in : (e : List ℕ) (n p : ℕ) → repeat (read_entry e) n (placed 0) ≡ got (words_from e n 0) (placed p) → eqb p (length e) ≡ true → words_in e n ≡ some (words_from e n 0)
 unfolding words_in if_nothing_left if_read

@@ -25,13 +25,13 @@ overflow_sub-count c = omega arith
 pub after_entries-next-requires : goal.after_entries-next-requires
 after_entries-next-requires c =
     let g = c.loop-i.invariant.0 in
-    (g.inside, c.requires.0, some_left _ _ _ c.least-n.ensures c.step_of_lem.ensures.1 (omega arith))
+    (g.inside, c.requires.0, some_left _ _ _ c.least-n.ensures c.step_of-step.ensures.1 (omega arith))
 
 pub shape_of-index-then-next-eq0 : goal.shape_of-index-then-next-eq0
 shape_of-index-then-next-eq0 c = simp length-set c.loop-i.invariant.1
 
 pub returns-then-next-eq0 : goal.returns-then-next-eq0
-returns-then-next-eq0 c = indexing_fails _ _ c.loop-i.invariant.0 (omega arith) c.requires.1 c.least-n.result _ c.step_of_lem.ensures.0 c.least-n.ensures.0 c.least-n.ensures.1 c.least-n.ensures.2 _ c.after_entries-next.ensures (omega arith)
+returns-then-next-eq0 c = indexing_fails _ _ c.loop-i.invariant.0 (omega arith) c.requires.1 c.least-n.result _ c.step_of-step.ensures.0 c.least-n.ensures.0 c.least-n.ensures.1 c.least-n.ensures.2 _ c.after_entries-next.ensures (omega arith)
 
 pub overflow_add-i : goal.overflow_add-i
 overflow_add-i c = omega (arith, c.least-n.ensures.1)
@@ -41,11 +41,11 @@ overflow_add-slot c = omega (arith, slot_few _ _ c.loop-i.invariant.0 (omega ari
 
 pub loop-i-smaller : goal.loop-i-smaller
 loop-i-smaller c =
-    let n = some_left _ _ _ c.least-n.ensures c.step_of_lem.ensures.1 (omega arith) in
+    let n = some_left _ _ _ c.least-n.ensures c.step_of-step.ensures.1 (omega arith) in
     omega (arith, n, c.least-n.ensures.1)
 
 pub loop-i-preserved : goal.loop-i-preserved
-loop-i-preserved c = (indexing_next _ _ c.loop-i.invariant.0 (omega arith) c.requires.1 c.least-n.result _ c.step_of_lem.ensures.0 c.least-n.ensures.0 c.least-n.ensures.1 c.least-n.ensures.2 c.after_entries-next.ensures (omega arith), simp length-set c.loop-i.invariant.1)
+loop-i-preserved c = (indexing_next _ _ c.loop-i.invariant.0 (omega arith) c.requires.1 c.least-n.result _ c.step_of-step.ensures.0 c.least-n.ensures.0 c.least-n.ensures.1 c.least-n.ensures.2 c.after_entries-next.ensures (omega arith), simp length-set c.loop-i.invariant.1)
 
 pub shape_of-index : goal.shape_of-index
 shape_of-index c = c.loop-i.invariant.1

@@ -1,0 +1,11 @@
+
+use mathlib.Core.Path.{refl}
+use Rattle.measure.proofs.Layings as lay
+use borrow.Author.Rules.{rules}
+use Rattle.measure.proofs.flat_payload.Goals as goal
+
+pub returns-in-Stops : goal.returns-in-Stops
+returns-in-Stops c = lay.laid_stops _ _ _ _ c.in-Stops.is
+
+pub returns-in-Ends : goal.returns-in-Ends
+returns-in-Ends c = lay.laid_flat _ _ _ _ c.in-Ends.is refl
