@@ -1,0 +1,24 @@
+-- `encode_values::write_params` meets its contract: the parameters that are left give with those written what all give. Assumes nothing.
+use mathlib.Core.Path.{◌≡◌, ◌∙◌}
+use lib.ListN.{length}
+use Rattle.editions.specs.Allowed.{terms_of}
+use borrow.Author.Rules.{rules}
+use Rattle.layout.specs.Read.{read_param}
+use Rattle.encode_values.proofs.Lists as lists
+use Rattle.encode_values.specs.Pieces.{param_bytes, params_at}
+use Rattle.encode_values.proofs.write_params.Goals as goal
+
+pub loop-left-init : goal.loop-left-init
+loop-left-init c = (lists.going_start _ _ c.requires, search rules)
+
+pub write_param_at-e-requires : goal.write_param_at-e-requires
+write_param_at-e-requires c = lists.going_element _ _ c.loop-left.invariant.0 c.loop-left-test.true
+
+pub loop-left-preserved : goal.loop-left-preserved
+loop-left-preserved c = (lists.going_on _ _ c.loop-left.invariant.0 c.loop-left-test.true c.write_param_at-e.ensures, c.write_param_at-e.auto.0 ∙ c.loop-left.invariant.1)
+
+pub shape_of-out : goal.shape_of-out
+shape_of-out c = c.loop-left.invariant.1
+
+pub returns : goal.returns
+returns c = lists.going_end _ _ c.loop-left.invariant.0 c.loop-left-test.false
