@@ -14,7 +14,7 @@ pub overflow_add-at : goal.overflow_add-at
 overflow_add-at c = omega (arith, (texts.param_inside _ _ _ c.requires).0)
 
 pub write_string_at-requires : goal.write_string_at-requires
-write_string_at-requires c = texts.param_room _ _ _ c.requires c.write_u8.auto.0
+write_string_at-requires c = texts.param_room _ _ _ c.requires c.write_u8.auto.out
 
 pub returns : goal.returns
 returns c = texts.param_put _ _ _ c.requires c.write_u8.ensures c.write_string_at.ensures

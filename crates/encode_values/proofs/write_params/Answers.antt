@@ -15,7 +15,7 @@ pub write_param_at-e-requires : goal.write_param_at-e-requires
 write_param_at-e-requires c = lists.going_element _ _ c.loop-left.invariant.0 c.loop-left-test.true
 
 pub loop-left-preserved : goal.loop-left-preserved
-loop-left-preserved c = (lists.going_on _ _ c.loop-left.invariant.0 c.loop-left-test.true c.write_param_at-e.ensures, c.write_param_at-e.auto.0 ∙ c.loop-left.invariant.1)
+loop-left-preserved c = (lists.going_on _ _ c.loop-left.invariant.0 c.loop-left-test.true c.write_param_at-e.ensures, c.write_param_at-e.auto.out ∙ c.loop-left.invariant.1)
 
 pub shape_of-out : goal.shape_of-out
 shape_of-out c = c.loop-left.invariant.1

@@ -21,7 +21,7 @@ pub write_u16-requires : goal.write_u16-requires
 unfolding le16
 write_u16-requires c =
     let h = rw (puts.high_constant _ c.if-n-lt256.false) at c.requires in
-    omega (arith, h.room, c.write_u8.auto.0)
+    omega (arith, h.room, c.write_u8.auto.out)
 
 pub overflow_add-result : goal.overflow_add-result
 overflow_add-result c = omega (arith, puts.high_length _ c.if-n-lt256.false, c.push_constant_len.ensures)

@@ -8,7 +8,7 @@ pub write_text-requires : goal.write_text-requires
 write_text-requires c =
     let a = c.args in
     let l = puts.length_span a.b.now a.words.now a.s c.requires.0 in
-    (c.requires.0, omega (arith, c.write_u8.auto.0))
+    (c.requires.0, omega (arith, c.write_u8.auto.out))
 
 pub string_len-requires : goal.string_len-requires
 string_len-requires c =

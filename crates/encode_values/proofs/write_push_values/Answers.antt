@@ -15,7 +15,7 @@ pub write_push_value-e-requires : goal.write_push_value-e-requires
 write_push_value-e-requires c = lists.going_element _ _ c.loop-left.invariant.0 c.loop-left-test.true
 
 pub loop-left-preserved : goal.loop-left-preserved
-loop-left-preserved c = (lists.going_on _ _ c.loop-left.invariant.0 c.loop-left-test.true c.write_push_value-e.ensures, c.write_push_value-e.auto.0 ∙ c.loop-left.invariant.1)
+loop-left-preserved c = (lists.going_on _ _ c.loop-left.invariant.0 c.loop-left-test.true c.write_push_value-e.ensures, c.write_push_value-e.auto.out ∙ c.loop-left.invariant.1)
 
 pub shape_of-out : goal.shape_of-out
 shape_of-out c = c.loop-left.invariant.1
