@@ -8,15 +8,11 @@ use Rattle.reading.proofs.Mains as mains
 use borrow.Author.Rules.{rules}
 use Rattle.reading.proofs.read_main.Goals as goal
 
--- the main body is made of bytes
-is-bytes : (c : tie.After-shared-slice-known) → Bytes c.before.args.b.now
-is-bytes c = all_bytes c.before.args.b.now (λ i l. omega (arith, c.shared-slice-known.given i))
-
 pub overflow_add-place : goal.overflow_add-place
-overflow_add-place c = omega (arith, c.requires.0, c.requires.1, main_place _ _ _ _ _ _ (is-bytes c) (terms_short c.args.terms _ _) c.scan_main.ensures _ _ _ c.in-Stops.is)
+overflow_add-place c = omega (arith, c.requires.0, c.requires.1, main_place _ _ _ _ _ _ (all_bytes _ (λ i l. omega (arith, c.type_inv.b i))) (terms_short c.args.terms _ _) c.scan_main.ensures _ _ _ c.in-Stops.is)
 
 pub returns-in-Stops : goal.returns-in-Stops
 returns-in-Stops c = mains.main_stops _ _ _ _ _ _ c.scan_main.ensures _ _ _ _ _ c.in-Stops.is c.fault_action.ensures
 
 pub returns-in-Ends : goal.returns-in-Ends
-returns-in-Ends c = mains.main_whole _ _ _ _ _ _ c.scan_main.ensures _ _ _ _ c.in-Ends.is (is-bytes c) c.requires.0 (c.scan_main.auto.over ∙ c.requires.2.three) (omega (arith, c.requires.2.slots.enough, c.scan_main.auto.tab))
+returns-in-Ends c = mains.main_whole _ _ _ _ _ _ c.scan_main.ensures _ _ _ _ c.in-Ends.is (all_bytes _ (λ i l. omega (arith, c.type_inv.b i))) c.requires.0 (c.scan_main.auto.over ∙ c.requires.2.three) (omega (arith, c.requires.2.slots.enough, c.scan_main.auto.tab))
