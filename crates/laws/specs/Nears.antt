@@ -41,15 +41,16 @@ module _ (final : ℕ → Option Position) where
   abbrev pub NoneFar : List Event → Type 0
   NoneFar es = far_by final es ≡ none
 
+module _ (final : ℕ → Option Position) where
   -- none in two parts is none in each
-  pub near_left : (xs ys : List Event) → NoneFar (xs ++ ys) → NoneFar xs
+  pub near_left : (xs ys : List Event) → NoneFar final (xs ++ ys) → NoneFar final xs
   near_left xs ys e = or_left (far_by final xs) (far_by final ys) (sym (refused_append _ final xs ys) ∙ e)
 
-  pub near_right : (xs ys : List Event) → NoneFar (xs ++ ys) → NoneFar ys
+  pub near_right : (xs ys : List Event) → NoneFar final (xs ++ ys) → NoneFar final ys
   near_right xs ys e = or_right (far_by final xs) (far_by final ys) (sym (refused_append _ final xs ys) ∙ e)
 
   -- a branch at a position, whose operand ends five bytes after it
-  pub branch_near : (l : ℕ) (s : Position) → NoneFar (branch_at l (to_operand s) ∷ []) → judged (final l) (s.at + 5) (s.number + 0) ≡ none
+  pub branch_near : (l : ℕ) (s : Position) → NoneFar final (branch_at l (to_operand s) ∷ []) → judged (final l) (s.at + 5) (s.number + 0) ≡ none
   unfolding first_refused moved
   branch_near l s e =
       let same : s.at + 5 ≡ s.at + 3 + 2 = omega arith in

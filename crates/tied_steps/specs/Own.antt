@@ -46,8 +46,11 @@ module _ (bits : ℕ → ℕ → ℕ) where
   all_bytes [] p = []
   all_bytes (a ∷ xs) p = own_bytes a p ++ all_bytes xs (p + own_size a)
 
+-- ---- how long it is, and that it is what is written
+
+module _ (bits : ℕ → ℕ → ℕ) where
   -- as many as an action takes without its bodies
-  pub length_own : (a : Action) (p : ℕ) → length (own_bytes a p) ≡ own_size a
+  pub length_own : (a : Action) (p : ℕ) → length (own_bytes bits a p) ≡ own_size a
   unfolding own_bytes own_size
   length_own (flat f) p = refl
   length_own (branch k l) p = length_framed (branch_op_code k) (le16 (bits l (p + 5))) (branch_long k) ∙ omega (arith, length_le16 (bits l (p + 5)))
@@ -56,58 +59,58 @@ module _ (bits : ℕ → ℕ → ℕ) where
       length_framed OpCode.Try (try_payload (catch_shape c + finally_shape f) (body_size b) (catch_size c) (finally_size f) (catch_name c)) try_long
       ∙ omega (arith, length-try_payload (catch_shape c + finally_shape f) (body_size b) (catch_size c) (finally_size f) (catch_name c))
 
-  pub length_all : (xs : List Action) (p : ℕ) → length (all_bytes xs p) ≡ total own_size xs
+  pub length_all : (xs : List Action) (p : ℕ) → length (all_bytes bits xs p) ≡ total own_size xs
   unfolding all_bytes total
   length_all [] p = refl
-  length_all (a ∷ xs) p = length-append (own_bytes a p) (all_bytes xs (p + own_size a)) ∙ ap₂ ◌+◌ (length_own a p) (length_all xs (p + own_size a))
+  length_all (a ∷ xs) p = length-append (own_bytes bits a p) (all_bytes bits xs (p + own_size a)) ∙ ap₂ ◌+◌ (length_own a p) (length_all xs (p + own_size a))
 
-  pub all_bytes_append : (xs ys : List Action) (p : ℕ) → all_bytes (xs ++ ys) p ≡ all_bytes xs p ++ all_bytes ys (p + total own_size xs)
+  pub all_bytes_append : (xs ys : List Action) (p : ℕ) → all_bytes bits (xs ++ ys) p ≡ all_bytes bits xs p ++ all_bytes bits ys (p + total own_size xs)
   unfolding all_bytes total
   all_bytes_append [] ys p =
       let e : p + 0 ≡ p = omega arith in
       rw e refl
   all_bytes_append (a ∷ xs) ys p =
       let e : p + own_size a + total own_size xs ≡ p + (own_size a + total own_size xs) = omega arith in
-      ap (λ (u : List ℕ). own_bytes a p ++ u) (all_bytes_append xs ys (p + own_size a) ∙ ap (λ (n : ℕ). all_bytes xs (p + own_size a) ++ all_bytes ys n) e)
-      ∙ sym (append_assoc (own_bytes a p) (all_bytes xs (p + own_size a)) (all_bytes ys (p + (own_size a + total own_size xs))))
+      ap (λ (u : List ℕ). own_bytes bits a p ++ u) (all_bytes_append xs ys (p + own_size a) ∙ ap (λ (n : ℕ). all_bytes bits xs (p + own_size a) ++ all_bytes bits ys n) e)
+      ∙ sym (append_assoc (own_bytes bits a p) (all_bytes bits xs (p + own_size a)) (all_bytes bits ys (p + (own_size a + total own_size xs))))
 
   -- the same with what the first are known to take
-  both_bytes : (xs ys : List Action) (p n : ℕ) {a b : List ℕ} → total own_size xs ≡ n → a ≡ all_bytes xs p → b ≡ all_bytes ys (p + n) → a ++ b ≡ all_bytes (xs ++ ys) p
-  both_bytes xs ys p n t e f = ap₂ ◌++◌ e (f ∙ ap (λ (i : ℕ). all_bytes ys (p + i)) (sym t)) ∙ sym (all_bytes_append xs ys p)
+  both_bytes : (xs ys : List Action) (p n : ℕ) {a b : List ℕ} → total own_size xs ≡ n → a ≡ all_bytes bits xs p → b ≡ all_bytes bits ys (p + n) → a ++ b ≡ all_bytes bits (xs ++ ys) p
+  both_bytes xs ys p n t e f = ap₂ ◌++◌ e (f ∙ ap (λ (i : ℕ). all_bytes bits ys (p + i)) (sym t)) ∙ sym (all_bytes_append xs ys p)
 
   -- what is written is the own bytes of the actions in sheet order
   mutual
     unfolding bytes in_order own_bytes own_size all_bytes
 
-    bytes_in_order : (a : Action) (p : ℕ) → bytes bits a p ≡ all_bytes (in_order a) p
-    bytes_in_order (flat f) p = sym (append-nil (own_bytes (flat f) p))
-    bytes_in_order (branch k l) p = sym (append-nil (own_bytes (branch k l) p))
-    bytes_in_order (owner o b) p = ap (λ (u : List ℕ). own_bytes (owner o b) p ++ u) (body_in_order_lem b (p + own_size (owner o b)))
+    bytes_in_order : (a : Action) (p : ℕ) → bytes bits a p ≡ all_bytes bits (in_order a) p
+    bytes_in_order (flat f) p = sym (append-nil (own_bytes bits (flat f) p))
+    bytes_in_order (branch k l) p = sym (append-nil (own_bytes bits (branch k l) p))
+    bytes_in_order (owner o b) p = ap (λ (u : List ℕ). own_bytes bits (owner o b) p ++ u) (body_in_order_lem b (p + own_size (owner o b)))
     bytes_in_order (Try b c f) p =
         let q : ℕ = p + own_size (Try b c f) in
         let e : q + (body_size b + catch_size c) ≡ q + body_size b + catch_size c = omega arith in
-        ap (λ (u : List ℕ). own_bytes (Try b c f) p ++ u)
+        ap (λ (u : List ℕ). own_bytes bits (Try b c f) p ++ u)
         (both_bytes (body_in_order b) (catch_in_order c ++ finally_in_order f) q (body_size b) (total_order b) (body_in_order_lem b q)
         (both_bytes (catch_in_order c) (finally_in_order f) (q + body_size b) (catch_size c) (total_catch c) (catch_in_order_lem c (q + body_size b))
         (ap (finally_bytes bits f) e ∙ finally_in_order_lem f (q + body_size b + catch_size c))))
 
-    list_in_order_lem : (xs : ActionList) (p : ℕ) → actions_bytes bits xs p ≡ all_bytes (list_in_order xs) p
+    list_in_order_lem : (xs : ActionList) (p : ℕ) → actions_bytes bits xs p ≡ all_bytes bits (list_in_order xs) p
     list_in_order_lem empty p = refl
     list_in_order_lem (more a xs) p = both_bytes (in_order a) (list_in_order xs) p (size a) (total_action a) (bytes_in_order a p) (list_in_order_lem xs (p + size a))
 
-    pub body_in_order_lem : (b : Actions) (p : ℕ) → body_bytes bits b p ≡ all_bytes (body_in_order b) p
+    pub body_in_order_lem : (b : Actions) (p : ℕ) → body_bytes bits b p ≡ all_bytes bits (body_in_order b) p
     body_in_order_lem (body es xs) p = list_in_order_lem xs p
 
-    catch_in_order_lem : (c : Catch) (p : ℕ) → catch_bytes bits c p ≡ all_bytes (catch_in_order c) p
+    catch_in_order_lem : (c : Catch) (p : ℕ) → catch_bytes bits c p ≡ all_bytes bits (catch_in_order c) p
     catch_in_order_lem no_catch p = refl
     catch_in_order_lem (catch t b) p = body_in_order_lem b p
 
-    finally_in_order_lem : (f : Finally) (p : ℕ) → finally_bytes bits f p ≡ all_bytes (finally_in_order f) p
+    finally_in_order_lem : (f : Finally) (p : ℕ) → finally_bytes bits f p ≡ all_bytes bits (finally_in_order f) p
     finally_in_order_lem no_finally p = refl
     finally_in_order_lem (finally b) p = body_in_order_lem b p
 
   -- each action is one step
-  pub own_step : (a : Action) (p : ℕ) → Fits a → IsStep (own_bytes a p)
+  pub own_step : (a : Action) (p : ℕ) → Fits a → IsStep (own_bytes bits a p)
   unfolding own_bytes
   own_step (flat f) p h = framed_step (opcode f) (payload f) h.1
   own_step (branch k l) p h = framed_step (branch_op_code k) (le16 (bits l (p + 5))) (omega (arith, length_le16 (bits l (p + 5))))
@@ -117,7 +120,7 @@ module _ (bits : ℕ → ℕ → ℕ) where
       (omega (arith, length-try_payload (catch_shape c + finally_shape f) (body_size b) (catch_size c) (finally_size f) (catch_name c), h.1))
 
   -- so many actions are so many steps
-  pub all_steps : (xs : List Action) (p : ℕ) → All Fits xs → Steps (all_bytes xs p) (length xs)
+  pub all_steps : (xs : List Action) (p : ℕ) → All Fits xs → Steps (all_bytes bits xs p) (length xs)
   unfolding all_bytes
   all_steps [] p h = nothing
   all_steps (a ∷ xs) p h = first (own_step a p h.0) (all_steps xs (p + own_size a) h.1) refl
