@@ -94,13 +94,37 @@ pub fn finish<'a>(w: Writer<'a>) -> BytePosition
     w.at
 }
 
+// An action's header at a position, and the writer behind it. It is a function of its own because the check follows an output
+// into a call's result, and from there into `finish`, but not from one writer to the next within the function that lends it.
+fn header_at<'a>(out: &'a mut [u8], pos: BytePosition, op: u8, len: usize) -> Writer<'a>
+    requires { pos.0 + 3 ≤ length out.old }
+    ensures same_reference { result.out.ghost_name ≡ out.entry.ghost_name }
+    ensures appends { (result.at.0 ≡ pos.0 + 3) × (result.out.now ≡ sets out.old pos.0 (op ∷ le16 len)) }
+{
+    append_u16(append_u8(writer_at(out, pos), op), len)
+}
+
 // An action's header: its opcode, then the length of its payload. Answers the position after it. Opcodes under 80 have no header
 // and do not come here.
 pub fn write_action_header(out: &mut [u8], pos: BytePosition, op: u8, len: usize) -> BytePosition
     requires { pos.0 + 3 ≤ length out.old }
     ensures { (result.0 ≡ pos.0 + 3) × (out.new ≡ sets out.old pos.0 (op ∷ le16 len)) }
 {
-    finish(append_u16(append_u8(writer_at(out, pos), op), len))
+    finish(header_at(out, pos, op, len))
+}
+
+// The length of a body at a position before it, and the writer behind the body. It is a function of its own as `header_at` is.
+fn block_length_at<'a>(
+    out: &'a mut [u8],
+    at: BytePosition,
+    block_start: BytePosition,
+    block_end: BytePosition,
+) -> Writer<'a>
+    requires { (at.0 + 2 ≤ length out.old) × (block_start.0 ≤ block_end.0) }
+    ensures same_reference { result.out.ghost_name ≡ out.entry.ghost_name }
+    ensures patches { (result.at ≡ block_end) × (result.out.now ≡ sets out.old at.0 (le16 (block_end.0 - block_start.0))) }
+{
+    patch_u16(writer_at(out, block_end), at, block_end.0 - block_start.0)
 }
 
 // The length of a body, patched in at a position before it when it is closed.
@@ -113,5 +137,5 @@ pub fn write_block_length_at(
     requires { (at.0 + 2 ≤ length out.old) × (block_start.0 ≤ block_end.0) }
     ensures { out.new ≡ sets out.old at.0 (le16 (block_end.0 - block_start.0)) }
 {
-    finish(patch_u16(writer_at(out, block_end), at, block_end.0 - block_start.0));
+    finish(block_length_at(out, at, block_start, block_end));
 }

@@ -1,6 +1,5 @@
 -- `put_u16` meets its contract. Assumes nothing.
 use native.Mathlib.Omega.{arith}
-use borrow.Author.Rules.{rules}
 use Rattle.layout.specs.Lengths.{length_le16}
 use Rattle.writer.proofs.put_u16.Goals as goal
 
