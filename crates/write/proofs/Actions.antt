@@ -261,6 +261,8 @@ module _ (terms : Terms) (inner : Reader (ActionsOf Text ℕ)) {b tab out : List
               → (mid ≡ sets out pos (action_of tab x pos)) × ((end ≡ pos + action_size x) × (next ≡ q.at))
           none_go (flat f) q flat_none m k n = (m ∙ flat_same tab out f pos, (k ∙ flat_long tab f pos, ap (λ (o : Place). o.at) (sym n)))
           none_go (branch j l) q branch_none m k n = (m ∙ branch_same tab out j l pos, (k ∙ branch_long tab j l pos, ap (λ (o : Place). o.at) (sym n)))
+          none_go (owner action actions) q h m k n = elim h [ ]
+          none_go (Try try_body _ _) q h m k n = elim h [ ]
 
           none_at : (x : ActionOf Text ℕ) (q : Place) → read_action terms b (behind 1 inner) (placed at) ≡ got x q
               → (mid ≡ sets out pos (action_of tab x pos)) × ((end ≡ pos + action_size x) × (next ≡ q.at))
@@ -290,6 +292,9 @@ module _ (terms : Terms) (inner : Reader (ActionsOf Text ℕ)) {b tab out : List
                 },
                 omega (arith, h, k),
               )
+          one_go (flat action) q h k n m i = elim h [ ]
+          one_go (branch kind label) q h k n m i = elim h [ ]
+          one_go (Try try_body _ _) q h k n m i = elim h [ ]
 
       -- It was written with its length, and so the action is.
       pub one_wrote : bodies_of a ≡ bodies.One → (new : List ℕ) (r : Ends) → Wrote inner body_length (closed tab mid end (end - 2)) next end new r
@@ -301,6 +306,9 @@ module _ (terms : Terms) (inner : Reader (ActionsOf Text ℕ)) {b tab out : List
           one_go (owner o x) q one m k n =
               let v = w.ends.ended x q n in
               (w.wrote x q n ∙ owner_closed tab out mid o x pos end m k, (omega (arith, v.0, k, length_owner tab o x pos, owner_length o x), v.1))
+          one_go (flat action) q h m k n = elim h [ ]
+          one_go (branch kind label) q h m k n = elim h [ ]
+          one_go (Try try_body _ _) q h m k n = elim h [ ]
 
           one_at : (x : ActionOf Text ℕ) (q : Place) → read_action terms b (behind 1 inner) (placed at) ≡ got x q
               → (new ≡ sets out pos (action_of tab x pos)) × ((r.pos.0 ≡ pos + action_size x) × (r.next ≡ q.at))
@@ -330,6 +338,9 @@ module _ (terms : Terms) (inner : Reader (ActionsOf Text ℕ)) {b tab out : List
                 },
                 omega (arith, h, k, z),
               )
+          tried_go (flat action) q h k n m d = elim h [ ]
+          tried_go (branch kind label) q h k n m d = elim h [ ]
+          tried_go (owner action actions) q h k n m d = elim h [ ]
 
       -- They were written with their lengths, and so the action is.
       pub tried_wrote : (shape from : ℕ) → from ≡ pos + 4 → bodies_of a ≡ bodies.OfTry shape → (new : List ℕ) (r : Ends) → Wrote (read_tried shape inner) length_tried (closed_tried tab mid end from) next end new r
@@ -342,6 +353,9 @@ module _ (terms : Terms) (inner : Reader (ActionsOf Text ℕ)) {b tab out : List
               let t = tried_read inner shape next x c f q i j n in
               let v = w.ends.ended (tried_of x c f) q t in
               (w.wrote (tried_of x c f) q t ∙ ap (λ (i : ℕ). closed_tried tab mid end i (tried_of x c f)) z ∙ try_closed tab out mid x c f pos end m k, (omega (arith, v.0, k, length_try tab x c f pos, try_length x c f), v.1))
+          tried_go (flat action) q h m k n = elim h [ ]
+          tried_go (branch kind label) q h m k n = elim h [ ]
+          tried_go (owner action actions) q h m k n = elim h [ ]
 
           tried_at : (x : ActionOf Text ℕ) (q : Place) → read_action terms b (behind 1 inner) (placed at) ≡ got x q
               → (new ≡ sets out pos (action_of tab x pos)) × ((r.pos.0 ≡ pos + action_size x) × (r.next ≡ q.at))

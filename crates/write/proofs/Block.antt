@@ -1,4 +1,4 @@
--- What the walks of `append_main` and `write_main` cite: the actions and one End are the block. Assumes nothing.
+-- What `append_main` and `main_at` cite: the actions and one End are the block. Assumes nothing.
 use mathlib.Core.Path.{◌≡◌, sym, ap, ◌∙◌, subst}
 use Prim.Native.Nat.{ℕ, ◌+◌, ◌≤◌}
 use native.Mathlib.Omega.{arith}
@@ -12,11 +12,12 @@ use Rattle.layout.specs.Lengths.{length_body}
 use Rattle.laws.specs.Packed.{same_tree}
 use Rattle.stores.proofs.Stores.{sets-append}
 use Rattle.writer.specs.declared.Writer.{Writer}
+use Rattle.writer.specs.Written.{appended}
 use Rattle.write.specs.Bodies.{MainWritable, main_bytes, PutMain, AppendedMain, WroteBlock}
 
 -- What was put into a writer's output, from its start on, is appended to the writer.
 pub put_appended : (terms : Terms) (b zs : List ℕ) (w : Writer) (r : ℕ) → w.at.0 ≡ 0 → PutMain terms b w.out.now zs (record { 0 = r })
-    → AppendedMain terms b w (record { out = record { ref_ptr = w.out.ref_ptr; ghost_name = w.out.name; now = zs }; at = record { 0 = r } })
+    → AppendedMain terms b w (record { out = record { ref_ptr = w.out.ref_ptr; ghost_name = w.out.ghost_name; now = zs }; at = record { 0 = r } })
 put_appended terms b zs w r z p = record {
   is = λ t k i. record {
     out = record { ref_ptr = w.out.ref_ptr; ghost_name = w.out.ghost_name; now = ((p.put t k).0 ∙ ap (λ (m : ℕ). sets w.out.now m (main_bytes t)) (sym z)) i };
@@ -63,3 +64,22 @@ module _ (terms : Terms) (b tab out : List ℕ) (m : MainWritable terms b tab ou
     where
       whole : 0 + length actions + length end ≡ length (block_bytes m.tree)
       whole = omega (arith, length-append actions end)
+
+  -- A writer that stood at the output's start has taken the actions.
+  module _ (w₀ w₁ : Writer) (whole : w₀.out.now ≡ out) (start : w₀.at.0 ≡ 0) (taken : w₁ ≡ appended w₀ actions) where
+    taken_out : w₁.out.now ≡ mid
+    taken_out = ap (λ (w : Writer). w.out.now) taken ∙ ap (λ (l : List ℕ). sets l w₀.at.0 actions) whole ∙ ap (λ (n : ℕ). sets out n actions) start
+
+    taken_at : w₁.at.0 ≡ 0 + length actions
+    taken_at = ap (λ (w : Writer). w.at.0) taken ∙ ap (λ (n : ℕ). n + length actions) start
+
+    -- It has room for the End.
+    pub end_fits : w₁.at.0 + 1 ≤ length w₁.out.now
+    end_fits = omega (arith, end_room, taken_at, ap length taken_out)
+
+    -- With the End, the block is written.
+    pub end_taken : (w₂ : Writer) → w₂ ≡ appended w₁ end → WroteBlock terms b out w₂.out.now w₂.at
+    end_taken w₂ e =
+        main_wrote w₂.out.now w₂.at.0
+        (ap (λ (w : Writer). w.out.now) e ∙ ap (λ (l : List ℕ). sets l w₁.at.0 end) taken_out ∙ ap (λ (n : ℕ). sets mid n end) taken_at)
+        (ap (λ (w : Writer). w.at.0) e ∙ ap (λ (n : ℕ). n + length end) taken_at)

@@ -251,7 +251,8 @@ fn append_main<'a, 'b>(
     tab: &[usize],
 ) -> Writer<'a>
     requires { (w.at.0 ≡ 0) × MainWritable (terms_of terms words.now index.now) b.now tab.now w.out.now }
-    ensures { AppendedMain (terms_of terms words.now index.now) b.now w.entry result }
+    ensures same_reference { result.out.ghost_name ≡ w.entry.out.ghost_name }
+    ensures appends { AppendedMain (terms_of terms words.now index.now) b.now w.entry result }
 {
     let at = w.at;
     let next = put_main(&mut *w.out, at, b, words, index, terms, tab);
@@ -259,6 +260,25 @@ fn append_main<'a, 'b>(
         out: w.out,
         at: next,
     }
+}
+
+// A writer over the output, once it has taken a main body's actions and one End.
+fn main_at<'o, 'a>(
+    out: &'o mut [u8],
+    b: &'a [u8],
+    words: &'a [u8],
+    index: &[u32],
+    terms: Terms,
+    tab: &[usize],
+) -> Writer<'o>
+    requires { MainWritable (terms_of terms words.now index.now) b.now tab.now out.old }
+    ensures same_reference { result.out.ghost_name ≡ out.entry.ghost_name }
+    ensures appends { WroteBlock (terms_of terms words.now index.now) b.now out.old result.out.now result.at }
+{
+    append_u8(
+        append_main(writer_at(out, BytePosition(0)), b, words, index, terms, tab),
+        OpCode::END,
+    )
 }
 
 // The block of a main body: one writer over the output takes its actions, then one End. Answers the position reached, which is the
@@ -274,8 +294,5 @@ pub fn write_main<'a>(
     requires { MainWritable (terms_of terms words.now index.now) b.now tab.now out.old }
     ensures { WroteBlock (terms_of terms words.now index.now) b.now out.old out.new result }
 {
-    finish(append_u8(
-        append_main(writer_at(out, BytePosition(0)), b, words, index, terms, tab),
-        OpCode::END,
-    ))
+    finish(main_at(out, b, words, index, terms, tab))
 }

@@ -3,6 +3,7 @@ use borrow.Author.Rules.{rules}
 use mathlib.Core.Path.{◌≡◌, refl}
 use Prim.Native.Nat.{ℕ}
 use mathlib.Core.List.{List, [], ◌∷◌}
+use borrow.Enum.Refused.{opened}
 use types.Run.{OneOf, miss}
 use denote.Enum.Declared.{tag_of}
 use Rattle.pcode.specs.declared.Action.{Action}
@@ -10,8 +11,7 @@ use Rattle.pcode.specs.contracts.Action.{the_type}
 use Rattle.pcode.specs.declared.Action.TheVariants as code
 use Rattle.write.specs.Bodies.{bodies_of}
 use Rattle.write.specs.declared.Bodies.TheVariants as bodies
-use Rattle.write.proofs.bodies_of.Statement.{statement}
-use Rattle.write.proofs.bodies_of.Tie as tie
+use Rattle.write.proofs.bodies_of.Goals as goal
 
 -- The cases without a body, by number.
 abbrev without : List ℕ
@@ -39,47 +39,21 @@ other (code.DefineFunction f) h = absurd (miss without 15 tt h)
 other (code.If l) h = refl
 other (code.GotoFrame2 n k) h = refl
 
-enum_told : tie.Need-enum-told
-enum_told c = search rules
-
-enum-known-a : tie.Need-enum-known-a
-enum-known-a c = search rules
-
-enum-told-2 : tie.Need-enum-told-2
-enum-told-2 c = search rules
-
-enum-told-3 : tie.Need-enum-told-3
-enum-told-3 c = search rules
-
-returns : tie.Need-returns
+pub returns-in-DefineFunction2 : goal.returns-in-DefineFunction2
 unfolding bodies_of
-returns c = rw c.enum_told.given.1
+returns-in-DefineFunction2 c = rw c.in-DefineFunction2.is
 
-returns-2 : tie.Need-returns-2
+pub returns-in-Try : goal.returns-in-Try
 unfolding bodies_of
-returns-2 c = rw c.before.a.given.1
+returns-in-Try c = rw c.in-Try.is
 
-returns-3 : tie.Need-returns-3
+pub returns-in-With : goal.returns-in-With
 unfolding bodies_of
-returns-3 c = rw c.enum-told2.given.1
+returns-in-With c = rw c.in-With.is
 
-returns-4 : tie.Need-returns-4
+pub returns-in-DefineFunction : goal.returns-in-DefineFunction
 unfolding bodies_of
-returns-4 c = rw c.enum-told3.given.1
+returns-in-DefineFunction c = rw c.in-DefineFunction.is
 
-returns-5 : tie.Need-returns-5
-returns-5 c = other c.before.args.a c.match.keys5
-
-pub bodies-of-spec : {M : Type 1} → statement M
-bodies-of-spec =
-    tie.close
-    (tie.spec
-    enum_told
-    enum-known-a
-    enum-told-2
-    enum-told-3
-    returns
-    returns-2
-    returns-3
-    returns-4
-    returns-5)
+pub returns-in_default : goal.returns-in_default
+returns-in_default c = other c.args.a (opened c.in_default.in_default-own.keys5)
