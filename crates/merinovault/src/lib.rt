@@ -1,4 +1,4 @@
-// The C-callable entries of the archive libmerinovault.a: the number is returned, and the value and the action number fill a lent
+// What the C-callable entries of the archive libmerinovault.a do (merinovault_c exports them): the number is returned, and the value and the action number fill a lent
 // slice of 16 bytes, each as a little-endian i64. A value slice of any other length is answered 11 before everything else, and
 // nothing is written.
 ghost use Rattle.std.specs.Prelude.{◌≡◌, ◌++◌, length};
@@ -21,8 +21,7 @@ fn fill_value(value: &mut [u8], bits: u64, action: u64)
 
 // Packs a sheet, whose strings may name the entries of a book, into the lent output, in a mode that is strict or not and contained
 // or not. The output's bytes past a Done length keep their values; on any other answer all do.
-#[unsafe(no_mangle)]
-pub extern "C" fn merinovault_pack<'a>(
+pub fn merinovault_pack<'a>(
     sheet: &'a [u8],
     book: &'a [u8],
     strict: bool,
@@ -45,8 +44,7 @@ pub extern "C" fn merinovault_pack<'a>(
 }
 
 // Steps through a block to its last byte, and tells whether its last step is an End. No answer names an action.
-#[unsafe(no_mangle)]
-pub extern "C" fn merinovault_step(block: &[u8], value: &mut [u8]) -> u32
+pub fn merinovault_step(block: &[u8], value: &mut [u8]) -> u32
     ensures { StepCalled block.now value.old result value.new }
 {
     if value.len() != 16 {

@@ -1,0 +1,34 @@
+-- `merinovault_step` meets its contract: it tells what `step` does, or nothing with a value slice of another length. Assumes nothing.
+use mathlib.Core.Path.{sym}
+use mathlib.Core.List.{[]}
+use native.Mathlib.Omega.{arith}
+use Rattle.laws.specs.Fits.{all_bytes}
+use Rattle.merinovault.specs.Calls.{Lent}
+use Rattle.merinovault.proofs.Values.{other, step_done, step_unclean, done_number, done_value, unclean_number, unclean_value}
+use borrow.Author.Rules.{rules}
+use Rattle.merinovault.proofs.merinovault_step.Goals as goal
+
+pub returns-then-value-ne16 : goal.returns-then-value-ne16
+returns-then-value-ne16 c =
+    let e = c.if-value-ne16.true in
+    record { is_lent = record { bytes = all_bytes _ (λ i l. omega (arith, c.type_inv.block i)); short = search rules }; is_number = sym (other _ _ _ e); is_value = sym (other _ _ _ e) }
+
+pub returns-in-Done : goal.returns-in-Done
+returns-in-Done c =
+    let d = step_done _ _ c.step.ensures _ c.in-Done.is in
+    let e = c.if-value-ne16.false in
+    record {
+    is_lent = record { bytes = all_bytes _ (λ i l. omega (arith, c.type_inv.block i)); short = search rules };
+    is_number = done_number _ _ [] e _ d;
+    is_value = done_value _ _ _ e _ d (omega arith) c.fill_value.ensures;
+    }
+
+pub returns-in-Unclean : goal.returns-in-Unclean
+returns-in-Unclean c =
+    let d = step_unclean _ _ c.step.ensures _ c.in-Unclean.is in
+    let e = c.if-value-ne16.false in
+    record {
+    is_lent = record { bytes = all_bytes _ (λ i l. omega (arith, c.type_inv.block i)); short = search rules };
+    is_number = unclean_number _ _ [] e _ d;
+    is_value = unclean_value _ _ _ e _ d (omega arith) c.fill_value-in-Unclean.ensures;
+    }
