@@ -24,7 +24,7 @@ use Rattle.named_words.specs.Entries.{SameFor, same_entries}
 use Rattle.laws.specs.Editions.{sheet_in, LabelRefused, other_edition}
 use Rattle.action_numbers.specs.Numbered.{payload_size, OwnsBody, body_in_order, Names}
 use Rattle.action_numbers.specs.Refusals.{Far, WrongBranch, Says, a_long_payload, a_long_body, a_far_branch, an_unrecorded_branch, a_stray_branch, says_under, whole_says, Meets, fault_meets, fault_within, IllBook, book_refused}
-use Rattle.agreement.specs.Source.{ActionEncoder, Result, ok, err, encode}
+use Rattle.agreement.specs.Source.{ActionEncoder, Result, ok, err, encode, panicked}
 use Rattle.agreement.specs.SourceAgrees.{Agrees, in_room, no_room, overflowed, same_as_source, Alike, agrees_once}
 use Rattle.agreement.specs.Published.{Block, as_written, as_published, BodyUndisputed}
 use Rattle.agreement.specs.PublishedFollows.{follows_published, no_other_difference}
@@ -482,6 +482,7 @@ module _ (m : Mode) (s book o : List ℕ) (t : Actions) (k : ℕ) {i : ℕ} (aft
       go (ok e) a i j (in_room w) = record { encoder = e; is_result = i; is_output = cc }
       go (ok e) a i j (no_room w) = refused_done j
       go (err x) a i j (overflowed c w) = refused_done j
+      go panicked a i j h = elim h [ ]
 
   -- and they follow the published layouts, GetUrl2's bits, a double's words and an End among the actions apart
   pub done_published : Block as_written t (take k after)
