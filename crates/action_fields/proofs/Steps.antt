@@ -16,7 +16,7 @@ use Rattle.layout.specs.Read.{Text, Terms, Place, placed, stop, ahead, Read, got
 use Rattle.layout.specs.Strings.{map_flat, map_owner, map_param}
 use Rattle.layout.specs.Lengths.{total, payload_length, owner_length, string_length, param_length, goto_frame2_length}
 use Rattle.layout.specs.Pack.{spelling}
-use Rattle.laws.specs.ReadFits.{good_got, flag_good}
+use Rattle.laws.proofs.ReadFits.{good_got, flag_good}
 use Rattle.positions.specs.declared.BytePosition.{BytePosition}
 use Rattle.positions.specs.declared.Fault.{Fault}
 use Rattle.positions.specs.declared.Fault.TheVariants as fault

@@ -11,7 +11,7 @@ use mathlib.Core.List.{List, [], ◌∷◌, ◌++◌, append_assoc, append-nil}
 use lib.ListN.{length, get_or}
 use lib.Dec.{eqb}
 use borrow.Author.Tests.{lt-ltb}
-use Rattle.layout.specs.Lists.{first_with_lem}
+use Rattle.layout.proofs.Lists.{first_with_lem}
 use Rattle.layout.specs.Numbers.{u16_at}
 use Rattle.layout.specs.Answers.{CutShort, UnknownCode, TooDeep}
 use Rattle.layout.specs.Answers as answers
@@ -23,10 +23,10 @@ use Rattle.layout.specs.Payload.{opcode, payload, headed, framed}
 use Rattle.layout.specs.Write.{size, sizes, body_size, Position, position, moved, Event, event_if, label_at, payload_test, body_test, labels_at, trace, traces, trace_body}
 use Rattle.layout.specs.Lengths.{total}
 use Rattle.layout.specs.Pack.{spelling}
-use Rattle.laws.specs.ReadFits.{good_got}
+use Rattle.laws.proofs.ReadFits.{good_got}
 use Rattle.laws.specs.Books.{WordsShort}
-use Rattle.laws.specs.Shares.{action_most, body_most}
-use Rattle.laws.specs.Begun.{begins_got, body_begins, owner_begins}
+use Rattle.laws.proofs.Shares.{action_most, body_most}
+use Rattle.laws.proofs.Begun.{begins_got, body_begins, owner_begins}
 use Rattle.labels.proofs.Labels.{slots_kept, any_number}
 use Rattle.labels.specs.Table.{entries_at, due, Rising, Slots, Tables, record_all, recorded, position_of}
 use Rattle.positions.specs.declared.BytePosition.{BytePosition}
@@ -42,7 +42,8 @@ use Rattle.operands.proofs.Scans.{stops_is}
 use Rattle.operands.proofs.Reading.{u8_in, u8_out}
 use Rattle.measure.specs.declared.Laid.{Laid}
 use Rattle.measure.specs.declared.Laid.TheVariants as laid
-use Rattle.laws.specs.Resolved.{action_size, action_trace, body_length, body_events, count_same}
+use Rattle.laws.specs.Resolved.{action_size, action_trace, body_length, body_events}
+use Rattle.laws.proofs.Resolved.{count_same}
 use Rattle.measure.specs.Walk.{State, state, standing, in_turn, noted_if, first_long, note_all, run, Outcome, done, fault, outcome, Ran, ran, stopped, in_bodies, body_tests, bodies_events, Owning, Laying, flat, to_label, bodies, function, stops}
 use Rattle.measure.proofs.Longs.{Apt, first_apt, noted_twice}
 use Rattle.measure.proofs.Runs.{outcome_got, run_append, run_none, run_body, noted_short}

@@ -7,7 +7,7 @@ use lib.ListN.{length, take, drop}
 use Rattle.layout.specs.Cut.{main, cut}
 use Rattle.editions.specs.Allowed.{meant}
 use Rattle.editions.specs.declared.Edition.{Edition}
-use Rattle.laws.specs.Packed.{is_main}
+use Rattle.laws.proofs.Packed.{is_main}
 use Rattle.cut.specs.Cuts.{said, Within}
 use Rattle.cut.specs.declared.CutMain.{CutMain}
 use Rattle.cut.specs.declared.CutMain.TheVariants as cut_main

@@ -18,7 +18,7 @@ use Rattle.layout.specs.Payload.{zero_ended, strings_bytes, pushes_bytes, opcode
 use Rattle.layout.specs.Strings.{map_value, map_param, map_flat, map_owner, map_target, map_action, map_catch, map_finally}
 use Rattle.layout.specs.Pack.{spelling}
 use Rattle.layout.specs.Judge.{judged}
-use Rattle.laws.specs.ReadFits.{length_each}
+use Rattle.laws.proofs.ReadFits.{length_each}
 use Rattle.labels.specs.Table.{record_at}
 use Rattle.pcode.specs.declared.CatchTarget.{CatchTarget}
 use Rattle.pcode.specs.declared.Action.{Action}

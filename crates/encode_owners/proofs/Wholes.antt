@@ -9,7 +9,7 @@ use lib.Seq.{sets}
 use Rattle.layout.specs.Numbers.{u16_at, le16}
 use Rattle.layout.specs.Read.{Terms, got, bad}
 use Rattle.layout.specs.Payload.{zero_ended, try_payload, headed}
-use Rattle.layout.specs.Lengths.{length_le16, length-try_payload}
+use Rattle.layout.proofs.Lengths.{length_le16, length-try_payload}
 use Rattle.pcode.specs.declared.Function.{Function}
 use Rattle.pcode.specs.Shown.{span_of, Held}
 use Rattle.positions.specs.declared.Ends.{Ends}

@@ -8,7 +8,7 @@ use lib.ListN.{length, length-append}
 use lib.Seq.{sets}
 use Rattle.layout.specs.Numbers.{le16}
 use Rattle.layout.specs.Payload.{headed}
-use Rattle.layout.specs.Lengths.{length_le16}
+use Rattle.layout.proofs.Lengths.{length_le16}
 use Rattle.positions.specs.declared.Ends.{Ends}
 use Rattle.encode_values.specs.Pieces.{Piece, written, bytes_of, Room, Put}
 use Rattle.encode_values.proofs.Headers.{run_then, list_known, list_space, list_put, list_room}

@@ -12,7 +12,8 @@ use Rattle.layout.specs.Numbers.{le16, bit}
 use Rattle.layout.specs.Lists.{pick}
 use Rattle.layout.specs.Tree.{Constant}
 use Rattle.layout.specs.Payload.{zero_ended, constant_bytes}
-use Rattle.layout.specs.Lengths.{push_length, length-zero_ended}
+use Rattle.layout.specs.Lengths.{push_length}
+use Rattle.layout.proofs.Lengths.{length-zero_ended}
 use Rattle.fields.specs.Runs.{part}
 use Rattle.fields.proofs.Runs.{length_part}
 use Rattle.stores.proofs.Stores.{sets_then}

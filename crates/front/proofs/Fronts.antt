@@ -13,7 +13,8 @@ use Rattle.layout.specs.Answers.{CutShort, BadField}
 use Rattle.layout.specs.Answers as answers
 use Rattle.layout.specs.Tree.{Entry, entry}
 use Rattle.layout.specs.Read.{Terms, Place, placed, Stop, stop, Read, got, bad, chain, read_u16, read_bytes, read_label, read_entries}
-use Rattle.laws.specs.Begun.{OfFields, read, fields_next, u16_fields, entries_fields}
+use Rattle.laws.specs.Begun.{OfFields, read}
+use Rattle.laws.proofs.Begun.{fields_next, u16_fields, entries_fields}
 use Rattle.labels.specs.Table.{entries_at, Rising}
 use Rattle.labels.proofs.Labels.{EntriesRead, entries_read}
 use Rattle.positions.specs.declared.BytePosition.{BytePosition}

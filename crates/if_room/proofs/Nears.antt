@@ -10,14 +10,15 @@ use Rattle.layout.specs.Answers as answers
 use Rattle.layout.specs.Tree.{Actions}
 use Rattle.layout.specs.Read.{Terms, deepest}
 use Rattle.layout.specs.Write.{body_size, block_bytes, block_size}
-use Rattle.layout.specs.Lengths.{length_block}
+use Rattle.layout.proofs.Lengths.{length_block}
 use Rattle.layout.specs.Pack.{block_in, output}
-use Rattle.layout.specs.Order.{no_room, has_room}
+use Rattle.layout.proofs.Order.{no_room, has_room}
 use Rattle.laws.specs.Fits.{Bytes}
-use Rattle.laws.specs.ReadFits.{good_got}
+use Rattle.laws.proofs.ReadFits.{good_got}
 use Rattle.laws.specs.Books.{WordsShort}
-use Rattle.laws.specs.Shares.{main_most}
-use Rattle.laws.specs.Packed.{ReadsMain, same_tree}
+use Rattle.laws.proofs.Shares.{main_most}
+use Rattle.laws.specs.Packed.{ReadsMain}
+use Rattle.laws.proofs.Packed.{same_tree}
 use Rattle.positions.specs.declared.BytePosition.{BytePosition}
 use Rattle.stores.proofs.Stores.{filled}
 use Rattle.write.specs.Bodies.{MainWritable, WroteBlock}

@@ -20,16 +20,17 @@ use Rattle.layout.specs.Write.{size, sizes, body_size, Position, position, moved
 use Rattle.layout.specs.Judge.{Mode, or_else, judged_in, first_refused, bad_by}
 use Rattle.layout.specs.Lengths.{total}
 use Rattle.layout.specs.Pack.{spelling}
-use Rattle.laws.specs.ReadFits.{good_got}
+use Rattle.laws.proofs.ReadFits.{good_got}
 use Rattle.laws.specs.Books.{WordsShort}
-use Rattle.laws.specs.Shares.{action_most, body_most}
-use Rattle.laws.specs.Begun.{begins_got, body_begins, owner_begins}
+use Rattle.laws.proofs.Shares.{action_most, body_most}
+use Rattle.laws.proofs.Begun.{begins_got, body_begins, owner_begins}
 use Rattle.labels.specs.Table.{tables, record_in}
 use Rattle.positions.specs.declared.ActionNumber.{ActionNumber}
 use Rattle.positions.specs.declared.BytePosition.{BytePosition}
 use Rattle.positions.specs.Scanned.{Roomy}
 use Rattle.positions.specs.declared.Fault.{Fault}
-use Rattle.laws.specs.Resolved.{action_size, action_trace, body_length, body_events, count_same}
+use Rattle.laws.specs.Resolved.{action_size, action_trace, body_length, body_events}
+use Rattle.laws.proofs.Resolved.{count_same}
 use Rattle.measure.specs.Walk.{State, state, fault, outcome, in_bodies, Measure, measure, branches, measured, Owning, Laying, flat, to_label, standing, in_turn, uncounted}
 use Rattle.measure.specs.declared.Laid.{Laid}
 use Rattle.measure.specs.declared.Laid.TheVariants as laid

@@ -12,9 +12,10 @@ use borrow.Author.Tests.{leb-true, leb-false}
 use Rattle.layout.specs.Numbers.{bits64}
 use Rattle.layout.specs.Answers.{NeverRecorded, StrayBranch}
 use Rattle.layout.specs.Write.{Position}
-use Rattle.layout.specs.Order.{zero_up, below, signed64, bits_back}
+use Rattle.layout.specs.Order.{zero_up, below, signed64}
+use Rattle.layout.proofs.Order.{bits_back}
 use Rattle.layout.specs.Judge.{Mode, distance, far_unless, or_else, refusal_if, barred, judged_in}
-use Rattle.laws.specs.Demands.{sub_up, sub_down}
+use Rattle.laws.proofs.Demands.{sub_up, sub_down}
 use Rattle.labels.specs.Table.{record_of, record_at, record_in, is_recorded, is_at_home, homed, is_far}
 use Rattle.labels.proofs.Labels.{homed_judged, judged_by}
 use Rattle.positions.specs.declared.ActionNumber.{ActionNumber}

@@ -10,7 +10,7 @@ use Rattle.layout.specs.Read as read
 use Rattle.layout.specs.Write.{Position, position, moved, Event}
 use Rattle.layout.specs.Judge.{Mode, or_else, judged_in, first_refused, bad_by}
 use Rattle.layout.specs.Lengths.{total}
-use Rattle.laws.specs.Branches.{refused_append}
+use Rattle.laws.proofs.Branches.{refused_append}
 use Rattle.labels.specs.Table.{record_in}
 use Rattle.positions.specs.declared.ActionNumber.{ActionNumber}
 use Rattle.positions.specs.declared.BytePosition.{BytePosition}

@@ -14,13 +14,13 @@ use Rattle.layout.specs.Read.{Terms, placed, got, read_body}
 use Rattle.layout.specs.Write.{body_size, Position, block_start, Event, label_at, branch_at, payload_too_long, body_too_long, trace_body, events, lookup}
 use Rattle.layout.specs.Judge.{distance, is_near, far_unless, judged, or_else, Mode, plain_mode, refusal_if, barred, judged_in, first_refused, too_far, bad_by, bad_branch}
 use Rattle.layout.specs.Answers.{Refusal}
-use Rattle.laws.specs.Branches.{each_then, refused_same}
-use Rattle.laws.specs.Modes.{plain_if, plain_far}
-use Rattle.laws.specs.ReadFits.{good_got}
+use Rattle.laws.proofs.Branches.{each_then, refused_same}
+use Rattle.laws.proofs.Modes.{plain_if, plain_far}
+use Rattle.laws.proofs.ReadFits.{good_got}
 use Rattle.laws.specs.Books.{WordsShort}
-use Rattle.laws.specs.Shares.{body_most}
-use Rattle.laws.specs.Packed.{same_tree}
-use Rattle.laws.specs.Within.{AllWithin, body_within, Recorded, lookup_within}
+use Rattle.laws.proofs.Shares.{body_most}
+use Rattle.laws.proofs.Packed.{same_tree}
+use Rattle.laws.proofs.Within.{AllWithin, body_within, Recorded, lookup_within}
 use Rattle.labels.specs.Table.{slot_of, kept, homed, unnumbered, record_in, TableHolds}
 use Rattle.positions.specs.declared.ActionNumber.{ActionNumber}
 use Rattle.positions.specs.declared.BytePosition.{BytePosition}

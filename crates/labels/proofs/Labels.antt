@@ -15,7 +15,8 @@ use Rattle.layout.specs.Tree.{ActionIndex, Entry, entry}
 use Rattle.layout.specs.Read.{Terms, Place, ahead, got, if_whole, if_within, tested, read_u16, read_label, read_entries}
 use Rattle.layout.specs.Write.{Position, position, event_if, labels_at, Event, label_at, branch_at, payload_too_long, body_too_long, later, record_if, lookup, distance_bits}
 use Rattle.layout.specs.Judge.{distance, is_near, far_unless, judged}
-use Rattle.laws.specs.ReadFits.{Good, fine, refused, good_then, good_got}
+use Rattle.laws.specs.ReadFits.{Good, fine, refused}
+use Rattle.laws.proofs.ReadFits.{good_then, good_got}
 use Rattle.labels.specs.Table.{slot_of, record_of, record_at, home_of, homed, unnumbered, record_in, record_all, Tables, tables, recorded, Cleared, kept, Keeps, TableHolds, HomesHold, Slots, is_far, entries_at, Rising, end, next}
 use Rattle.labels.proofs.Distances.{far_unless_near}
 

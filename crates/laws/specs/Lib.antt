@@ -7,7 +7,6 @@ pub mod Modes
 pub mod Barred
 pub mod Begun
 pub mod Homes
-pub mod Within
 pub mod RoundTrip
 pub mod ReadFits
 pub mod Books

@@ -30,7 +30,3 @@ by_step =
 -- it is answered by its number and value
 abbrev pub Answers : Case → Type 0
 Answers (case s n v) = (number (step s) ≡ n) × (value pos (step s) ≡ pos v)
-
-pub steps_answer : All Answers by_step
-unfolding by_step pick reach ended walk step_from step number value refusal_number refusal_value
-steps_answer = ((refl, refl), ((refl, refl), ((refl, refl), ((refl, refl), ((refl, refl), ((refl, refl), ((refl, refl), ((refl, refl), ((refl, refl), ((refl, refl), tt))))))))))

@@ -14,9 +14,9 @@ use Rattle.layout.specs.Read.{Terms, Place, placed, ahead, Read, got, bad, Reade
 use Rattle.layout.specs.Lengths.{total, string_length}
 use Rattle.layout.specs.Pack.{spelling}
 use Rattle.laws.specs.Fits.{Bytes}
-use Rattle.laws.specs.ReadFits.{good_got, good_then, good_as, bytes_good}
+use Rattle.laws.proofs.ReadFits.{good_got, good_then, good_as, bytes_good}
 use Rattle.laws.specs.Books.{WordsShort}
-use Rattle.laws.specs.Shares.{text_most, value_most}
+use Rattle.laws.proofs.Shares.{text_most, value_most}
 use Rattle.positions.specs.declared.BytePosition.{BytePosition}
 use Rattle.positions.specs.declared.Fault.{Fault}
 use Rattle.positions.specs.declared.Scan.{Scan}

@@ -16,7 +16,8 @@ use Rattle.layout.specs.Read.{Text, Terms, Place, placed, stop, Read, got, bad, 
 use Rattle.layout.specs.Strings.{map_flat, map_owner, map_action, map_body}
 use Rattle.layout.specs.Payload.{opcode, payload, owner_fields}
 use Rattle.layout.specs.Write.{size, body_size, Position, position, Event, moved, home_in, to_body, payload_test, body_test, trace, trace_body}
-use Rattle.layout.specs.Lengths.{total, owner_length, length_payload, length_framed, length-owner_fields}
+use Rattle.layout.specs.Lengths.{total, owner_length}
+use Rattle.layout.proofs.Lengths.{length_payload, length_framed, length-owner_fields}
 use Rattle.layout.specs.Pack.{spelling}
 use Rattle.labels.specs.Table.{Tables}
 use Rattle.positions.specs.declared.BytePosition.{BytePosition}

@@ -17,13 +17,16 @@ use Rattle.layout.specs.Read.{Text, plain, Terms, Place, placed, ahead, stop, Re
 use Rattle.layout.specs.Strings.{map_target, map_action, map_body, map_catch, map_finally}
 use Rattle.layout.specs.Payload.{catch_name}
 use Rattle.layout.specs.Write.{size, catch_size, finally_size, Position, position, moved, to_try, payload_test, body_test, trace, trace_body, trace_catch, trace_finally}
-use Rattle.layout.specs.Lengths.{total, name_length, string_length, length-catch_name}
+use Rattle.layout.specs.Lengths.{total, name_length, string_length}
+use Rattle.layout.proofs.Lengths.{length-catch_name}
 use Rattle.layout.specs.Pack.{spelling}
 use Rattle.laws.specs.Fits.{Bytes}
-use Rattle.laws.specs.ReadFits.{Good, fine, refused, good_then, good_got, u8_good, tested_good}
+use Rattle.laws.specs.ReadFits.{Good, fine, refused}
+use Rattle.laws.proofs.ReadFits.{good_then, good_got, u8_good, tested_good}
 use Rattle.laws.specs.Books.{WordsShort}
-use Rattle.laws.specs.Shares.{text_most}
-use Rattle.laws.specs.Begun.{Fields, OfFields, fields_next, tested_fields, u8_fields, target_fields}
+use Rattle.laws.proofs.Shares.{text_most}
+use Rattle.laws.specs.Begun.{Fields, OfFields}
+use Rattle.laws.proofs.Begun.{fields_next, tested_fields, u8_fields, target_fields}
 use Rattle.labels.specs.Table.{Tables}
 use Rattle.positions.specs.declared.BytePosition.{BytePosition}
 use Rattle.positions.specs.Scanned.{fault_of, scanned}
@@ -32,7 +35,8 @@ use Rattle.positions.specs.declared.Scan.TheVariants as scan
 use Rattle.measure.specs.declared.Laid.{Laid}
 use Rattle.measure.specs.declared.Laid.TheVariants as laid
 use Rattle.action_fields.specs.Fields.{read_caught, target_size, caught_size, bodies_after}
-use Rattle.laws.specs.Resolved.{action_size, action_trace, body_length, body_same}
+use Rattle.laws.specs.Resolved.{action_size, action_trace, body_length}
+use Rattle.laws.proofs.Resolved.{body_same}
 use Rattle.measure.specs.Walk.{State, state, noted_if, run, fault, outcome, branches, uncounted, measured, in_turn, in_bodies, body_tests, bodies_events, Onward, Laying, laid_as, noted_from, Tried}
 use Rattle.measure.proofs.Runs.{run_append, run_none, run_payload, run_body, branches_append, branches_none, branches_after, branches_body}
 

@@ -5,7 +5,8 @@ use Rattle.std.proofs.Common.{arith}
 use Rattle.layout.specs.Lists.{pick}
 use Rattle.layout.specs.Tree.{PushValue, Constant, FunctionParam, GetUrl, ConstantPool, SetTarget, GotoLabel, Push, GotoFrame2, DefineFunction, DefineFunction2}
 use Rattle.layout.specs.Payload.{push_bytes, payload, owner_payload, try_payload}
-use Rattle.layout.specs.Lengths.{total, string_length, param_length, push_length, goto_frame2_length, payload_length, owner_length, length_push, length_payload, length-owner_payload, length-try_payload}
+use Rattle.layout.specs.Lengths.{total, string_length, param_length, push_length, goto_frame2_length, payload_length, owner_length}
+use Rattle.layout.proofs.Lengths.{length_push, length_payload, length-owner_payload, length-try_payload}
 
 -- "GetUrl |u|+|t|+2"
 pub get_url_payload : {url target : ℕ} (u t : List ℕ) → length u ≡ url → length t ≡ target → length (payload (GetUrl u t)) ≡ url + target + 2

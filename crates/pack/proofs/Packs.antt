@@ -15,9 +15,9 @@ use Rattle.layout.specs.Write.{Event, label_at, branch_at, payload_too_long, bod
 use Rattle.layout.specs.Judge.{or_else, too_long, Mode, bad_branch, judge}
 use Rattle.layout.specs.Book.{book_of}
 use Rattle.layout.specs.Pack.{block_in, pack_tree, edition_terms, pack_read, pack_by, pack_cut, pack, Outcome}
-use Rattle.layout.specs.Order.{uncut_first, long_first, branch_next, room_last}
+use Rattle.layout.proofs.Order.{uncut_first, long_first, branch_next, room_last}
 use Rattle.layout.specs.Cut.{First, Second, Third, uncut, cut}
-use Rattle.laws.specs.Modes.{none_far}
+use Rattle.laws.proofs.Modes.{none_far}
 use Rattle.laws.specs.Packed.{ReadsMain}
 use Rattle.positions.specs.declared.ActionNumber.{ActionNumber}
 use Rattle.positions.specs.declared.BytePosition.{BytePosition}

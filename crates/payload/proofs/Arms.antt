@@ -20,10 +20,12 @@ use Rattle.layout.specs.Write.{size, position, home_in, trace, payload_test, eve
 use Rattle.layout.specs.Lengths.{total, string_length, push_length, payload_length, owner_length, goto_frame2_length}
 use Rattle.layout.specs.Pack.{spelling}
 use Rattle.laws.specs.Fits.{Bytes}
-use Rattle.laws.specs.ReadFits.{Good, fine, good_then, good_got, u8_good, u16_good, tested_good}
+use Rattle.laws.specs.ReadFits.{Good, fine}
+use Rattle.laws.proofs.ReadFits.{good_then, good_got, u8_good, u16_good, tested_good}
 use Rattle.laws.specs.Books.{WordsShort}
-use Rattle.laws.specs.Shares.{text_most, strings_most, params_most}
-use Rattle.laws.specs.Begun.{Fields, OfFields, fields_next, tested_fields, u8_fields, u16_fields, flag_fields, counted_fields, string_fields, value_fields, param_fields, label_fields}
+use Rattle.laws.proofs.Shares.{text_most, strings_most, params_most}
+use Rattle.laws.specs.Begun.{Fields, OfFields}
+use Rattle.laws.proofs.Begun.{fields_next, tested_fields, u8_fields, u16_fields, flag_fields, counted_fields, string_fields, value_fields, param_fields, label_fields}
 use Rattle.positions.specs.Scanned.{fault_of, scanned}
 use Rattle.operands.specs.Operands.{string_size}
 use Rattle.lists.specs.Elements.{read_named, named_size, value_size}

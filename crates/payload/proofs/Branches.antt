@@ -7,7 +7,7 @@ use mathlib.Core.List.{List}
 use lib.ListN.{length}
 use Rattle.layout.specs.Numbers.{u16_at}
 use Rattle.layout.specs.Read.{Terms, Place, placed, Read, got, bad, read_label}
-use Rattle.laws.specs.ReadFits.{good_got}
+use Rattle.laws.proofs.ReadFits.{good_got}
 use Rattle.positions.specs.declared.BytePosition.{BytePosition}
 use Rattle.labels.proofs.Labels.{label_is}
 use Rattle.positions.specs.declared.Fault.{Fault}

@@ -8,7 +8,8 @@ use mathlib.Core.List.{List, [], ◌∷◌}
 use lib.ListN.{length, get_or}
 use lib.Dec.{ltb, leb}
 use borrow.Author.Tests.{ltb-true}
-use Rattle.layout.specs.Lists.{first_with, first_with_lem, pick, each}
+use Rattle.layout.specs.Lists.{first_with, pick, each}
+use Rattle.layout.proofs.Lists.{first_with_lem}
 use Rattle.layout.specs.Numbers.{u16_at}
 use Rattle.layout.specs.OpCode.{OpCode, SmallOpCode, small_byte, byte, small_op_codes, opcodes, opcode_of}
 use Rattle.layout.specs.Tree.{ActionOf, ActionsOf, body_count, catch_count}

@@ -5,7 +5,8 @@ use mathlib.Core.List.{List, [], ◌∷◌, ◌++◌}
 use lib.Dec.{ltb, eqb}
 use Rattle.layout.specs.Tree.{ActionIndex, first_action, next_action, Entry, entry, Action, flat, branch, owner, Try, ActionList, empty, more, Actions, body, Catch, no_catch, catch, Finally, no_finally, finally}
 use Rattle.layout.specs.Write.{Position, to_body, to_try, to_catch, to_finally, past, Event, label_at, payload_too_long, body_too_long, event_if, payload_test, body_test, labels_at, trace, traces, trace_body, trace_catch, trace_finally}
-use Rattle.laws.specs.Branches.{EachBranch, each_append}
+use Rattle.laws.specs.Branches.{EachBranch}
+use Rattle.laws.proofs.Branches.{each_append}
 use Rattle.pcode.proofs.Trees.{Under, UnderActions, UnderBody, UnderCatch, UnderFinally}
 
 module _ (n : ℕ) where

@@ -4,7 +4,8 @@ use Prim.Native.Nat.{ℕ, ◌+◌, ◌≤◌}
 use mathlib.Core.Option.{Option, none, some}
 use mathlib.Core.List.{List, [], ◌∷◌}
 use lib.ListN.{length, get_or}
-use Rattle.layout.specs.Lists.{first_with, first_with_lem, pick}
+use Rattle.layout.specs.Lists.{first_with, pick}
+use Rattle.layout.proofs.Lists.{first_with_lem}
 use Rattle.layout.specs.PushKind.{PushKind, kind_byte, push_kinds, kind_of}
 use Rattle.layout.specs.Tree.{PushValueOf}
 use Rattle.layout.specs.Read.{Text, Terms, Place, placed, read_value_of, read_value_if, read_value}

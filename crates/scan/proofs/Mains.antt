@@ -15,10 +15,10 @@ use Rattle.layout.specs.Read.{Text, Terms, deepest, placed, Stop, Read, got, bad
 use Rattle.layout.specs.Write.{block_start, Event, label_at, branch_at, payload_too_long, body_too_long, events}
 use Rattle.layout.specs.Judge.{too_long}
 use Rattle.laws.specs.Fits.{Bytes}
-use Rattle.laws.specs.ReadFits.{good_got, good_bad}
+use Rattle.laws.proofs.ReadFits.{good_got, good_bad}
 use Rattle.laws.specs.Books.{WordsShort}
-use Rattle.laws.specs.Shares.{body_most, main_most}
-use Rattle.laws.specs.Begun.{begins_bad, main_begins}
+use Rattle.laws.proofs.Shares.{body_most, main_most}
+use Rattle.laws.proofs.Begun.{begins_bad, main_begins}
 use Rattle.labels.specs.Table.{slot_of, home_of, record_all, tables, recorded, Cleared, Slots}
 use Rattle.labels.proofs.Labels.{keeps}
 use Rattle.positions.specs.declared.BytePosition.{BytePosition}

@@ -10,7 +10,7 @@ use borrow.Author.Tests.{lt-ltb, le-ltb, le-leb, lt-leb, leb-true, leb-false}
 use Rattle.layout.specs.Lists.{pick}
 use Rattle.layout.specs.Numbers.{u16_at}
 use Rattle.layout.specs.Step.{reach, onward, end_at, ended, step_from, step}
-use Rattle.layout.specs.Stepping.{forward, from_out, from_cut, from_step}
+use Rattle.layout.proofs.Stepping.{forward, from_out, from_cut, from_step}
 use Rattle.step.specs.Steps.{look_at, told}
 use Rattle.step.specs.declared.Look.{Look}
 use Rattle.step.specs.declared.Look.TheVariants.{Next, Cut}

@@ -3,5 +3,4 @@ pub mod Own
 pub mod Landing
 pub mod Branching
 pub mod Tied
-pub mod Tying
 pub mod Worked

@@ -14,7 +14,6 @@ use Rattle.layout.specs.Step.{step}
 use Rattle.laws.specs.Fits.{BodyFits}
 use Rattle.tied_steps.specs.Places.{Begins}
 use Rattle.tied_steps.specs.Tied.{landing, Tied}
-use Rattle.tied_steps.specs.Tying.{tree_tied}
 
 -- label 0; If to label 0; Jump to label 7, which is never recorded; With of Play, which has label 1 before it; Jump to label 1
 unfoldable pub worked : Actions
@@ -32,25 +31,3 @@ worked_block =
     ∷ 0x94 ∷ 0x02 ∷ 0x00 ∷ 0x01 ∷ 0x00 ∷ 0x06
     ∷ 0x99 ∷ 0x02 ∷ 0x00 ∷ 0xFA ∷ 0xFF
     ∷ 0x00 ∷ []
-
--- its block, and that the tree can be written
-written : (block_bytes worked ≡ worked_block) × BodyFits worked × (too_far (events worked) (events worked) ≡ none)
-unfolding worked worked_block each pick first_with le16 small_byte byte small_op_codes opcodes opcode_of opcode payload owner_op_code owner_fields owner_payload branch_op_code headed framed size bytes moved home_in event_if payload_test body_test labels_at trace events later record_if lookup distance_bits branch_bits block_bytes is_near far_unless judged or_else distance first_refused
-written = (refl, (tt, (tt, ((tt, omega arith, omega arith, ((refl, omega arith), tt)), (tt, tt)))), refl)
-
-pub worked_tied : Tied worked worked_block
-worked_tied = subst (Tied worked) written.0 (tree_tied worked written.1 written.2)
-
--- six steps: If, Jump, With, Play, Jump and End
-pub worked_steps : step worked_block ≡ Done 6
-unfolding worked count
-worked_steps = worked_tied.is_clean
-
--- the If lands at the block's start, the first Jump, whose label has no record, right behind itself, and the other in With's body
-pub worked_lands : Begins worked_block 0 × Begins worked_block 10 × Begins worked_block 15
-unfolding worked small_byte byte opcode payload owner_fields headed framed size moved home_in event_if payload_test body_test labels_at trace events later record_if lookup landing
-worked_lands = (
-  worked_tied.are_branches.0.lands.begins,
-  worked_tied.are_branches.1.0.lands.begins,
-  worked_tied.are_branches.1.1.0.lands.begins,
-)

@@ -12,7 +12,7 @@ use Rattle.layout.specs.Read.{Text, Terms, Place, placed, Reader, got, behind, h
 use Rattle.layout.specs.Strings.{map_action, map_body, map_owner, map_catch, map_finally}
 use Rattle.layout.specs.Payload.{owner_fields, catch_name}
 use Rattle.layout.specs.Write.{bytes, size, catch_size, Position, position, moved, to_body, to_try, to_catch, to_finally, Event, payload_test, body_test, trace, trace_catch, trace_finally, finally_size}
-use Rattle.layout.specs.Lengths.{length_bytes}
+use Rattle.layout.proofs.Lengths.{length_bytes}
 use Rattle.layout.specs.Judge.{judged, far_unless}
 use Rattle.layout.specs.Pack.{spelling}
 use Rattle.pcode.specs.Shown.{Shown, small, goto_frame, get_url, store_register, constant_pool, wait_for_frame, set_target, goto_label, wait_for_frame2, define_function2, try, with, push, jump, get_url2, define_function, if, goto_frame2, ShowsAction, ActionReads}
@@ -27,7 +27,8 @@ use Rattle.write.specs.declared.Bodies.{Bodies}
 use Rattle.write.specs.declared.Bodies.TheVariants as bodies
 use Rattle.positions.specs.declared.Ends.{Ends}
 use Rattle.write.proofs.Blocks.{length_owner, owner_closed, catch_body, finally_body, tried_of, catch_length, finally_length, length_try, try_closed, head_most}
-use Rattle.laws.specs.Nears.{NoneFar, near_left, near_right, near_of_lem, branch_near}
+use Rattle.laws.specs.Nears.{NoneFar}
+use Rattle.laws.proofs.Nears.{near_left, near_right, near_of_lem, branch_near}
 use Rattle.labels.specs.Table.{record_at}
 
 -- ---- the bodies that an action has

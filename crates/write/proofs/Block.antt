@@ -8,8 +8,8 @@ use lib.Seq.{sets, length-sets}
 use Rattle.layout.specs.Tree.{Actions}
 use Rattle.layout.specs.Read.{Terms}
 use Rattle.layout.specs.Write.{branch_bits, block_bytes, block_size}
-use Rattle.layout.specs.Lengths.{length_body}
-use Rattle.laws.specs.Packed.{same_tree}
+use Rattle.layout.proofs.Lengths.{length_body}
+use Rattle.laws.proofs.Packed.{same_tree}
 use Rattle.stores.proofs.Stores.{sets-append}
 use Rattle.writer.specs.declared.Writer.{Writer}
 use Rattle.writer.specs.Written.{appended}

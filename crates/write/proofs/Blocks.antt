@@ -13,7 +13,8 @@ use Rattle.layout.specs.Read.{Text}
 use Rattle.layout.specs.Strings.{map_action, map_body, map_catch, map_finally, map_owner}
 use Rattle.layout.specs.Payload.{owner_op_code, owner_fields, owner_payload, branch_op_code, catch_shape, finally_shape, catch_name, try_payload, framed}
 use Rattle.layout.specs.Write.{bytes, catch_bytes, finally_bytes, size, catch_size, finally_size}
-use Rattle.layout.specs.Lengths.{owner_length, length_le16, length-owner_fields, length-owner_payload, length-try_payload, framed_long, length_framed, branch_long, owner_long, try_long, length_body}
+use Rattle.layout.specs.Lengths.{owner_length}
+use Rattle.layout.proofs.Lengths.{length_le16, length-owner_fields, length-owner_payload, length-try_payload, framed_long, length_framed, branch_long, owner_long, try_long, length_body}
 use Rattle.layout.specs.Pack.{spelling}
 use Rattle.encode_flat.specs.Branches.{table_bits}
 use Rattle.encode.specs.Heads.{head_bytes, head_of}

@@ -11,7 +11,7 @@ use Rattle.layout.specs.Tree.{Entry, ActionOf, ActionListOf, empty, more, Action
 use Rattle.layout.specs.Read.{Text, Terms, Place, placed, got, Reader, behind, read_entries, read_action, read_actions, read_body_with, read_body}
 use Rattle.layout.specs.Strings.{map_action, map_actions, map_body}
 use Rattle.layout.specs.Write.{bytes, actions_bytes, body_bytes, sizes, body_size, Position, position, moved, past, Event, labels_at, traces, trace_body}
-use Rattle.layout.specs.Lengths.{length_bytes}
+use Rattle.layout.proofs.Lengths.{length_bytes}
 use Rattle.layout.specs.Pack.{spelling}
 use Rattle.labels.proofs.Labels.{entries_read}
 use Rattle.pcode.proofs.Readings.{Gives, gives, refuses, given, also_behind, next, then, itself, u16}
@@ -19,7 +19,8 @@ use Rattle.encode_flat.specs.Branches.{table_bits}
 use Rattle.laws.specs.Resolved.{body_length, action_size, action_trace}
 use Rattle.write.specs.Bodies.{NearFrom, near_of, near_action, body_of, action_of, Room, Wrote}
 use Rattle.positions.specs.declared.Ends.{Ends}
-use Rattle.laws.specs.Nears.{NoneFar, near_left, near_right}
+use Rattle.laws.specs.Nears.{NoneFar}
+use Rattle.laws.proofs.Nears.{near_left, near_right}
 use Rattle.labels.specs.Table.{record_at}
 
 -- ---- a body's front

@@ -10,14 +10,14 @@ use Rattle.layout.specs.Tree.{Actions, ActionsOf}
 use Rattle.layout.specs.Read.{Text, Terms, deepest, Place, placed, got, read_body, read_main}
 use Rattle.layout.specs.Strings.{map_body}
 use Rattle.layout.specs.Write.{bytes, body_bytes, body_size, Position, events, distance_bits, branch_bits, block_size, block_start, lookup}
-use Rattle.layout.specs.Lengths.{length_body}
+use Rattle.layout.proofs.Lengths.{length_body}
 use Rattle.layout.specs.Pack.{spelling}
 use Rattle.layout.specs.Judge.{judged, far_by, too_far}
 use Rattle.labels.specs.Table.{TableHolds, record_at}
 use Rattle.labels.proofs.Labels.{table_record, homed_bits, homed_judged}
 use Rattle.pcode.proofs.Readings.{given}
 use Rattle.encode_flat.specs.Branches.{table_bits}
-use Rattle.laws.specs.Branches.{each_then, refused_same}
+use Rattle.laws.proofs.Branches.{each_then, refused_same}
 use Rattle.laws.specs.Resolved.{body_length}
 use Rattle.write.specs.Bodies.{near_of, body_of, Room, Wrote, main_bytes, MainWritable, PutMain}
 use Rattle.positions.specs.declared.Ends.{Ends}

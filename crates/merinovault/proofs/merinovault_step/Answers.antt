@@ -2,7 +2,7 @@
 use mathlib.Core.Path.{sym}
 use mathlib.Core.List.{[]}
 use native.Mathlib.Omega.{arith}
-use Rattle.laws.specs.Fits.{all_bytes}
+use Rattle.laws.proofs.Fits.{all_bytes}
 use Rattle.merinovault.specs.Calls.{Lent}
 use Rattle.merinovault.proofs.Values.{other, step_done, step_unclean, done_number, done_value, unclean_number, unclean_value}
 use borrow.Author.Rules.{rules}

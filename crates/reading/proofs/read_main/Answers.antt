@@ -1,7 +1,8 @@
 -- `reading::read_main` meets its contract: the walk stops at a fault, or leaves what packing goes on with. Assumes nothing.
 use mathlib.Core.Path.{◌∙◌}
 use native.Mathlib.Omega.{arith}
-use Rattle.laws.specs.Fits.{Bytes, all_bytes}
+use Rattle.laws.specs.Fits.{Bytes}
+use Rattle.laws.proofs.Fits.{all_bytes}
 use Rattle.editions.proofs.Listed.{terms_short}
 use Rattle.scan.proofs.Mains.{main_place}
 use Rattle.reading.proofs.Mains as mains

@@ -1,5 +1,5 @@
 
-use Rattle.laws.specs.Fits.{all_bytes}
+use Rattle.laws.proofs.Fits.{all_bytes}
 use Rattle.editions.proofs.Listed.{terms_short}
 use Rattle.scan.proofs.Mains.{ready, main_stops, main_left, main_whole}
 use Rattle.positions.specs.Scanned.{fault_of}

@@ -3,7 +3,7 @@ use Prim.Native.Nat.{◌<◌, ◌/◌, ◌%◌}
 use native.Mathlib.Nat.{mod-eq_of_lt}
 use native.Mathlib.Omega.{arith}
 use borrow.Author.Rules.{rules}
-use Rattle.layout.specs.Lengths.{length_le16}
+use Rattle.layout.proofs.Lengths.{length_le16}
 use Rattle.layout.specs.Numbers.{le16, le32}
 use Rattle.stores.proofs.Stores.{sets_then}
 use Rattle.stores.proofs.write_u32.Goals as goal

@@ -1,6 +1,6 @@
 -- `header_at` meets its contract. Assumes nothing.
 use Rattle.std.proofs.Common.{arith, refl, add-one}
-use Rattle.layout.specs.Lengths.{length_le16}
+use Rattle.layout.proofs.Lengths.{length_le16}
 use Rattle.writer.proofs.header_at.Goals as goal
 
 -- The header is the opcode and, right behind it, the length.

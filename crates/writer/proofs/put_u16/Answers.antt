@@ -1,6 +1,6 @@
 -- `put_u16` meets its contract. Assumes nothing.
 use native.Mathlib.Omega.{arith}
-use Rattle.layout.specs.Lengths.{length_le16}
+use Rattle.layout.proofs.Lengths.{length_le16}
 use Rattle.writer.proofs.put_u16.Goals as goal
 
 -- Two bytes were written.

@@ -4,13 +4,15 @@ use native.Mathlib.Omega.{arith}
 use Rattle.std.proofs.Math.Bool.{true, false}
 use Rattle.std.proofs.Math.Option.{Option}
 use mathlib.Core.List.{List, [], ◌∷◌, ◌++◌}
-use Rattle.layout.specs.Lists.{All, all_append}
+use Rattle.layout.specs.Lists.{All}
+use Rattle.layout.proofs.Lists.{all_append}
 use Rattle.layout.specs.OpCode.{OpCode, byte}
 use Rattle.layout.specs.Tree.{Flat, Small, GotoFrame, GetUrl, StoreRegister, ConstantPool, WaitForFrame, SetTarget, GotoLabel, WaitForFrame2, Push, GetUrl2, GotoFrame2, ActionIndex, first_action, next_action, Entry, entry, Action, flat, branch, owner, Try, ActionList, empty, more, Actions, body, Catch, no_catch, catch, Finally, no_finally, finally}
 use Rattle.layout.specs.Payload.{opcode, payload, framed}
 use Rattle.layout.specs.Write.{size, sizes, body_size, catch_size, finally_size, Position, moved, to_body, to_try, to_catch, to_finally, past, Event, label_at, branch_at, payload_too_long, body_too_long, event_if, payload_test, body_test, labels_at, trace, traces, trace_body, trace_catch, trace_finally, lookup}
-use Rattle.layout.specs.Lengths.{length_framed}
-use Rattle.laws.specs.Branches.{IfRecorded, lookup_is}
+use Rattle.layout.proofs.Lengths.{length_framed}
+use Rattle.laws.specs.Branches.{IfRecorded}
+use Rattle.laws.proofs.Branches.{lookup_is}
 
 -- ---- a payload is no longer than its action
 

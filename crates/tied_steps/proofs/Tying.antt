@@ -7,7 +7,8 @@ use native.Mathlib.Omega.{arith}
 use Rattle.std.proofs.Math.Option.{Option, none, some}
 use mathlib.Core.List.{List, [], ◌∷◌, ◌++◌, append_assoc}
 use Rattle.std.proofs.Math.IntN.{pos, sub_ℕ}
-use Rattle.layout.specs.Lists.{All, all_right}
+use Rattle.layout.specs.Lists.{All}
+use Rattle.layout.proofs.Lists.{all_right}
 use Rattle.layout.specs.Numbers.{le16, u16_at}
 use Rattle.layout.specs.Answers.{Done}
 use Rattle.layout.specs.Tree.{Branch, Action, flat, branch, owner, Try, Actions, body_count}
@@ -15,22 +16,29 @@ use Rattle.layout.specs.Payload.{branch_op_code, framed}
 use Rattle.layout.specs.Write.{Position, block_start, Event, label_at, branch_at, payload_too_long, body_too_long, lookup, distance_bits, branch_bits, block_bytes, events}
 use Rattle.layout.specs.Judge.{distance, too_far, Mode}
 use Rattle.layout.specs.Pack.{pack, ReadsAs}
-use Rattle.layout.specs.Lengths.{total, framed_long, branch_long}
-use Rattle.layout.specs.Order.{two_back}
+use Rattle.layout.specs.Lengths.{total}
+use Rattle.layout.proofs.Lengths.{framed_long, branch_long}
+use Rattle.layout.proofs.Order.{two_back}
 use Rattle.layout.specs.Step.{step}
 use Rattle.layout.specs.Stepped.{end_step, clean}
-use Rattle.layout.specs.Stepping.{stepped_step}
+use Rattle.layout.proofs.Stepping.{stepped_step}
 use Rattle.laws.specs.Fits.{Bytes, Fits, BodyFits}
-use Rattle.laws.specs.Nears.{bits_small}
-use Rattle.laws.specs.Branches.{EachBranch, IfRecorded, lookup_is}
-use Rattle.laws.specs.Demands.{signed16, sub_up, sub_down, judged_signed}
-use Rattle.laws.specs.Packed.{Written, is_written, tree_fits}
-use Rattle.action_numbers.specs.Numbered.{body_in_order, own_size, BranchTo, branch_to, total_append, length_order, Names, names_each, Between, Named, events_named}
+use Rattle.laws.proofs.Nears.{bits_small}
+use Rattle.laws.specs.Branches.{EachBranch, IfRecorded}
+use Rattle.laws.proofs.Branches.{lookup_is}
+use Rattle.laws.specs.Demands.{signed16}
+use Rattle.laws.proofs.Demands.{sub_up, sub_down, judged_signed}
+use Rattle.laws.specs.Packed.{Written}
+use Rattle.laws.proofs.Packed.{is_written, tree_fits}
+use Rattle.action_numbers.specs.Numbered.{body_in_order, own_size, BranchTo, branch_to, Names, Between, Named}
+use Rattle.action_numbers.proofs.Numbered.{total_append, length_order, names_each, events_named}
 use Rattle.tied_steps.specs.Places.{StepAt, Begins}
-use Rattle.tied_steps.specs.Own.{own_bytes, length_own, body_in_order_lem, all_steps, body_fits_in_order, ended, action_at, begins_at, step_is}
+use Rattle.tied_steps.specs.Own.{own_bytes}
+use Rattle.tied_steps.proofs.Own.{length_own, body_in_order_lem, all_steps, body_fits_in_order, ended, action_at, begins_at, step_is}
 use Rattle.tied_steps.specs.Landing.{BranchOpcode, Lands, LandsSomewhere, AllLand}
 use Rattle.tied_steps.specs.Tied.{landing, BranchStep, Tied}
-use Rattle.tied_steps.specs.Branching.{other, IsBranch, a_branch, own_branch, branch_opcode, EachFrom, from_at, Near, NearIf, body_near_in_order}
+use Rattle.tied_steps.specs.Branching.{IsBranch, a_branch, EachFrom}
+use Rattle.tied_steps.proofs.Branching.{other, own_branch, branch_opcode, from_at, Near, NearIf, body_near_in_order}
 
 -- ---- the operand of a branch
 

@@ -1,0 +1,5 @@
+pub mod SourceSteps
+pub mod SourceWrites
+pub mod SourcePatches
+pub mod SourceAgrees
+pub mod PublishedFollows

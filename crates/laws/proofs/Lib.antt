@@ -1,0 +1,17 @@
+pub mod Fits
+pub mod Branches
+pub mod Nears
+pub mod Modes
+pub mod Barred
+pub mod Begun
+pub mod Homes
+pub mod Within
+pub mod RoundTrip
+pub mod ReadFits
+pub mod Books
+pub mod Shares
+pub mod Packed
+pub mod Resolved
+pub mod Demands
+pub mod Values
+pub mod Editions

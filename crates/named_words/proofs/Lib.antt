@@ -1,0 +1,6 @@
+pub mod Named
+pub mod Follows
+pub mod Respelt
+pub mod Entries
+pub mod Unnamed
+pub mod Worked
