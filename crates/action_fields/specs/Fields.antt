@@ -1,4 +1,4 @@
--- The fields of an opcode as far as its bodies, as `readFields` reads them, and how many bytes they are written in. Assumes nothing.
+-- The fields of an opcode as far as its bodies, as `read_fields` reads them, and how many bytes they are written in. Assumes nothing.
 use Rattle.std.specs.Prelude.{ℕ, ◌+◌, ◌/◌, ◌%◌, List, ltb}
 use Rattle.layout.specs.Tree.{FlatOf, GotoFrame2, GetUrl, GetUrl2, WaitForFrame, OwnerOf, DefineFunction, DefineFunction2, CatchTargetOf, Variable, Register}
 use Rattle.layout.specs.Read.{Text, Terms, Reader, ◌>>=◌, give, tested, read_u8, read_u16, read_flag, read_string, read_param, read_counted, is_shape, has_catch, has_register, read_catch_target}

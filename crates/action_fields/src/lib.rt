@@ -1,5 +1,7 @@
 // The fields of an opcode, as far as its bodies: read, checked and measured.
 // `pos` is the position in the block that writing would have reached after the header.
+#![tactic(auto)]
+
 ghost use Rattle.std.specs.Prelude.{◌≡◌, ◌+◌, ◌-◌, ◌≤◌};
 ghost use Rattle.layout.specs.Read.{placed, read_counted};
 ghost use Rattle.layout.specs.Lengths.{total};

@@ -1,5 +1,5 @@
 -- Every block that the packer gives follows the published layouts, the three differences apart that Published names:
--- `follows-published`, `no-other-difference` and `label-starts`, at the end. Assumes nothing.
+-- `follows_published`, `no_other_difference` and `label_starts`, at the end. Assumes nothing.
 use Rattle.std.specs.Prelude.{◌≡◌, Bool, ℤ, pos, negsuc, eqb}
 use Rattle.std.proofs.Math.Path.{refl, sym, ap}
 use Rattle.std.proofs.Common.{ap₂, ◌∙◌, subst, ltb-true, ltb-false, le-ltb, eqb-true}
@@ -806,11 +806,11 @@ end_written r (EndAmongActions byte_zero) = refl
 -- Demand 2, its second half: the block is a sequence of published records with the contents of the tree, then ActionEndFlag.
 -- Each Length is the length of the record's fields, each code size that of the body that follows, each branch offset the
 -- signed distance from the end of its record to the last place of its label, or 0 without one. GetUrl2's bits, a double's
--- words and an End among the actions are as `asWritten` says
+-- words and an End among the actions are as `as_written` says
 pub follows_published : (m : Mode) (s book : List ℕ) (t : Actions) (room : ℕ) (q : List ℕ) → Bytes s → Bytes book → ReadsAs s book t → pack m s book room ≡ Done q → Block as_written t q
 follows_published m s book t room q small lent h e =
     let k : Written t room q = is_written m s book room q t h e in
-    subst (λ (b : List ℕ). Block as_written t b) k.is_block (tree_follows t (tree_fits s book t small lent h k.is_short) k.is_near_lem)
+    subst (λ (b : List ℕ). Block as_written t b) k.is_block (tree_follows t (tree_fits s book t small lent h k.is_short) k.nearby)
 
 -- for a tree without GetUrl2, without a pushed double and without End it is as published, so there is no other difference
 pub no_other_difference : (m : Mode) (s book : List ℕ) (t : Actions) (room : ℕ) (q : List ℕ) → Bytes s → Bytes book → ReadsAs s book t → pack m s book room ≡ Done q → BodyUndisputed t

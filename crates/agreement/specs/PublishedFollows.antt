@@ -1,5 +1,5 @@
 -- Every block that the packer gives follows the published layouts, the three differences apart that Published names:
--- `follows-published`, `no-other-difference` and `label-starts`, at the end. Assumes nothing.
+-- `follows_published`, `no_other_difference` and `label_starts`, at the end. Assumes nothing.
 use Rattle.std.specs.Prelude.{◌≡◌, Bool, ℤ, pos, negsuc, eqb}
 use Rattle.std.proofs.Math.Path.{refl, sym, ap}
 use Rattle.std.proofs.Common.{ap₂, ◌∙◌, subst, ltb-true, ltb-false, le-ltb, eqb-true}

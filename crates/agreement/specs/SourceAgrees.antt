@@ -1,5 +1,5 @@
--- What source 000's ActionEncoder gives for the tree of a sheet agrees with what `pack` answers: `same-as-source`,
--- `never-panics` and `agrees-once`, at the end. Assumes nothing.
+-- What source 000's ActionEncoder gives for the tree of a sheet agrees with what `pack` answers: `same_as_source`,
+-- `never_panics` and `agrees_once`, at the end. Assumes nothing.
 use Rattle.std.specs.Prelude.{◌≡◌, ℕ, ◌+◌, ◌≤◌, ◌<◌, Bool, length, ℤ, pos}
 use Rattle.std.proofs.Math.Path.{refl, ap}
 use Rattle.std.proofs.Common.{sym, ◌∙◌, subst, arith}

@@ -1,4 +1,6 @@
 // The packer's answers, with the number and the value of each and the action that it names.
+#![tactic(auto)]
+
 ghost use Rattle.std.specs.Prelude.{◌≡◌};
 ghost use Rattle.layout.specs.Numbers.{bits64};
 ghost use Rattle.answer.specs.Answered.{number, value, value_by, action};

@@ -1,4 +1,6 @@
 // The block program: reads a sheet from standard input, packs it, and prints its answer and its block.
+#![tactic(auto)]
+
 ghost use Rattle.std.specs.Prelude.{◌≡◌, length};
 
 use io::{large_buffer, read_full, write_all};

@@ -1,5 +1,7 @@
 // The block program on many inputs: writes the text of each, one after the other. Standard input has each input's pattern after
 // its length in four bytes.
+#![tactic(auto)]
+
 ghost use Rattle.std.specs.Prelude.{◌≡◌, ◌≤◌, length};
 ghost use Rattle.print_text.specs.Pieces.{Room};
 

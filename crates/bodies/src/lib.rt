@@ -1,6 +1,8 @@
 // The walk of bodies and actions, front to back: it reads and checks (3 to 6), measures, counts, records labels, and notes the
 // first of 8 and 9. `home` is the position at which the function body starts that it is in; only a function's body has another.
 // `number` is that of the next action.
+#![tactic(auto)]
+
 ghost use Rattle.std.specs.Prelude.{◌≡◌, ◌+◌, ◌≤◌, ◌<◌, length, get_or};
 ghost use Rattle.layout.specs.Tree.{count, body_count};
 ghost use Rattle.layout.specs.Read.{placed, behind, read_body, read_action};

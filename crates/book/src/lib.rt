@@ -1,4 +1,6 @@
 // The check of a word book, 18, and the index of its words, which is made in the same pass.
+#![tactic(auto)]
+
 ghost use Rattle.std.specs.Prelude.{◌≡◌, ◌+◌, ◌≤◌, ◌<◌, length};
 ghost use Rattle.book.specs.Checks.{Entered, EnteredAll, Indexed, BookChecked};
 

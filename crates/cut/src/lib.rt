@@ -1,4 +1,6 @@
 // The cut of a sheet into note, main body and trailer: answers 1 and 2.
+#![tactic(auto)]
+
 ghost use Rattle.std.specs.Prelude.{◌≡◌};
 ghost use Rattle.layout.specs.Cut.{cut};
 ghost use Rattle.cut.specs.Cuts.{said, Within};

@@ -1,4 +1,6 @@
 // The editions of a sheet, and what each allows.
+#![tactic(auto)]
+
 ghost use Rattle.std.specs.Prelude.{◌≡◌, ◌<◌, ◌&&◌, eqb};
 ghost use Rattle.layout.specs.Read.{edition1, edition2};
 ghost use Rattle.editions.specs.Allowed.{wordless, booked};

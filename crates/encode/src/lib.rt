@@ -1,6 +1,8 @@
 // What is written of an action before its bodies, as source 000's ActionEncoder does, over a lent output: each case goes to the
 // function that writes it. `b` is the main body, `words` and `index` are of the book, `at` is the action's place in `b` and `pos` a
 // position in the block.
+#![tactic(auto)]
+
 ghost use Rattle.editions.specs.Allowed.{terms_of};
 ghost use Rattle.encode.specs.Heads.{Writable, WroteHead};
 

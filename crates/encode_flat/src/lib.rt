@@ -1,5 +1,7 @@
 // Actions of a few bytes, as source 000's ActionEncoder writes them, over a lent output. `pos` is a position in the block and
 // `next` the place in the main body after what is written.
+#![tactic(auto)]
+
 ghost use Rattle.std.specs.Prelude.{◌≡◌, [], ◌∷◌, ◌+◌, ◌<◌, length, get_or, ltb, eqb};
 ghost use Rattle.std.proofs.Math.Option.{none};
 ghost use Rattle.layout.specs.Numbers.{le16};

@@ -1,6 +1,8 @@
 // What is written of a function and of a Try before their bodies, as source 000's ActionEncoder does, over a lent output. `b` is the
 // main body, `words` and `index` are of the book, `pos` is a position in the block and `next` the place in the main body after what
 // is written.
+#![tactic(auto)]
+
 ghost use Rattle.std.specs.Prelude.{◌≤◌, length};
 ghost use Rattle.layout.specs.Payload.{try_payload};
 ghost use Rattle.pcode.specs.Shown.{Held};

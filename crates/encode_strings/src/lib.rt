@@ -1,5 +1,7 @@
 // Actions with strings or with a list, as source 000's ActionEncoder writes them, over a lent output. `b` is the main body,
 // `words` and `index` are of the book, and `pos` is a position in the block.
+#![tactic(auto)]
+
 ghost use Rattle.std.specs.Prelude.{false, ◌++◌, length};
 ghost use Rattle.layout.specs.Numbers.{le16};
 ghost use Rattle.layout.specs.Tree.{GetUrl};

@@ -1,5 +1,7 @@
 // Strings, lists and push values, written into a lent output. `b` is the main body, `words` and `index` are of the book, `pos` is a
 // position in the block and `next` the place in the main body after what is written.
+#![tactic(auto)]
+
 ghost use Rattle.std.specs.Prelude.{◌≡◌, [], ◌∷◌, ◌+◌, ◌≤◌, length, ltb};
 ghost use Rattle.std.proofs.lemmas.List.Edits.{sets};
 ghost use Rattle.layout.specs.Numbers.{le32};

@@ -1,4 +1,6 @@
 // Numbers and runs of bytes, read from slices. Numbers are little-endian.
+#![tactic(auto)]
+
 ghost use Rattle.std.specs.Prelude.{◌≡◌, ℕ, ◌+◌, ◌<◌, ◌≤◌, length, get_or};
 ghost use Rattle.layout.specs.Numbers.{u16_at, u32_at, u64_at};
 ghost use Rattle.fields.specs.Runs.{first_nul};

@@ -1,4 +1,6 @@
 // The front of a body: its label entries and its action count, read and checked. Nothing of it is written.
+#![tactic(auto)]
+
 ghost use Rattle.std.specs.Prelude.{◌≡◌, ◌≤◌, length};
 ghost use Rattle.std.proofs.Math.Option.{Option};
 ghost use Rattle.layout.specs.Read.{Words, placed, read_entries};

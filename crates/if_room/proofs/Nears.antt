@@ -84,7 +84,7 @@ module _ (terms : Terms) (b tab : List ℕ) (end : BytePosition) (m : MainNear t
             reads = j.reads;
             holds = j.holds;
             slots = j.slots;
-            is_near_lem = m.is_near_lem;
+            nearby = m.nearby;
             room = omega (arith, front_long, len_is);
             sums = omega (arith, front_long, len_small short);
             places = omega (arith, j.limited);

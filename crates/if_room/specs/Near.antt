@@ -15,7 +15,7 @@ use Rattle.answer.specs.Answered.{Answered}
 -- no branch in it goes too far
 pub record MainNear (terms : Terms) (b : List ℕ) (end : BytePosition) (tab : List ℕ) : Type 0 where
   pub measured : MainMeasured terms b end tab
-  pub is_near_lem : too_far (events measured.tree) (events measured.tree) ≡ none
+  pub nearby : too_far (events measured.tree) (events measured.tree) ≡ none
 
 -- what is left of a main body: a definition's answer, by the room, to whatever tree it is found to read as
 pub record MainAnswered (terms : Terms) (answer : Actions → ℕ → answers.Answer (List ℕ)) (b old : List ℕ) (r : Answer) (new : List ℕ) : Type 0 where

@@ -1,4 +1,6 @@
 // The last step of packing: 11 where there is no room for the block, else the block is written.
+#![tactic(auto)]
+
 ghost use Rattle.layout.specs.Pack.{block_in};
 ghost use Rattle.editions.specs.Allowed.{terms_of};
 ghost use Rattle.if_room.specs.Near.{MainNear, MainAnswered};

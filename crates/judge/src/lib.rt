@@ -1,6 +1,8 @@
 // Judging the branches of a main body that reads whole, against the final label tables: 10 and, by the mode, 14 and 15. `home` is
 // the position at which the function body starts that a branch is in; only a function's body has another. `number` is that of the
 // next action.
+#![tactic(auto)]
+
 ghost use Rattle.std.specs.Prelude.{◌≡◌, true, ◌&&◌, not, ◌+◌, ◌≤◌, ◌<◌, leb, length, get_or};
 ghost use Rattle.layout.specs.Tree.{count, body_count};
 ghost use Rattle.layout.specs.Read.{placed, behind, read_action, read_body};

@@ -4,6 +4,8 @@
 //
 // An entry's four bytes are one number, label + 65536 * index. Entries in the order of these numbers are in the order in which
 // they are recorded, and no two of a body are equal. 4294967295 stands for "no entry is left": no label number is 65535.
+#![tactic(auto)]
+
 ghost use Rattle.std.specs.Prelude.{◌≡◌, ◌+◌, ◌*◌, ◌<◌, ◌≤◌, length, set};
 ghost use Rattle.layout.specs.Numbers.{bits64};
 ghost use Rattle.layout.specs.Judge.{distance};

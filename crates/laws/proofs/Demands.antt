@@ -147,10 +147,10 @@ pub same_meaning : (m m' : Mode) (s s' book book' : List ℕ) (room room' : ℕ)
 same_meaning m m' s s' book book' room room' q t t' small small' lent lent' h h' e e' =
     let k : Written t room q = is_written m s book room q t h e in
     let k' : Written t' room' q = is_written m' s' book' room' q t' h' e' in
-    meaning_told t k.is_near_lem
+    meaning_told t k.nearby
     ∙ ap (map_branches signed16) (same_told (branch_bits t) (branch_bits t') (branch_small t) (branch_small t') t t'
     (tree_fits s book t small lent h k.is_short) (tree_fits s' book' t' small' lent' h' k'.is_short) (body_same t t' (k.is_block ∙ sym k'.is_block)))
-    ∙ sym (meaning_told t' k'.is_near_lem)
+    ∙ sym (meaning_told t' k'.nearby)
 
 no_words : (i : Edition) (o : Option Words) (k : Terms) → (i ≡ Third → ⊥) → edition_terms i o ≡ some k → k.words ≡ none
 unfolding edition_terms edition1 edition2

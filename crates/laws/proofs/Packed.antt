@@ -42,7 +42,7 @@ tree_written m t room q e = go (too_long (events t)) (bad_branch m (events t) (e
     go (some r) y z ex ey ez k = refused_done k
     go none (some r) z ex ey ez k = refused_done k
     go none none false ex ey ez k = refused_done k
-    go none none true ex ey ez k = record { is_short = ex; is_near_lem = none_far m (λ l. lookup l (events t)) (events t) ey; has_room = leb-true (block_size t) room ez; is_block = cc }
+    go none none true ex ey ez k = record { is_short = ex; nearby = none_far m (λ l. lookup l (events t)) (events t) ey; has_room = leb-true (block_size t) room ez; is_block = cc }
 
 -- a main body reads as one tree
 pub same_tree : (k : Terms) (b : List ℕ) (t u : Actions) → ReadsMain k b t → ReadsMain k b u → t ≡ u

@@ -28,7 +28,7 @@ use Rattle.laws.specs.Fits.{Bytes, Well, WellActions, WellBody, WellCatch, WellF
 -- what the tests in order leave
 pub record Written (t : Actions) (room : ℕ) (q : List ℕ) : Type 0 where
   pub is_short : too_long (events t) ≡ none
-  pub is_near_lem : too_far (events t) (events t) ≡ none
+  pub nearby : too_far (events t) (events t) ≡ none
   pub has_room : block_size t ≤ room
   pub is_block : block_bytes t ≡ q
 

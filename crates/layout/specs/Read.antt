@@ -276,7 +276,7 @@ module _ (terms : Terms) (b : List ℕ) where
     give (entry l (record { index = i }) ∷ rest)
 
   -- "with catch, a string or a u8 register": is there a catch, and is it a register's?
-  -- Without a catch there is no target: the empty name stands in, and `readCatch` drops it
+  -- Without a catch there is no target: the empty name stands in, and `read_catch` drops it
   unfoldable pub read_catch_target : Bool → Bool → Reader (CatchTargetOf Text)
   read_catch_target true true = do
     r ← read_u8 b
@@ -286,7 +286,7 @@ module _ (terms : Terms) (b : List ℕ) where
     give (Variable s)
   read_catch_target false register = give (Variable (plain []))
 
-  -- ---- actions; `readInner` reads a body inside this one
+  -- ---- actions; `read_inner` reads a body inside this one
 
   module _ (read_inner : Reader (ActionsOf Text ℕ)) where
     -- "catch and finally bodies .. only if present"

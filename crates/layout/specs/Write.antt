@@ -34,7 +34,7 @@ unfoldable mutual
 -- ---- what happens on the way, in writing order
 
 -- "position in the written block": what the encoder's label_positions holds, and where the writer stands. Its home is the function
--- body it lies in, told by the position of that body's first byte, which no two share (`homes-rise` in laws' Homes). Its number is
+-- body it lies in, told by the position of that body's first byte, which no two share (`homes_rise` in laws' Homes). Its number is
 -- that of the action being written, or else of the next: "counted from 0 in sheet order through all bodies"
 pub record Position : Type 0 where
   pub at : ℕ
@@ -162,8 +162,8 @@ lookup l (body_too_long n s ∷ es) = lookup l es
 
 -- "its label's final position minus the position just after its operand, or 0 if the label was never recorded":
 -- the sixteen bits of that distance, in two's complement. The difference is cut off at 0 for a label more than 65,536 bytes back.
--- Such a branch goes too far, and Pack's `packTree` makes no block of its tree: where none does, a label is at most 32,768 bytes
--- back (`near-both` in laws' Nears)
+-- Such a branch goes too far, and Pack's `pack_tree` makes no block of its tree: where none does, a label is at most 32,768 bytes
+-- back (`near_both` in laws' Nears)
 unfoldable pub distance_bits : Option Position → ℕ → ℕ
 distance_bits none after = 0
 distance_bits (some s) after = (s.at + 65536 - after) % 65536

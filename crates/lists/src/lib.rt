@@ -1,4 +1,6 @@
 // Lists of strings, of parameters and of push values: read, checked (3 to 5) and measured.
+#![tactic(auto)]
+
 ghost use Rattle.std.specs.Prelude.{◌≡◌, ◌≤◌};
 ghost use Rattle.layout.specs.Read.{placed, read_u16, read_counted, read_value};
 ghost use Rattle.layout.specs.Lengths.{total};

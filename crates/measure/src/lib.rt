@@ -1,5 +1,7 @@
 // What a walk of a main body keeps besides the label table: the first overflow. And what the payload of an action comes to: where
 // it ends, and how many bodies follow.
+#![tactic(auto)]
+
 ghost use Rattle.std.specs.Prelude.{◌≡◌, length};
 ghost use Rattle.measure.specs.Walk.{noted_if, first_long, laid_as, laid_function, noted_from, EndsFrom};
 

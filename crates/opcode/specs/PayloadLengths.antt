@@ -39,7 +39,7 @@ pub define_function_2_payload : {name sum : ℕ} (s : List ℕ) (ps : List Funct
 unfolding owner_length
 define_function_2_payload s ps registers flags body h k = omega (arith, length-owner_payload (DefineFunction2 s ps registers flags) body)
 
--- "Try 7 + (|name|+1 for a variable, else 1)": what is added to 7 are the bytes of the catch target, layout's `catchName`
+-- "Try 7 + (|name|+1 for a variable, else 1)": what is added to 7 are the bytes of the catch target, layout's `catch_name`
 pub try_payload_lem : {n : ℕ} (shape i j k : ℕ) (name : List ℕ) → length name ≡ n → length (try_payload shape i j k name) ≡ 7 + n
 try_payload_lem shape i j k name h = omega (arith, length-try_payload shape i j k name)
 

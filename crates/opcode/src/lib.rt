@@ -1,4 +1,6 @@
 // The opcodes of source 000: their bytes, and the lengths of their payloads.
+#![tactic(auto)]
+
 ghost use Rattle.std.specs.Prelude.{◌≡◌, ◌+◌, ◌≤◌};
 ghost use Rattle.layout.specs.Lists.{each};
 ghost use Rattle.layout.specs.OpCode.{byte, opcodes};

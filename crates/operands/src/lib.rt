@@ -1,5 +1,7 @@
 // One field of a main body: read, checked (3 and 5) and measured.
 // Places count from the main body's first byte; `pos` is the position in the block that writing would have reached.
+#![tactic(auto)]
+
 ghost use Rattle.std.specs.Prelude.{◌≡◌, ◌≤◌, ◌<◌, length};
 ghost use Rattle.std.proofs.Math.Option.{Option};
 ghost use Rattle.layout.specs.Read.{Words, placed, read_bytes, read_flag, read_label, read_plain, read_word, read_string};

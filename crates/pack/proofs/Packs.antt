@@ -86,7 +86,7 @@ module _ (terms : Terms) (mode : Mode) (b tab homes : List ℕ) (end : BytePosit
 
     -- Where it refuses none, no branch goes too far.
     pub short_near : MainNear terms b end tab
-    short_near = record { measured = m.judgeable.measured; is_near_lem = none_far mode (λ l. lookup l (events m.judgeable.measured.tree)) (events m.judgeable.measured.tree) none_bad }
+    short_near = record { measured = m.judgeable.measured; nearby = none_far mode (λ l. lookup l (events m.judgeable.measured.tree)) (events m.judgeable.measured.tree) none_bad }
 
     -- Then the answer is the block's, by the room.
     pub short_room : (r : Answer) (o after : List ℕ) → MainAnswered terms block_in b o r after → TreePacked terms mode b o r after

@@ -1,5 +1,7 @@
 // The packer: a sheet's block in the lent output, or one of 1 to 11 and 18 and, by the mode, 14 and 15. `words` are the bytes of a
 // book's entries, and `index` holds the places of some; editions 1 and 2 look at neither.
+#![tactic(auto)]
+
 ghost use Rattle.std.specs.Prelude.{◌≡◌, ◌<◌};
 ghost use Rattle.layout.specs.Read.{edition1, edition2, edition3};
 ghost use Rattle.layout.specs.Cut.{Third};

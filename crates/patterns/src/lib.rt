@@ -1,5 +1,7 @@
 // Patterns, which stand for long inputs. A pattern is runs: four bytes of a run's length, two of another length, and that many bytes,
 // which fill the run again and again.
+#![tactic(auto)]
+
 ghost use Rattle.io.specs.Counts.{IsPrefixLen};
 
 use fields::{u16_at, u32_at};

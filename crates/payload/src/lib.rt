@@ -1,5 +1,7 @@
 // What follows an opcode, as far as its bodies: read, checked and measured, with the first overflow noted.
 // `pos` is the position in the block that writing would have reached: after the header, where nothing else is said.
+#![tactic(auto)]
+
 ghost use Rattle.std.specs.Prelude.{◌≡◌, ◌+◌, ◌≤◌, ◌<◌, length, get_or};
 ghost use Rattle.std.proofs.Math.Option.{Option};
 ghost use Rattle.layout.specs.OpCode.{opcode_of};

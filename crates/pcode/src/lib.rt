@@ -1,4 +1,6 @@
 // The actions and push values of source 001 as they stand in a main body: cases hold numbers, places and lengths.
+#![tactic(auto)]
+
 ghost use Rattle.std.specs.Prelude.{◌≡◌, ◌+◌, ◌≤◌, length};
 ghost use Rattle.pcode.specs.Shown.{push_at, span_at, function_at, get_url_at, after_try, try_at, ValueReads, TakesValue, ActionReads, TakesAction};
 ghost use Rattle.editions.specs.Allowed.{terms_of};

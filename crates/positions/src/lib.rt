@@ -1,4 +1,5 @@
 // The kinds that the walks share: where reading and writing stand, and what the walk over one part of a main body answers.
+#![tactic(auto)]
 
 // The index of an action in its body's list: what label_positions of source 001's Actions holds.
 #[derive(Clone, Copy)]

@@ -1,4 +1,6 @@
 // Pieces of text, put into a lent buffer. `at` is the place in the buffer where the text goes on; a result is the place after it.
+#![tactic(auto)]
+
 ghost use Rattle.std.specs.Prelude.{◌≡◌, ◌+◌, ◌*◌, ◌≤◌, ◌<◌, length, get_or};
 ghost use Rattle.std.proofs.lemmas.List.Edits.{sets};
 ghost use Rattle.layout.specs.Order.{signed64};

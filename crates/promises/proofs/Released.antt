@@ -31,7 +31,7 @@ outcome_released m s book o k after small lent h =
 
 -- ---- the C-callable entries
 
--- merinovault_pack, where it returned 0 and its value slice tells k; that it then tells some length is `done-value`, in Calls
+-- merinovault_pack, where it returned 0 and its value slice tells k; that it then tells some length is `done_value`, in Calls
 module _ {m : Mode} {s book o v : List ℕ} {v' after : List ℕ} (h : PackCalled m s book o v 0 v' after) (is-sixteen : length v ≡ 16) (k : ℕ) (is_value : value_in v' ≡ pos k) where
   -- it left what a call of the packer leaves that answers 0 with value k
   pack_done : Outcome m s book o 0 (pos k) (action (pack m s book (length o))) after

@@ -1,5 +1,7 @@
 // Reads sheets from standard input, each with its book and four bytes of room behind it; the lengths of sheet and book stand before
 // them in four bytes. Writes a line for each sheet: the number of its reading, the value and the action number.
+#![tactic(auto)]
+
 ghost use Rattle.std.specs.Prelude.{◌≤◌, length};
 
 use book::{CheckedBook, check_book};

@@ -1,5 +1,7 @@
 // The main body of a sheet, read and checked: 3 to 7, their places counted from the sheet's byte 0, with the actions that they
 // name; and where it reads whole, what packing goes on with.
+#![tactic(auto)]
+
 ghost use Rattle.std.specs.Prelude.{◌≡◌, ◌≤◌, length};
 ghost use Rattle.layout.specs.Pack.{fault_action};
 ghost use Rattle.positions.specs.Scanned.{meant};

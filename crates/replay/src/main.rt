@@ -1,6 +1,8 @@
 // Replays the oracle's answers: packs each sheet of a list, holds number, value, action number and every byte of the output to what
 // the list says, and steps through each block, whose steps must be as many as it says. Writes a line for each number that was met,
 // with its count, then how many steps were made in all, and how many answers differ and the first that does.
+#![tactic(auto)]
+
 ghost use Rattle.std.specs.Prelude.{◌≡◌, length};
 
 use libc::STDIN_FILENO;

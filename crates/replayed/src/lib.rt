@@ -3,6 +3,8 @@
 //
 // A record is the lengths of three patterns, the room, the mode, the answer's number, value and action number, and the number of
 // steps, which is 0 unless the answer is Done, in 34 bytes; then the patterns of the sheet, of its book and of the block.
+#![tactic(auto)]
+
 ghost use Rattle.std.specs.Prelude.{◌≤◌, length};
 
 use answer::{Answer, action_of, number_of, value_of};

@@ -1,4 +1,6 @@
 // The walk of a whole main body: 3 to 7, where each label stands, and the first of 8 and 9.
+#![tactic(auto)]
+
 ghost use Rattle.std.specs.Prelude.{◌≤◌, length};
 ghost use Rattle.layout.specs.Read.{deepest, read_main};
 ghost use Rattle.editions.specs.Allowed.{terms_of};

@@ -1,4 +1,6 @@
 // The stepping check: steps through a block to its last byte, straight into bodies, and says whether its last step is an End.
+#![tactic(auto)]
+
 ghost use Rattle.std.specs.Prelude.{◌≡◌, ◌<◌, length};
 ghost use Rattle.layout.specs.Step.{step};
 ghost use Rattle.step.specs.Steps.{look_at, told};

@@ -1,5 +1,7 @@
 // Steps through many blocks, and writes a line for each: the number of its answer, and the value. Standard input has each block's
 // pattern after its length in four bytes.
+#![tactic(auto)]
+
 use fields::u32_at;
 use io::{large_buffer, print_decimal, read_full, write_all};
 use libc::{STDIN_FILENO, STDOUT_FILENO};

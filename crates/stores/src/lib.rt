@@ -1,4 +1,6 @@
 // Numbers and runs of bytes, written into slices; every other byte keeps its value. Numbers are little-endian.
+#![tactic(auto)]
+
 ghost use Rattle.std.specs.Prelude.{◌≡◌, [], ◌∷◌, ◌+◌, ◌≤◌, length};
 ghost use Rattle.std.proofs.lemmas.List.Edits.{sets};
 ghost use Rattle.layout.specs.Numbers.{le16, le32, le64};

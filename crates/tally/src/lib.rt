@@ -1,5 +1,7 @@
 // The counts of a replay, and their printing. There are 22: places 0 to 18 are the counts of the answers by their numbers, 19 is that
 // of the answers that differ, 20 the first of these, counted from 1, which is 0 while none does, and 21 all steps through blocks.
+#![tactic(auto)]
+
 use io::{print_decimal, write_all};
 use libc::STDOUT_FILENO;
 

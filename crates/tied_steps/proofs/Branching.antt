@@ -125,7 +125,7 @@ module _ (final : ℕ → Option Position) where
   -- a branch to label l that starts at p is not refused, whatever its number
   pub record Near (p l : ℕ) : Type 0 where
     pub number : ℕ
-    pub is_near_lem : judged (final l) (p + 5) number ≡ none
+    pub nearby : judged (final l) (p + 5) number ≡ none
 
   abbrev pub NearIf : ℕ → Action → Type 0
   NearIf p (flat f) = Unit {0}
@@ -138,7 +138,7 @@ module _ (final : ℕ → Option Position) where
 
     near_in_order : (a : Action) (s : Position) → NoneFar final (trace a s) → EachFrom NearIf (in_order a) s.at
     near_in_order (flat f) s e = (tt, tt)
-    near_in_order (branch k l) s e = (record { number = s.number + 0; is_near_lem = branch_near final l s e }, tt)
+    near_in_order (branch k l) s e = (record { number = s.number + 0; nearby = branch_near final l s e }, tt)
     near_in_order (owner o b) s e =
         let y : List Event = trace_body b (to_body o s) in
         let z : List Event = body_test (body_size b) s in

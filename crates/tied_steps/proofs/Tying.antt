@@ -115,7 +115,7 @@ module _ (t : Actions) (fits : BodyFits t) (near : too_far (events t) (events t)
         is_long = length_own bits (branch k l) p;
         is_there =
             ap (λ (u : ℕ). pos (p + 5) +ℤ signed16 u) (operand_bits k w (bits_small (final l) (p + 5)))
-            ∙ ap (λ (u : ℤ). pos (p + 5) +ℤ u) (judged_signed (final l) (p + 5) n.number n.is_near_lem) ∙ distance_added (final l) (p + 5);
+            ∙ ap (λ (u : ℤ). pos (p + 5) +ℤ u) (judged_signed (final l) (p + 5) n.number n.nearby) ∙ distance_added (final l) (p + 5);
         begins = go (final l) refl;
       }
     where
@@ -202,4 +202,4 @@ module _ (t : Actions) (fits : BodyFits t) (near : too_far (events t) (events t)
 pub done_tied : (m : Mode) (s book : List ℕ) (room : ℕ) (q : List ℕ) (t : Actions) → Bytes s → Bytes book → ReadsAs s book t → pack m s book room ≡ Done q → Tied t q
 done_tied m s book room q t small lent r e =
     let w : Written t room q = is_written m s book room q t r e in
-    subst (Tied t) w.is_block (tree_tied t (tree_fits s book t small lent r w.is_short) w.is_near_lem)
+    subst (Tied t) w.is_block (tree_tied t (tree_fits s book t small lent r w.is_short) w.nearby)

@@ -1,5 +1,7 @@
 // The words of a book, looked up by their numbers: `words` are the bytes of its entries, and `index` holds the places of every word,
 // or of every second, fourth, eighth or sixteenth. A string is handed back as the part of the sheet or of the book that holds it.
+#![tactic(auto)]
+
 ghost use Rattle.std.specs.Prelude.{◌≡◌, ◌+◌, ◌*◌, ◌/◌, ◌%◌, ◌≤◌, ◌<◌, cond, length, get_or};
 ghost use Rattle.fields.specs.Runs.{part};
 ghost use Rattle.editions.specs.Words.{step_of, length_at, place_after, place_of};

@@ -232,7 +232,7 @@ module _ (terms : Terms) (inner : Reader (ActionsOf Text ℕ)) {b tab out : List
           next = r.next;
           shown = s.shows (behind 1 inner) r.value r.next r.reads;
           slots = r.slots;
-          near = head_near tab r.value pos r.is_near_lem;
+          near = head_near tab r.value pos r.nearby;
           room = omega (arith, head_most tab r.value pos, r.room);
           sums = r.sums;
           places = omega (arith, opcode_room (reads_action r), r.places);
@@ -274,7 +274,7 @@ module _ (terms : Terms) (inner : Reader (ActionsOf Text ℕ)) {b tab out : List
       -- The one body of an action has room, and its length stands two bytes before it.
       pub one_room : bodies_of a ≡ bodies.One → Room terms (read_action terms b (behind 1 inner)) action_size near_action b at pos tab out → length mid ≡ length out
           → Room terms inner body_length near_of b next end tab mid × (end - 2 + 2 ≤ end)
-      one_room e r l = let g = headed bodies.One e r.value r.next r.reads in one_go r.value r.next g.has g.reach g.from r.room r.is_near_lem
+      one_room e r l = let g = headed bodies.One e r.value r.next r.reads in one_go r.value r.next g.has g.reach g.from r.room r.nearby
         where
           one_go : (x : ActionOf Text ℕ) (q : Place) → Holds bodies.One x → end ≡ pos + length (head_of tab x pos) → BodiesFrom inner next x q → pos + action_size x ≤ length out → near_action tab x pos
               → Room terms inner body_length near_of b next end tab mid × (end - 2 + 2 ≤ end)
@@ -286,7 +286,7 @@ module _ (terms : Terms) (inner : Reader (ActionsOf Text ℕ)) {b tab out : List
                   next = q;
                   reads = n;
                   slots = r.slots;
-                  is_near_lem = owner_near tab o x pos end (omega (arith, h, k)) i;
+                  nearby = owner_near tab o x pos end (omega (arith, h, k)) i;
                   room = omega (arith, h, k, m, l, owner_length o x);
                   sums = omega (arith, r.sums, l);
                   places = r.places;
@@ -320,7 +320,7 @@ module _ (terms : Terms) (inner : Reader (ActionsOf Text ℕ)) {b tab out : List
       -- The bodies of a Try have room, and their lengths stand from four bytes after its start on.
       pub tried_room : (shape from : ℕ) → from ≡ pos + 4 → bodies_of a ≡ bodies.OfTry shape → Room terms (read_action terms b (behind 1 inner)) action_size near_action b at pos tab out → length mid ≡ length out
           → Room terms (read_tried shape inner) length_tried near_tried b next end tab mid × (from + 6 ≤ end)
-      tried_room shape from z e r l = let g = headed (bodies.OfTry shape) e r.value r.next r.reads in tried_go r.value r.next g.has g.reach g.from r.room r.is_near_lem
+      tried_room shape from z e r l = let g = headed (bodies.OfTry shape) e r.value r.next r.reads in tried_go r.value r.next g.has g.reach g.from r.room r.nearby
         where
           tried_go : (x : ActionOf Text ℕ) (q : Place) → Holds (bodies.OfTry shape) x → end ≡ pos + length (head_of tab x pos) → BodiesFrom inner next x q → pos + action_size x ≤ length out → near_action tab x pos
               → Room terms (read_tried shape inner) length_tried near_tried b next end tab mid × (from + 6 ≤ end)
@@ -332,7 +332,7 @@ module _ (terms : Terms) (inner : Reader (ActionsOf Text ℕ)) {b tab out : List
                   next = q;
                   reads = tried_read inner shape next x c f q i j n;
                   slots = r.slots;
-                  is_near_lem = try_near tab x c f pos end (omega (arith, h, k)) d;
+                  nearby = try_near tab x c f pos end (omega (arith, h, k)) d;
                   room = omega (arith, h, k, m, l, try_length x c f);
                   sums = omega (arith, r.sums, l);
                   places = r.places;

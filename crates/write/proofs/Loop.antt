@@ -148,7 +148,7 @@ pub record Writing (terms : Terms) (b : List ℕ) (at depth pos : ℕ) (tab old 
   pub goes_on : read_actions terms b (behind 1 (read_body terms b (depth - 1))) left (placed p) ≡ got rest end
   pub entries : List Entry
   pub index : ActionIndex
-  pub is_near_lem : near_list tab entries index rest w
+  pub nearby : near_list tab entries index rest w
   pub completes : sets out w (list_of tab rest w) ≡ sets old pos (body_of tab whole pos)
   pub reach : w + length_list rest ≡ pos + body_length whole
   pub long : length out ≡ length old
@@ -168,7 +168,7 @@ module _ (terms : Terms) (b : List ℕ) (at depth pos : ℕ) (tab old : List ℕ
         goes_on = rw (e, f) g.reads;
         entries = g.entries;
         index = first_action;
-        is_near_lem = near r.value g.entries g.actions g.is r.is_near_lem;
+        nearby = near r.value g.entries g.actions g.is r.nearby;
         completes = ap (λ (s : List ℕ). sets old pos s) (same r.value g.entries g.actions g.is);
         reach = ap (λ (n : ℕ). pos + n) (as_long r.value g.entries g.actions g.is);
         long = refl;
@@ -198,7 +198,7 @@ module _ (terms : Terms) (b : List ℕ) (at depth pos : ℕ) (tab old : List ℕ
           next = f.then_at;
           reads = f.reads_first;
           slots = r.slots;
-          is_near_lem = (more_near tab g.entries g.index g.rest f.first f.others w f.is g.is_near_lem).0;
+          nearby = (more_near tab g.entries g.index g.rest f.first f.others w f.is g.nearby).0;
           room = omega (arith, g.reach, g.long, r.room, ap body_length same, ap length_list f.is, more_length f.first f.others);
           sums = omega (arith, g.long, r.sums);
           places = r.places;
@@ -228,7 +228,7 @@ module _ (terms : Terms) (b : List ℕ) (at depth pos : ℕ) (tab old : List ℕ
               goes_on = rw t.1 r;
               entries = g.entries;
               index = next_action g.index;
-              is_near_lem = rw t.0 (more_near tab g.entries g.index g.rest a xs w is g.is_near_lem).1;
+              nearby = rw t.0 (more_near tab g.entries g.index g.rest a xs w is g.nearby).1;
               completes = rw (o, t.0) (more_bytes tab out a xs w ∙ ap (λ (ys : ActionListOf Text ℕ). sets out w (list_of tab ys w)) (sym is) ∙ g.completes);
               reach = omega (arith, t.0, ap length_list is, more_length a xs, g.reach);
               long = ap length o ∙ length-sets out w (action_of tab a w) ∙ g.long;

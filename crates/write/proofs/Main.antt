@@ -55,7 +55,7 @@ module _ (terms : Terms) (b tab out : List ℕ) (m : MainWritable terms b tab ou
         next = r.next;
         reads = main_body terms b r.read r.next r.is_read;
         slots = m.slots;
-        is_near_lem = near_main r.read m.tree r.is_tree (given (body_under terms b deepest (placed 0)) (main_body terms b r.read r.next r.is_read)) m.holds m.is_near_lem;
+        nearby = near_main r.read m.tree r.is_tree (given (body_under terms b deepest (placed 0)) (main_body terms b r.read r.next r.is_read)) m.holds m.nearby;
         room = omega (arith, m.room, ap body_size r.is_tree);
         sums = m.sums;
         places = m.places;

@@ -65,7 +65,7 @@ module _ (inner : Reader (ActionsOf Text ℕ)) (tab out : List ℕ) (at pos : �
         next = r.next;
         reads = x.reads;
         slots = r.slots;
-        is_near_lem = subst (λ (y : Option (ActionsOf Text ℕ)). near_if tab y pos) x.is r.is_near_lem;
+        nearby = subst (λ (y : Option (ActionsOf Text ℕ)). near_if tab y pos) x.is r.nearby;
         room = omega (arith, r.room, ap length_if x.is);
         sums = r.sums;
         places = r.places;
@@ -124,7 +124,7 @@ module _ {terms : Terms} (inner : Reader (ActionsOf Text ℕ)) (b tab out : List
         next = k.second_at;
         reads = k.reads_first;
         slots = r.slots;
-        is_near_lem = r.is_near_lem.0;
+        nearby = r.nearby.0;
         room = omega (arith, r.room);
         sums = r.sums;
         places = r.places;
@@ -143,7 +143,7 @@ module _ {terms : Terms} (inner : Reader (ActionsOf Text ℕ)) (b tab out : List
           next = k.third_at;
           reads = ap (λ (n : ℕ). read_if (has_catch shape) inner (placed n)) v.1 ∙ k.reads_second;
           slots = r.slots;
-          is_near_lem = rw v.0 r.is_near_lem.1;
+          nearby = rw v.0 r.nearby.1;
           room = omega (arith, r.room, v.0, l);
           sums = omega (arith, r.sums, l);
           places = r.places;
@@ -169,7 +169,7 @@ module _ {terms : Terms} (inner : Reader (ActionsOf Text ℕ)) (b tab out : List
             next = r.next;
             reads = ap (λ (n : ℕ). read_if (has_finally shape) inner (placed n)) u.1 ∙ k.reads_third;
             slots = r.slots;
-            is_near_lem = rw (u.0, v.0) r.is_near_lem.2;
+            nearby = rw (u.0, v.0) r.nearby.2;
             room = omega (arith, r.room, v.0, u.0, l);
             sums = omega (arith, r.sums, l);
             places = r.places;

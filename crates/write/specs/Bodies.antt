@@ -141,7 +141,7 @@ pub record Room {A : Type 0} (terms : Terms) (read : Reader A) (long : A → ℕ
   pub next : Place
   pub reads : read (placed at) ≡ got value next
   pub slots : terms.label_bound ≤ length tab
-  pub is_near_lem : near tab value pos
+  pub nearby : near tab value pos
   pub room : pos + long value ≤ length out
   pub sums : length out ≤ 1099511627776
   pub places : length b ≤ 1099511627776
@@ -162,7 +162,7 @@ pub record MainWritable (terms : Terms) (b tab out : List ℕ) : Type 0 where
   pub reads : ReadsMain terms b tree
   pub holds : TableHolds tab (events tree)
   pub slots : terms.label_bound ≤ length tab
-  pub is_near_lem : too_far (events tree) (events tree) ≡ none
+  pub nearby : too_far (events tree) (events tree) ≡ none
   pub room : block_size tree ≤ length out
   pub sums : length out ≤ 1099511627776
   pub places : length b ≤ 1099511627776

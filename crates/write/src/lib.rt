@@ -1,4 +1,6 @@
 // The cycle that writes a main body whose labels are known: a body writes its actions, and an action its bodies.
+#![tactic(auto)]
+
 ghost use Rattle.std.specs.Prelude.{◌≡◌, ◌+◌, ◌-◌, ◌≤◌};
 ghost use Rattle.std.proofs.lemmas.List.Edits.{sets};
 ghost use Rattle.layout.specs.Read.{behind, read_action, read_body};

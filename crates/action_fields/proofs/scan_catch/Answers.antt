@@ -1,4 +1,3 @@
-
 use Rattle.layout.specs.Read.{is_shape, has_catch, has_register}
 use mathlib.Core.Path.{refl}
 use native.Mathlib.Omega.{arith}

@@ -1,4 +1,3 @@
-
 use Rattle.action_fields.specs.Fields.{read_function}
 use native.Mathlib.Omega.{arith}
 use Rattle.editions.proofs.Listed.{terms_short}

@@ -1,4 +1,3 @@
-
 use Rattle.action_fields.specs.Fields.{read_function2}
 use Prim.Native.Nat.{◌+◌}
 use native.Mathlib.Omega.{arith}

@@ -1,4 +1,3 @@
-
 use mathlib.Core.Path.{refl}
 use Rattle.operands.proofs.Scans.{ends_is}
 use Rattle.action_fields.specs.Fields.{read_get_url}

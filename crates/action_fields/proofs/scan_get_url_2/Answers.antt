@@ -1,4 +1,3 @@
-
 use Rattle.action_fields.specs.Fields.{read_get_url2}
 use mathlib.Core.Path.{◌∙◌}
 use native.Mathlib.Omega.{arith}

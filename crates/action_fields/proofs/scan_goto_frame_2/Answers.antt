@@ -1,4 +1,3 @@
-
 use Rattle.opcode.specs.PayloadLengths.{goto_frame_2_short}
 use native.Mathlib.Omega.{arith}
 use Rattle.action_fields.proofs.Steps as steps

@@ -1,4 +1,3 @@
-
 use mathlib.Core.Path.{refl}
 use native.Mathlib.Omega.{arith}
 use Rattle.action_fields.proofs.Steps as steps

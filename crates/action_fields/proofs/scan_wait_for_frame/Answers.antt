@@ -1,4 +1,3 @@
-
 use native.Mathlib.Omega.{arith}
 use Rattle.action_fields.proofs.Steps as steps
 use borrow.Author.Rules.{rules}

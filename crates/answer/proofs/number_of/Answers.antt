@@ -1,4 +1,3 @@
-
 use mathlib.Core.Path.{refl}
 use Rattle.answer.specs.Answered.{number}
 use borrow.Author.Rules.{rules}

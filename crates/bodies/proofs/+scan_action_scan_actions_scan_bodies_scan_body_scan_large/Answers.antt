@@ -154,12 +154,11 @@ pub scan_body-scan_front-requires : goal.scan_body-scan_front-requires
 scan_body-scan_front-requires t c = c.requires.roomy.inside
 
 pub scan_body-scan_actions-requires : goal.scan_body-scan_actions-requires
-scan_body-scan_actions-requires t c =
-    (
-    omega arith,
-    let s = ends_is (λ _. 0) _ _ (c.scan_front.ensures _) c.in-Ends.is in
-    (c.requires, record { front = s.0; reads = s.1 }),
-    )
+scan_body-scan_actions-requires t c = (
+  omega arith,
+  let s = ends_is (λ _. 0) _ _ (c.scan_front.ensures _) c.in-Ends.is in
+      (c.requires, record { front = s.0; reads = s.1 }),
+)
 
 pub scan_body-returns-in-Stops : goal.scan_body-returns-in-Stops
 scan_body-returns-in-Stops t c = walk.body_stops _ _ _ _ _ _ _ refl _ _ _ _ _ c.if-depth-eq0.false (c.scan_front.ensures _) c.in-Stops.is

@@ -31,13 +31,13 @@ abbrev pub decreases-scan_large : goal.decreases-scan_large
 decreases-scan_large l = l.depth * 5 + 2
 
 abbrev pub invariant-scan_actions-loop-i : goal.invariant-scan_actions-loop-i
-invariant-scan_actions-loop-i l =     walk.Going (terms_of l.terms l.words l.index) l.b l.at l.depth l.initial.w l.home l.initial.action (state (tables l.initial.tab l.initial.homes) l.initial.over) l.n l.count l.next l.i l.p l.w l.action (tables l.tab l.homes) l.over
+invariant-scan_actions-loop-i l = walk.Going (terms_of l.terms l.words l.index) l.b l.at l.depth l.initial.w l.home l.initial.action (state (tables l.initial.tab l.initial.homes) l.initial.over) l.n l.count l.next l.i l.p l.w l.action (tables l.tab l.homes) l.over
 
 abbrev pub decreases-scan_actions-loop-i : goal.decreases-scan_actions-loop-i
 decreases-scan_actions-loop-i l = l.count - l.i
 
 abbrev pub invariant-scan_bodies-loop-left : goal.invariant-scan_bodies-loop-left
-invariant-scan_bodies-loop-left l =     walk.Bodying (terms_of l.terms l.words l.index) (read_body (terms_of l.terms l.words l.index) l.b l.depth) l.b l.n l.at l.initial.w l.home l.action (state (tables l.initial.tab l.initial.homes) l.initial.over) l.left l.p l.w l.number l.long (tables l.tab l.homes) l.over
+invariant-scan_bodies-loop-left l = walk.Bodying (terms_of l.terms l.words l.index) (read_body (terms_of l.terms l.words l.index) l.b l.depth) l.b l.n l.at l.initial.w l.home l.action (state (tables l.initial.tab l.initial.homes) l.initial.over) l.left l.p l.w l.number l.long (tables l.tab l.homes) l.over
 
 abbrev pub decreases-scan_bodies-loop-left : goal.decreases-scan_bodies-loop-left
 decreases-scan_bodies-loop-left l = l.left

@@ -1,4 +1,3 @@
-
 use Rattle.front.proofs.Fronts.{entries_cut, entries_big, entries_low, entries_half, entries_more, entries_end}
 use Rattle.positions.specs.Scanned.{scanned, fault_of}
 use Rattle.layout.specs.Read.{Words, placed, read_entries}

@@ -1,4 +1,3 @@
-
 use Rattle.front.proofs.Fronts.{entries_cut, entries_big, entries_low, entries_half, entries_more, entries_end}
 use Rattle.positions.specs.Scanned.{scanned, fault_of}
 use Rattle.layout.specs.Read.{Words, placed, read_entries}
@@ -12,7 +11,7 @@ use borrow.Author.Rules.{rules}
 use Rattle.front.proofs.scan_entries.Given as goal
 
 abbrev pub invariant-loop-left : goal.invariant-loop-left
-invariant-loop-left l =     ((o : Option Words) → scanned (λ _. 0) l.pos.0 (read_entries (bounded l.terms o) l.b l.left l.least (placed l.p)) ≡ scanned (λ _. 0) l.pos.0 (read_entries (bounded l.terms o) l.b l.n 0 (placed l.at))) × (l.p ≤ length l.b)
+invariant-loop-left l = ((o : Option Words) → scanned (λ _. 0) l.pos.0 (read_entries (bounded l.terms o) l.b l.left l.least (placed l.p)) ≡ scanned (λ _. 0) l.pos.0 (read_entries (bounded l.terms o) l.b l.n 0 (placed l.at))) × (l.p ≤ length l.b)
 
 abbrev pub decreases-loop-left : goal.decreases-loop-left
 decreases-loop-left l = l.left

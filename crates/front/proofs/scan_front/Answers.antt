@@ -1,4 +1,3 @@
-
 use Rattle.front.proofs.Fronts.{front_cut, front_stops, front_place, front_ends}
 use Rattle.positions.specs.Scanned.{fault_of}
 use native.Mathlib.Omega.{arith}

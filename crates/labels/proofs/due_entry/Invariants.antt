@@ -10,7 +10,7 @@ use Rattle.labels.proofs.Recording as laws
 use Rattle.labels.proofs.due_entry.Given as goal
 
 abbrev pub invariant-loop-left : goal.invariant-loop-left
-invariant-loop-left l =     (min l.least (due (entries_at l.b l.left l.p) l.from) ≡ due (entries_at l.b l.n l.at) l.from) × (l.p + 4 * l.left ≤ length l.b) × (l.least ≤ none_left)
+invariant-loop-left l = (min l.least (due (entries_at l.b l.left l.p) l.from) ≡ due (entries_at l.b l.n l.at) l.from) × (l.p + 4 * l.left ≤ length l.b) × (l.least ≤ none_left)
 
 abbrev pub decreases-loop-left : goal.decreases-loop-left
 decreases-loop-left l = l.left

@@ -1,4 +1,3 @@
-
 use Rattle.positions.specs.Scanned.{fault_of}
 use Rattle.lists.proofs.Values as values
 use Rattle.operands.proofs.Reading as reading

@@ -1,4 +1,3 @@
-
 use Rattle.lists.proofs.Values as values
 use native.Mathlib.Omega.{arith}
 use borrow.Author.Rules.{rules}

@@ -1,4 +1,3 @@
-
 use Rattle.editions.specs.Allowed.{terms_of}
 use Rattle.editions.proofs.Listed.{terms_short}
 use borrow.Author.Rules.{rules}
@@ -11,7 +10,7 @@ use native.Mathlib.Omega.{arith}
 use Rattle.lists.proofs.scan_push.Given as goal
 
 abbrev pub invariant-loop-left : goal.invariant-loop-left
-invariant-loop-left l =     lists.Going (read_value (terms_of l.terms l.words l.index) l.b) value_size l.b (scanned (total value_size) l.initial.w.0 (read_counted l.b (read_value (terms_of l.terms l.words l.index) l.b) (placed l.at))) l.left l.p l.w
+invariant-loop-left l = lists.Going (read_value (terms_of l.terms l.words l.index) l.b) value_size l.b (scanned (total value_size) l.initial.w.0 (read_counted l.b (read_value (terms_of l.terms l.words l.index) l.b) (placed l.at))) l.left l.p l.w
 
 abbrev pub decreases-loop-left : goal.decreases-loop-left
 decreases-loop-left l = l.left

@@ -1,4 +1,3 @@
-
 use Rattle.editions.specs.Allowed.{terms_of}
 use Rattle.editions.proofs.Listed.{terms_short}
 use borrow.Author.Rules.{rules}

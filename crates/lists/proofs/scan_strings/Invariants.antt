@@ -1,4 +1,3 @@
-
 use Rattle.editions.specs.Allowed.{terms_of}
 use Rattle.editions.proofs.Listed.{terms_short}
 use borrow.Author.Rules.{rules}
@@ -11,7 +10,7 @@ use native.Mathlib.Omega.{arith}
 use Rattle.lists.proofs.scan_strings.Given as goal
 
 abbrev pub invariant-loop-left : goal.invariant-loop-left
-invariant-loop-left l =     lists.Going (read_named (terms_of l.terms l.words l.index) l.b l.skip) (named_size l.skip) l.b (scanned (total (named_size l.skip)) l.initial.w.0 (read_counted l.b (read_named (terms_of l.terms l.words l.index) l.b l.skip) (placed l.at))) l.left l.p l.w
+invariant-loop-left l = lists.Going (read_named (terms_of l.terms l.words l.index) l.b l.skip) (named_size l.skip) l.b (scanned (total (named_size l.skip)) l.initial.w.0 (read_counted l.b (read_named (terms_of l.terms l.words l.index) l.b l.skip) (placed l.at))) l.left l.p l.w
 
 abbrev pub decreases-loop-left : goal.decreases-loop-left
 decreases-loop-left l = l.left

@@ -1,4 +1,3 @@
-
 use Rattle.measure.proofs.Longs.{first_had, first_now, first_none}
 use Rattle.measure.proofs.first_long.Goals as goal
 

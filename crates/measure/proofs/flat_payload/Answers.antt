@@ -1,4 +1,3 @@
-
 use mathlib.Core.Path.{refl}
 use Rattle.measure.proofs.Layings as lay
 use borrow.Author.Rules.{rules}

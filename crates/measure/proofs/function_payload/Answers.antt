@@ -1,4 +1,3 @@
-
 use native.Mathlib.Omega.{arith}
 use Rattle.measure.proofs.Layings as lay
 use borrow.Author.Rules.{rules}

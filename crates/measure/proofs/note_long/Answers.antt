@@ -1,4 +1,3 @@
-
 use Rattle.measure.proofs.Runs as runs
 use native.Mathlib.Omega.{arith}
 use borrow.Author.Rules.{rules}

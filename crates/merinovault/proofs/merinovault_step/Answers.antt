@@ -18,9 +18,9 @@ returns-in-Done c =
     let d = step_done _ _ c.step.ensures _ c.in-Done.is in
     let e = c.if-value-ne16.false in
     record {
-    is_lent = record { bytes = all_bytes _ (λ i l. omega (arith, c.type_inv.block i)); short = search rules };
-    is_number = done_number _ _ [] e _ d;
-    is_value = done_value _ _ _ e _ d (omega arith) c.fill_value.ensures;
+      is_lent = record { bytes = all_bytes _ (λ i l. omega (arith, c.type_inv.block i)); short = search rules };
+      is_number = done_number _ _ [] e _ d;
+      is_value = done_value _ _ _ e _ d (omega arith) c.fill_value.ensures;
     }
 
 pub returns-in-Unclean : goal.returns-in-Unclean
@@ -28,7 +28,7 @@ returns-in-Unclean c =
     let d = step_unclean _ _ c.step.ensures _ c.in-Unclean.is in
     let e = c.if-value-ne16.false in
     record {
-    is_lent = record { bytes = all_bytes _ (λ i l. omega (arith, c.type_inv.block i)); short = search rules };
-    is_number = unclean_number _ _ [] e _ d;
-    is_value = unclean_value _ _ _ e _ d (omega arith) c.fill_value-in-Unclean.ensures;
+      is_lent = record { bytes = all_bytes _ (λ i l. omega (arith, c.type_inv.block i)); short = search rules };
+      is_number = unclean_number _ _ [] e _ d;
+      is_value = unclean_value _ _ _ e _ d (omega arith) c.fill_value-in-Unclean.ensures;
     }

@@ -1,4 +1,3 @@
-
 use Rattle.positions.specs.Scanned.{fault_of}
 use Rattle.operands.proofs.Reading as reading
 use Rattle.operands.proofs.Scans.{ends, stops}

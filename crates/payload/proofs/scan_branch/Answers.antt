@@ -1,4 +1,3 @@
-
 use mathlib.Core.Option.{none}
 use Rattle.payload.proofs.Branches as branches
 use borrow.Author.Rules.{rules}

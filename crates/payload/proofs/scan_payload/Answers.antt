@@ -1,4 +1,3 @@
-
 use Rattle.payload.proofs.Arms as arms
 use native.Mathlib.Omega.{arith}
 use Rattle.editions.proofs.Listed.{terms_short}

@@ -1,4 +1,3 @@
-
 use Rattle.action_fields.specs.Fields.{bodies_after}
 use mathlib.Core.Path.{sym, ◌∙◌}
 use native.Mathlib.Omega.{arith}

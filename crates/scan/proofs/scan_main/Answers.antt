@@ -1,4 +1,3 @@
-
 use Rattle.laws.proofs.Fits.{all_bytes}
 use Rattle.editions.proofs.Listed.{terms_short}
 use Rattle.scan.proofs.Mains.{ready, main_stops, main_left, main_whole}

@@ -1,4 +1,3 @@
-
 use Rattle.stores.proofs.Stores.{words_filled}
 use native.Mathlib.Omega.{arith}
 use borrow.Author.Rules.{rules}

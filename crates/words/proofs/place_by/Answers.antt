@@ -19,6 +19,6 @@ place_after-requires c =
 pub returns : goal.returns
 returns c =
     let at = c.args in (
-    c.place_after.ensures.0 ∙ rw c.place_in.ensures.0,
-    omega (arith, c.place_after.ensures.1, c.place_in.ensures.1, mod-lt at.i c.requires.0, c.requires.1),
+      c.place_after.ensures.0 ∙ rw c.place_in.ensures.0,
+      omega (arith, c.place_after.ensures.1, c.place_in.ensures.1, mod-lt at.i c.requires.0, c.requires.1),
     )

@@ -137,11 +137,11 @@ write_try_blocks-write_block_if-f-requires t c =
     let r = p.0 in
     let l = c.write_block-t.auto.out in
     let m = c.write_block_if-c.auto.out in (
-    omega arith,
-    (
-    steps.try_third _ _ _ _ _ _ _ r c.write_block-t.ensures.ends c.write_block_if-c.ensures.ends _ (m ∙ l),
-    omega (arith, p.1, steps.try_after _ _ _ _ _ _ _ r c.write_block-t.ensures.ends, steps.try_after_both _ _ _ _ _ _ _ r c.write_block-t.ensures.ends c.write_block_if-c.ensures.ends),
-    ),
+      omega arith,
+      (
+        steps.try_third _ _ _ _ _ _ _ r c.write_block-t.ensures.ends c.write_block_if-c.ensures.ends _ (m ∙ l),
+        omega (arith, p.1, steps.try_after _ _ _ _ _ _ _ r c.write_block-t.ensures.ends, steps.try_after_both _ _ _ _ _ _ _ r c.write_block-t.ensures.ends c.write_block_if-c.ensures.ends),
+      ),
     )
 
 pub write_try_blocks-shape_of-out : goal.write_try_blocks-shape_of-out

@@ -21,8 +21,8 @@ unfolding listed is_some opcode_of opcodes small_op_codes byte small_byte each f
 returns c =
     let op : ℕ = c.args.op in
     elim c.match-op-div64.branch [
-      in-0 w ↦ in-word 0 op w.word-is w.in-0.is
-    | in-1 w ↦ in-word 1 op w.word-is w.in-1.is
-    | in-2 w ↦ in-word 2 op w.word-is w.in-2.is
-    | in_default w ↦ in-word 3 op w.word-is (omega arith)
+      | in-0 w ↦ in-word 0 op w.word-is w.in-0.is
+      | in-1 w ↦ in-word 1 op w.word-is w.in-1.is
+      | in-2 w ↦ in-word 2 op w.word-is w.in-2.is
+      | in_default w ↦ in-word 3 op w.word-is (omega arith)
     ]
