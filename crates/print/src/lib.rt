@@ -96,6 +96,17 @@ pub fn write_text<W: Write>(
     writer.write_all(&text[..end])
 }
 
+// Reads 65,536 bytes, or as many as there are.
+fn read_input<R: Read + Drop>(alloc: Global, reader: R) -> io::Result<Vec<u8>>
+    ensures within { IfOk result (λ v. vec_len v ≤ 65536) }
+    ensures bytes { IfOk result (λ v. IfSome (R.remaining reader) (λ xs. v.items ≡ take 65536 xs)) }
+{
+    let mut input = Vec::with_capacity(alloc, 65536)?;
+    reader.take(65536).read_to_end(&mut input)?;
+    input.truncate(65536);
+    Ok(input)
+}
+
 // The block program: reads 65,536 bytes, or as many as there are, and writes their text.
 pub fn answer_reader<R: Read + Drop, W: Write>(
     alloc: Global,
@@ -104,10 +115,8 @@ pub fn answer_reader<R: Read + Drop, W: Write>(
 ) -> io::Result<()>
     ensures { OnOk result (IfSome (R.remaining reader) (λ xs. Appends (W.contents writer.old) (W.contents writer.new) (block_text (take 65536 xs)))) }
 {
-    let mut input = Vec::with_capacity(alloc, 65536)?;
-    reader.take(65536).read_to_end(&mut input)?;
+    let input = read_input(alloc, reader)?;
     let mut out = vec![in alloc; 0; 65536]?;
     let mut text = text_buffer(alloc)?;
-    let length = input.len().min(65536);
-    write_text(&input[..length], &mut out, &mut text, writer)
+    write_text(&input, &mut out, &mut text, writer)
 }
