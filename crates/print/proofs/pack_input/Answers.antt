@@ -1,6 +1,5 @@
 -- `print::pack_input` meets its contract: the book that it lends has no entry. Assumes nothing.
 use Rattle.layout.specs.Book.{empty_book}
-use borrow.Author.Rules.{rules}
 use Rattle.print.proofs.pack_input.Goals as goal
 
 pub returns : goal.returns

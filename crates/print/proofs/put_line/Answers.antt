@@ -2,7 +2,6 @@
 use native.Mathlib.Omega.{arith}
 use Rattle.print_text.proofs.Puts.{put_one}
 use Rattle.print.proofs.Texts.{put_pieces}
-use borrow.Author.Rules.{rules}
 use Rattle.print.proofs.put_line.Goals as goal
 
 pub returns : goal.returns

@@ -1,7 +1,6 @@
 -- `print::put_value` meets its contract: the bits of 10 with their sign, those of other numbers as they are. Assumes nothing.
 use native.Mathlib.Omega.{arith}
 use Rattle.print.proofs.Texts.{put_distance, put_natural}
-use borrow.Author.Rules.{rules}
 use Rattle.print.proofs.put_value.Goals as goal
 
 pub returns-then-number-eq10 : goal.returns-then-number-eq10
