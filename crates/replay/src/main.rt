@@ -3,17 +3,19 @@
 // with its count, then how many steps were made in all, and how many answers differ and the first that does.
 #![tactic(auto)]
 
-ghost use Rattle.std.specs.Prelude.{◌≡◌, length};
+ghost use Rattle.std.specs.Prelude.{◌≡◌, IfOk, vec_len};
 
-use libc::STDIN_FILENO;
 use replayed::{record_length, replay_one};
+use std::alloc::{AllocError, Global};
+use std::io;
+use std::io::Read;
 use tally::{count, write_counts};
 
 // Two bytes more than the longest sheet has.
-fn space() -> [u8; 1048578]
-    ensures { 1048578 ≡ length result }
+fn space(alloc: Global) -> Result<Vec<u8>, AllocError>
+    ensures { IfOk result (λ v. 1048578 ≡ vec_len v) }
 {
-    [0; 1048578]
+    vec![in alloc; 0; 1048578]
 }
 
 // Each record has 34 bytes before its patterns, and byte 17 is the answer's number: see `replayed`.
@@ -40,24 +42,21 @@ fn replay_all(
     }
 }
 
-// For the list itself.
-fn list_space() -> [u8; 3145728] {
-    [0; 3145728]
-}
-
-// The four spaces are not in `main`, which has one for the list.
-fn replay_list(input: &[u8], counts: &mut [usize; 22]) {
-    let mut sheet = space();
-    let mut book = space();
-    let mut block = space();
-    let mut out = space();
+// Each of the four spaces stands on the heap.
+fn replay_list(alloc: Global, input: &[u8], counts: &mut [usize; 22]) -> Result<(), AllocError> {
+    let mut sheet = space(alloc)?;
+    let mut book = space(alloc)?;
+    let mut block = space(alloc)?;
+    let mut out = space(alloc)?;
     replay_all(input, &mut sheet, &mut book, &mut block, &mut out, counts);
+    Ok(())
 }
 
-fn main() {
-    let mut input = list_space();
+// Of the list, 3,145,728 bytes are read.
+fn main(rt: HostRuntime) -> io::Result<()> {
+    let mut input = Vec::with_capacity(rt.alloc(), 3145728)?;
+    rt.stdin().take(3145728).read_to_end(&mut input)?;
     let mut counts = [0; 22];
-    let n = io::read_full(STDIN_FILENO, &mut input);
-    replay_list(&input[..n], &mut counts);
-    write_counts(&counts);
+    replay_list(rt.alloc(), &input, &mut counts)?;
+    write_counts(&mut rt.stdout(), &counts)
 }

@@ -2,8 +2,8 @@
 // of the answers that differ, 20 the first of these, counted from 1, which is 0 while none does, and 21 all steps through blocks.
 #![tactic(auto)]
 
-use io::{print_decimal, write_all};
-use libc::STDOUT_FILENO;
+use std::io;
+use std::io::Write;
 
 // One more of a kind.
 fn bump(counts: &mut [usize; 22], kind: usize) {
@@ -45,39 +45,28 @@ pub fn count(counts: &mut [usize; 22], number: u8, steps: usize, agree: bool, re
 }
 
 // The line of a number that was met, with its count.
-fn write_count(number: usize, count: usize) {
+fn write_count<W: Write>(out: &mut W, number: usize, count: usize) -> io::Result<()> {
     if count == 0 {
-        return;
+        return Ok(());
     }
-    print_decimal(STDOUT_FILENO, number as u64);
-    write_all(STDOUT_FILENO, b" ");
-    print_decimal(STDOUT_FILENO, count as u64);
-    write_all(STDOUT_FILENO, b"\n");
+    writeln!(out, "{number} {count}")
 }
 
 // How many steps were counted in all blocks.
-fn write_steps(n: usize) {
-    write_all(STDOUT_FILENO, b"steps ");
-    print_decimal(STDOUT_FILENO, n as u64);
-    write_all(STDOUT_FILENO, b"\n");
+fn write_steps<W: Write>(out: &mut W, n: usize) -> io::Result<()> {
+    writeln!(out, "steps {n}")
 }
 
 // How many answers differ, and the first that does.
-fn write_differ(n: usize, first: usize) {
-    write_all(STDOUT_FILENO, b"differ ");
-    print_decimal(STDOUT_FILENO, n as u64);
-    write_all(STDOUT_FILENO, b", first ");
-    print_decimal(STDOUT_FILENO, first as u64);
-    write_all(STDOUT_FILENO, b"\n");
+fn write_differ<W: Write>(out: &mut W, n: usize, first: usize) -> io::Result<()> {
+    writeln!(out, "differ {n}, first {first}")
 }
 
 // A line for each number that was met, one for the steps, and one for the answers that differ.
-pub fn write_counts(counts: &[usize; 22]) {
-    let mut i = 0;
-    while i < 19 {
-        write_count(i, counts[i]);
-        i += 1;
+pub fn write_counts<W: Write>(out: &mut W, counts: &[usize; 22]) -> io::Result<()> {
+    for i in 0..19 {
+        write_count(out, i, counts[i])?;
     }
-    write_steps(counts[21]);
-    write_differ(counts[19], counts[20]);
+    write_steps(out, counts[21])?;
+    write_differ(out, counts[19], counts[20])
 }
