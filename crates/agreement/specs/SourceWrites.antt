@@ -1,7 +1,7 @@
 -- What each function of source 000's ActionEncoder writes before patch_labels: the definitions' events, and their bytes with
 -- every branch still 0. Assumes nothing.
 use Prim.Native.Nat.{ℕ, ◌-◌}
-use Rattle.agreement.specs.Source.{Writing, output_len, write_u16, write_block_length_at, patch_sizes}
+use Rattle.agreement.specs.Source.{Writing, output_len, write_u16, write_block_length_at, patch_sizes, ◌>>◌, ◌>>=◌}
 
 -- ---- a body, its length before it
 
