@@ -3,11 +3,10 @@
  *
  *   driver < crates/replay/stdin
  *
- * A record is as crates/replayed/src/lib.rt tells: lengths, the room, the mode, the oracle's number, value and action number, how
- * many steps the block has by its sheet, and the patterns of the sheet, of the book and of the block, which are as
- * crates/patterns/src/lib.rt tells. Number, value, action number and block must be the oracle's, and stepping through the block
- * must be answered Done with as many steps. It writes what crates/replay writes: a line for each number that was met, with its
- * count; then how many steps were told of all blocks, how many answers differ, and the first that does.
+ * A record is as crates/replay/src/main.rt tells: lengths, the room, the mode, the oracle's number, value and action number, and
+ * the patterns of the sheet, of the book and of the block, which are as crates/patterns/src/lib.rt tells. Number, value, action
+ * number and block must be the oracle's. It writes what crates/replay writes: a line for each number that was met, with its count;
+ * then how many answers differ, and the first that does.
  *
  * Each sheet, book and block ends where memory ends, so a byte read past it stops the program. A sheet that is not of edition 3 is
  * packed with the book and without one. Each sheet and block is also stepped through, and so is every block of up to 4 bytes from
@@ -29,7 +28,7 @@ enum {
     HALF = 8,               /* the bytes of a value, and of an action number: half of a value slice */
     GUARD = 64,             /* bytes on both sides of the output and of the value slice that must keep theirs */
     SPACE = 4 * 1024 * 1024, /* the longest sheet, book and block, and the largest room, of a record */
-    HEAD = 34,              /* the bytes of a record before its patterns */
+    HEAD = 30,              /* the bytes of a record before its patterns */
     STRICT = 1,             /* the bits of a mode */
     CONTAINED = 2,
     MODES = 4,
@@ -144,8 +143,8 @@ static struct answer stepped(const uint8_t *block, size_t len)
                  : (struct answer){MERINOVAULT_UNCLEAN, (int64_t)len, 0, 0};
 }
 
-/* Steps through a block by the entry too, and gives what that tells; the block must end where memory ends. */
-static struct answer step(const uint8_t *block, size_t len, size_t line)
+/* Steps through a block by the entry too; it must end where memory ends. */
+static void step(const uint8_t *block, size_t len, size_t line)
 {
     uint8_t value[GUARD + MERINOVAULT_VALUE_LEN + GUARD];
     memset(value, 0xA5, sizeof value);
@@ -155,18 +154,15 @@ static struct answer step(const uint8_t *block, size_t len, size_t line)
         fault(line, "stepping tells something else");
     if (changed(value, GUARD, 0xA5) + changed(value + GUARD + MERINOVAULT_VALUE_LEN, GUARD, 0xA5) != 0)
         fault(line, "stepping changed a byte beside the value");
-    return (struct answer){number, number_in(value + GUARD), number_in(value + GUARD + HALF), 0};
 }
 
-/* Steps through every shorter beginning of a short block and through the block, and gives what the entry tells of it; each is put
- * where memory ends. */
-static struct answer step_all(const uint8_t *block, size_t len, uint8_t *end, size_t line)
+/* Steps through the block and through every shorter beginning of a short one; each is put where memory ends. */
+static void step_all(const uint8_t *block, size_t len, uint8_t *end, size_t line)
 {
-    for (size_t n = 0; n < len && len <= 64; n++) {
+    for (size_t n = len <= 64 ? 0 : len; n <= len; n++) {
         memcpy(end - n, block, n);
         step(end - n, n, line);
     }
-    return step(memcpy(end - len, block, len), len, line);
 }
 
 /* Steps through every block of up to 4 of these bytes: End, opcodes on both sides of 0x80, lengths that fit and that do not. A
@@ -269,9 +265,9 @@ static bool is_of_edition_3(struct run sheet)
     return sheet.len >= 8 && sheet.bytes[sheet.len - 4] == 3 && sheet.bytes[sheet.len - 3] == 0;
 }
 
-/* Whether packing the sheet of a record with its book gives what its head says, and its block, and whether that has as many steps;
- * adds to `steps` those that stepping through the block tells. Steps through the sheet too. */
-static bool agrees(const uint8_t *head, const struct space *space, size_t line, size_t *steps)
+/* Whether packing the sheet of a record with its book gives what its head says, and its block; steps through the sheet and the
+ * block too. */
+static bool agrees(const uint8_t *head, const struct space *space, size_t line)
 {
     size_t room = u32_at(head + 12), n = unroll(u32_at(head), space->sheet), k = unroll(u32_at(head + 4), space->book),
            m = unroll(u32_at(head + 8), space->block);
@@ -296,13 +292,9 @@ static bool agrees(const uint8_t *head, const struct space *space, size_t line, 
     bool same = a.number == head[17] && a.value == number_in(head + 18) && a.action == (int64_t)u32_at(head + 26) && written == m &&
                 memcmp(out, space->block, m) == 0;
     step(sheet.bytes, n, line);
-    if (a.number != MERINOVAULT_DONE)
-        return same && u32_at(head + 30) == 0;
-    struct answer through = step_all(out, written, space->block_end, line);
-    if (through.number != MERINOVAULT_DONE)
-        return false;
-    *steps += (size_t)through.value;
-    return same && through.value == (int64_t)u32_at(head + 30);
+    if (a.number == MERINOVAULT_DONE)
+        step_all(out, written, space->block_end, line);
+    return same;
 }
 
 int main(int argc, char **argv)
@@ -320,9 +312,9 @@ int main(int argc, char **argv)
     step_short(space.block_end);
 
     uint8_t head[HEAD];
-    size_t counts[NUMBERS] = {0}, steps = 0, differ = 0, first_to_differ = 0;
+    size_t counts[NUMBERS] = {0}, differ = 0, first_to_differ = 0;
     for (size_t line = 1; take(head, HEAD); line++) {
-        bool same = agrees(head, &space, line, &steps);
+        bool same = agrees(head, &space, line);
         counts[head[17]]++;
         differ += !same;
         if (!same && first_to_differ == 0)
@@ -331,7 +323,6 @@ int main(int argc, char **argv)
     for (size_t number = 0; number < NUMBERS; number++)
         if (counts[number] != 0)
             printf("%zu %zu\n", number, counts[number]);
-    printf("steps %zu\n", steps);
     printf("differ %zu, first %zu\n", differ, first_to_differ);
     free(space.sheet);
     free(space.book);

@@ -1,8 +1,6 @@
 #!/usr/bin/env python3
 """Writes stdin and stdout of crates/replay: sheets with books and rooms, and what the oracle answers to each in every mode.
 
-With each block stands how many steps it has, which is counted in the sheet.
-
 Run in the checkout after the oracle is built: python3 oracle/packings.py
 """
 import re
@@ -842,28 +840,9 @@ def pattern(s):
     return b"".join(struct.pack("<IH", len(part) * times, len(part)) + part for part, times in runs)
 
 
-def record(s, room, mode, number, value, action, block, steps):
+def record(s, room, mode, number, value, action, block):
     parts = [pattern(part) for part in (s, book_of(s), block)]
-    return struct.pack("<IIIIBBqII", *map(len, parts), room, mode, number, value, action, steps) + b"".join(parts)
-
-
-def counted(asked, told):
-    """How many steps the block of each answer has, by its sheet; 0 where there is no block.
-
-    Each count is held to the steps of the block, and the blocks must tell the wrong counts from the right one.
-    """
-    from steps import DONE, answer as stepped  # which imports this file
-
-    found, pairs, shown = [], set(), set()
-    for (s, *_), (number, _, _, block) in zip(asked, told):
-        right, *wrong = numbering.steps(s, book_of(s)) if number == DONE else (0,)
-        found.append(right)
-        if number == DONE:
-            pairs.add((block, right))
-            shown.update(i for i, other in enumerate(wrong) if other != right)
-    assert all(stepped(block) == (DONE, steps) for block, steps in pairs)
-    assert shown == {0, 1, 2}, shown
-    return found
+    return struct.pack("<IIIIBBqI", *map(len, parts), room, mode, number, value, action) + b"".join(parts)
 
 
 def check(due, answer):
@@ -896,17 +875,14 @@ def main():
             assert answer == plain or answer[0] == number and plain[0] in (0, 10, 11), (plain, answer)
         assert both in (strict, contained), (strict, contained, both)
     numbering.check((s, book_of(s), *answer[:3]) for (s, *_), answer in zip(asked, told))
-    steps = counted(asked, told)
-    stdin = b"".join(record(*question, *answer, n) for question, answer, n in zip(asked, told, steps))
+    stdin = b"".join(record(*question, *answer) for question, answer in zip(asked, told))
     assert len(stdin) < 3145728, len(stdin)
     numbers = Counter(number for number, *_ in told)
-    lines = [f"{number} {count}\n" for number, count in sorted(numbers.items())]
-    lines += [f"steps {sum(steps)}\n", "differ 0, first 0\n"]
+    lines = [f"{number} {count}\n" for number, count in sorted(numbers.items())] + ["differ 0, first 0\n"]
     open("crates/replay/stdin", "wb").write(stdin)
     open("crates/replay/stdout", "w").write("".join(lines))
     of_2, of_3 = (sum(edition_of(s) == edition for s, *_ in sheets) for edition in (2, 3))
     print(len(sheets), "sheets,", of_2, "of edition 2 and", of_3, "of edition 3, each in every mode,", len(stdin), "bytes")
-    print(numbers[0], "blocks,", sum(steps), "steps")
     for mode, found in zip(MODES, by_mode):
         print(mode, dict(sorted(Counter(number for number, *_ in found).items())))
 

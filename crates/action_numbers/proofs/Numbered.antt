@@ -11,7 +11,7 @@ use Rattle.layout.specs.Write.{size, sizes, body_size, catch_size, finally_size,
 use Rattle.layout.specs.Lengths.{total}
 use Rattle.layout.proofs.Lengths.{length-owner_fields, length-owner_payload, length-try_payload}
 use Rattle.laws.specs.Homes.{event_position}
-use Rattle.action_numbers.specs.Numbered.{EachNamed, Measured, Named, NamedFrom, Names, OwnsBody, Shows, a_label, an_action, body_in_order, branch_to, catch_body, catch_in_order, finally_body, finally_in_order, in_order, its_body, list_in_order, own_size, payload_size, try_body}
+use Rattle.action_numbers.specs.Numbered.{EachNamed, Measured, Named, NamedFrom, Names, OwnsBody, Shows, a_label, an_action, body_in_order, branch_to, catch_body, catch_in_order, finally_body, finally_in_order, in_order, its_body, list_in_order, own_size, payload_size, try_body, Tells, PlacedFrom, between, at_action, EachPlaced, Placed}
 
 -- ---- how many there are, and how many bytes they take
 
@@ -119,72 +119,72 @@ names_both {xs} {k} {P} {Q} h i = record {
         go ys zs rest (omega (arith, l)) (λ n. R (own_size y + n)) (subst (λ (x : Action). R (own_size x + total own_size zs) i.action) same q)
 
 -- more actions behind them
-named_left : {s : Position} {xs : List Action} (ys : List Action) {e : Event} → NamedFrom s xs e → NamedFrom s (xs ++ ys) e
-named_left ys (a_label before later i n p) = a_label before (later ++ ys) (ap (λ zs. zs ++ ys) i ∙ append_assoc before later ys) n p
-named_left ys {e} (an_action before action later i n h) =
-    an_action {e = e} before action (later ++ ys) (ap (λ zs. zs ++ ys) i ∙ append_assoc before (action ∷ later) ys) n h
+placed_left : {s : Position} {xs : List Action} (ys : List Action) {e : Event} → PlacedFrom s xs e → PlacedFrom s (xs ++ ys) e
+placed_left ys (between before later i n p) = between before (later ++ ys) (ap (λ zs. zs ++ ys) i ∙ append_assoc before later ys) n p
+placed_left ys {e} (at_action before action later i n h) =
+    at_action {e = e} before action (later ++ ys) (ap (λ zs. zs ++ ys) i ∙ append_assoc before (action ∷ later) ys) n h
 
 -- more before them, by which the writing comes from s to s'
-named_right : {s s' : Position} (xs : List Action) {ys : List Action} → s.number + length xs ≡ s'.number → s.at + total own_size xs ≡ s'.at → {e : Event} → NamedFrom s' ys e → NamedFrom s (xs ++ ys) e
-named_right xs c b (a_label {u = u} before later i n p) =
-    a_label {u = u} (xs ++ before) later (ap (λ zs. xs ++ zs) i ∙ sym (append_assoc xs before later)) (omega (arith, length-append xs before)) (omega (arith, total_append own_size xs before))
-named_right {s} {s'} xs c b {e} (an_action before action later i n h) =
-    an_action {e = e} (xs ++ before) action later (ap (λ zs. xs ++ zs) i ∙ sym (append_assoc xs before (action ∷ later)))
+placed_right : {s s' : Position} (xs : List Action) {ys : List Action} → s.number + length xs ≡ s'.number → s.at + total own_size xs ≡ s'.at → {e : Event} → PlacedFrom s' ys e → PlacedFrom s (xs ++ ys) e
+placed_right xs c b (between {u = u} before later i n p) =
+    between {u = u} (xs ++ before) later (ap (λ zs. xs ++ zs) i ∙ sym (append_assoc xs before later)) (omega (arith, length-append xs before)) (omega (arith, total_append own_size xs before))
+placed_right {s} {s'} xs c b {e} (at_action before action later i n h) =
+    at_action {e = e} (xs ++ before) action later (ap (λ zs. xs ++ zs) i ∙ sym (append_assoc xs before (action ∷ later)))
     (omega (arith, length-append xs before))
-    (subst (λ p. Shows e p action) at h)
+    (subst (λ p. Tells e p action) at h)
   where
     at : s'.at + total own_size before ≡ s.at + total own_size (xs ++ before)
     at = omega (arith, total_append own_size xs before)
 
 -- none; one; and one part after another
-no_event : {s : Position} {xs : List Action} → EachNamed s xs []
+no_event : {s : Position} {xs : List Action} → EachPlaced s xs []
 no_event = record { each = tt }
 
-one_event : {s : Position} {xs : List Action} {e : Event} → NamedFrom s xs e → EachNamed s xs (e ∷ [])
+one_event : {s : Position} {xs : List Action} {e : Event} → PlacedFrom s xs e → EachPlaced s xs (e ∷ [])
 one_event h = record { each = (h, tt) }
 
-join : {s : Position} {xs : List Action} {es es' : List Event} → EachNamed s xs es → EachNamed s xs es' → EachNamed s xs (es ++ es')
-join {s} {xs} {es} {es'} h k = record { each = all_append (NamedFrom s xs) es es' h.each k.each }
+join : {s : Position} {xs : List Action} {es es' : List Event} → EachPlaced s xs es → EachPlaced s xs es' → EachPlaced s xs (es ++ es')
+join {s} {xs} {es} {es'} h k = record { each = all_append (PlacedFrom s xs) es es' h.each k.each }
 
 -- by other actions, or from another position
-each_as : {s s' : Position} {xs xs' : List Action} {es : List Event} → ((e : Event) → NamedFrom s xs e → NamedFrom s' xs' e) → EachNamed s xs es → EachNamed s' xs' es
+each_as : {s s' : Position} {xs xs' : List Action} {es : List Event} → ((e : Event) → PlacedFrom s xs e → PlacedFrom s' xs' e) → EachPlaced s xs es → EachPlaced s' xs' es
 each_as {s} {s'} {xs} {xs'} {es} f h = record { each = go es h.each }
   where
-    go : (es : List Event) → All (NamedFrom s xs) es → All (NamedFrom s' xs') es
+    go : (es : List Event) → All (PlacedFrom s xs) es → All (PlacedFrom s' xs') es
     go [] h = tt
     go (e ∷ es) h = (f e h.0, go es h.1)
 
-left : {s : Position} {xs : List Action} (ys : List Action) {es : List Event} → EachNamed s xs es → EachNamed s (xs ++ ys) es
-left ys h = each_as (λ e k. named_left ys k) h
+left : {s : Position} {xs : List Action} (ys : List Action) {es : List Event} → EachPlaced s xs es → EachPlaced s (xs ++ ys) es
+left ys h = each_as (λ e k. placed_left ys k) h
 
-right : {s s' : Position} (xs : List Action) {ys : List Action} {es : List Event} → s.number + length xs ≡ s'.number → s.at + total own_size xs ≡ s'.at → EachNamed s' ys es → EachNamed s (xs ++ ys) es
-right xs c b h = each_as (λ e k. named_right xs c b k) h
+right : {s s' : Position} (xs : List Action) {ys : List Action} {es : List Event} → s.number + length xs ≡ s'.number → s.at + total own_size xs ≡ s'.at → EachPlaced s' ys es → EachPlaced s (xs ++ ys) es
+right xs c b h = each_as (λ e k. placed_right xs c b k) h
 
 -- behind the first action's own bytes
-next : {s s' : Position} (a : Action) {ys : List Action} {es : List Event} → s.number + 1 ≡ s'.number → s.at + own_size a ≡ s'.at → EachNamed s' ys es → EachNamed s (a ∷ ys) es
+next : {s s' : Position} (a : Action) {ys : List Action} {es : List Event} → s.number + 1 ≡ s'.number → s.at + own_size a ≡ s'.at → EachPlaced s' ys es → EachPlaced s (a ∷ ys) es
 unfolding total
 next a c b h = right (a ∷ []) c (omega arith) h
 
 -- the first action's event
-at_first : {s : Position} {a : Action} {xs : List Action} {e : Event} → s.number + 0 ≡ (event_position e).number → Shows e (s.at + 0) a → NamedFrom s (a ∷ xs) e
+at_first : {s : Position} {a : Action} {xs : List Action} {e : Event} → s.number + 0 ≡ (event_position e).number → Tells e (s.at + 0) a → PlacedFrom s (a ∷ xs) e
 unfolding total
-at_first {a = a} {xs = xs} {e = e} n h = an_action {e = e} [] a xs refl n h
+at_first {a = a} {xs = xs} {e = e} n h = at_action {e = e} [] a xs refl n h
 
 -- the first action has the payload
-payload_named : (n : ℕ) (s : Position) (a : Action) (xs : List Action) → payload_size a ≡ n → EachNamed s (a ∷ xs) (payload_test n s)
+payload_placed : (n : ℕ) (s : Position) (a : Action) (xs : List Action) → payload_size a ≡ n → EachPlaced s (a ∷ xs) (payload_test n s)
 unfolding payload_test event_if event_position
-payload_named n s a xs e = go (ltb 65535 n) refl
+payload_placed n s a xs e = go (ltb 65535 n) refl
   where
-    go : (t : Bool) → ltb 65535 n ≡ t → EachNamed s (a ∷ xs) (event_if t (payload_too_long n s))
+    go : (t : Bool) → ltb 65535 n ≡ t → EachPlaced s (a ∷ xs) (event_if t (payload_too_long n s))
     go true h = one_event (at_first {e = payload_too_long n s} (omega arith) (e, ltb-true 65535 n h, omega arith))
     go false h = no_event
 
 -- the first action owns the body
-length_named : (n : ℕ) (s : Position) (a : Action) (xs : List Action) → (65535 < n → OwnsBody n a) → EachNamed s (a ∷ xs) (body_test n s)
+length_placed : (n : ℕ) (s : Position) (a : Action) (xs : List Action) → (65535 < n → OwnsBody n a) → EachPlaced s (a ∷ xs) (body_test n s)
 unfolding body_test event_if event_position
-length_named n s a xs f = go (ltb 65535 n) refl
+length_placed n s a xs f = go (ltb 65535 n) refl
   where
-    go : (t : Bool) → ltb 65535 n ≡ t → EachNamed s (a ∷ xs) (event_if t (body_too_long n s))
+    go : (t : Bool) → ltb 65535 n ≡ t → EachPlaced s (a ∷ xs) (event_if t (body_too_long n s))
     go true h =
         let l : 65535 < n = ltb-true 65535 n h in
         one_event (at_first {e = body_too_long n s} (omega arith) (f l, l, omega arith))
@@ -202,16 +202,16 @@ finally_owned b c no_finally l = absurd (omega (arith, l))
 finally_owned b c (finally x) l = finally_body refl
 
 -- a label that is recorded where the actions start
-label_first : (l : ℕ) (s : Position) (xs : List Action) → NamedFrom s xs (label_at l s)
+label_first : (l : ℕ) (s : Position) (xs : List Action) → PlacedFrom s xs (label_at l s)
 unfolding total
-label_first l s xs = a_label {u = s} [] xs refl (omega arith) (omega arith)
+label_first l s xs = between {u = s} [] xs refl (omega arith) (omega arith)
 
-labels_named : (es : List Entry) (i : ActionIndex) (s : Position) (xs : List Action) → EachNamed s xs (labels_at es i s)
+labels_placed : (es : List Entry) (i : ActionIndex) (s : Position) (xs : List Action) → EachPlaced s xs (labels_at es i s)
 unfolding labels_at
-labels_named [] i s xs = no_event
-labels_named (entry l j ∷ es) i s xs = join (go (eqb i.index j.index)) (labels_named es i s xs)
+labels_placed [] i s xs = no_event
+labels_placed (entry l j ∷ es) i s xs = join (go (eqb i.index j.index)) (labels_placed es i s xs)
   where
-    go : (t : Bool) → EachNamed s xs (event_if t (label_at l s))
+    go : (t : Bool) → EachPlaced s xs (event_if t (label_at l s))
     go true = unfold event_if in one_event (label_first l s xs)
     go false = unfold event_if in no_event
 
@@ -228,43 +228,43 @@ try_payload_lem b c f = length-try_payload (catch_shape c + finally_shape f) (bo
 mutual
   unfolding trace in_order moved own_size payload_size event_position
 
-  action_named : (a : Action) (s : Position) → EachNamed s (in_order a) (trace a s)
-  action_named (flat f) s = payload_named _ s (flat f) [] refl
-  action_named (branch k l) s = one_event (at_first {e = branch_at l (moved 3 0 s)} refl (branch_to, omega arith))
-  action_named (owner o b) s =
-      join (payload_named _ s (owner o b) (body_in_order b) (owner_payload_lem o b))
-      (join (next (owner o b) refl refl (body_named b (to_body o s))) (length_named (body_size b) s (owner o b) (body_in_order b) (λ l. its_body refl)))
-  action_named (Try b c f) s =
+  action_placed : (a : Action) (s : Position) → EachPlaced s (in_order a) (trace a s)
+  action_placed (flat f) s = payload_placed _ s (flat f) [] refl
+  action_placed (branch k l) s = one_event (at_first {e = branch_at l (moved 3 0 s)} refl (branch_to, omega arith))
+  action_placed (owner o b) s =
+      join (payload_placed _ s (owner o b) (body_in_order b) (owner_payload_lem o b))
+      (join (next (owner o b) refl refl (body_placed b (to_body o s))) (length_placed (body_size b) s (owner o b) (body_in_order b) (λ l. its_body refl)))
+  action_placed (Try b c f) s =
       let bs : List Action = body_in_order b in
       let cs : List Action = catch_in_order c in
       let fs : List Action = finally_in_order f in
       let rest : List Action = bs ++ (cs ++ fs) in
       let mb : Measured bs (body_count b) (body_size b) = body_measured b in
       let mc : Measured cs (catch_count c) (catch_size c) = catch_measured c in
-      join (payload_named _ s (Try b c f) rest (try_payload_lem b c f))
-      (join (next (Try b c f) refl refl (left (cs ++ fs) (body_named b (to_try c s))))
-      (join (next {s' = to_try c s} (Try b c f) refl refl (right bs (omega (arith, mb.is_counted)) (omega (arith, mb.is_long)) (left fs (catch_named c (to_catch b c s)))))
+      join (payload_placed _ s (Try b c f) rest (try_payload_lem b c f))
+      (join (next (Try b c f) refl refl (left (cs ++ fs) (body_placed b (to_try c s))))
+      (join (next {s' = to_try c s} (Try b c f) refl refl (right bs (omega (arith, mb.is_counted)) (omega (arith, mb.is_long)) (left fs (catch_placed c (to_catch b c s)))))
       (join (next {s' = to_try c s} (Try b c f) refl refl (right {s' = to_catch b c s} bs (omega (arith, mb.is_counted)) (omega (arith, mb.is_long))
-      (right cs (omega (arith, mc.is_counted)) (omega (arith, mc.is_long)) (finally_named f (to_finally b c s)))))
-      (join (length_named (body_size b) s (Try b c f) rest (λ l. try_body refl))
-      (join (length_named (catch_size c) s (Try b c f) rest (catch_owned b c f)) (length_named (finally_size f) s (Try b c f) rest (finally_owned b c f)))))))
+      (right cs (omega (arith, mc.is_counted)) (omega (arith, mc.is_long)) (finally_placed f (to_finally b c s)))))
+      (join (length_placed (body_size b) s (Try b c f) rest (λ l. try_body refl))
+      (join (length_placed (catch_size c) s (Try b c f) rest (catch_owned b c f)) (length_placed (finally_size f) s (Try b c f) rest (finally_owned b c f)))))))
 
-  actions_named : (xs : ActionList) (es : List Entry) (i : ActionIndex) (s : Position) → EachNamed s (list_in_order xs) (traces xs es i s)
-  actions_named empty es i s = labels_named es i s []
-  actions_named (more a xs) es i s =
-      join (labels_named es i s (in_order a ++ list_in_order xs)) (join (left (list_in_order xs) (action_named a s))
-      (right (in_order a) (omega (arith, (measured a).is_counted)) (omega (arith, (measured a).is_long)) (actions_named xs es (next_action i) (past a s))))
+  actions_placed : (xs : ActionList) (es : List Entry) (i : ActionIndex) (s : Position) → EachPlaced s (list_in_order xs) (traces xs es i s)
+  actions_placed empty es i s = labels_placed es i s []
+  actions_placed (more a xs) es i s =
+      join (labels_placed es i s (in_order a ++ list_in_order xs)) (join (left (list_in_order xs) (action_placed a s))
+      (right (in_order a) (omega (arith, (measured a).is_counted)) (omega (arith, (measured a).is_long)) (actions_placed xs es (next_action i) (past a s))))
 
-  body_named : (b : Actions) (s : Position) → EachNamed s (body_in_order b) (trace_body b s)
-  body_named (body es xs) s = actions_named xs es first_action s
+  body_placed : (b : Actions) (s : Position) → EachPlaced s (body_in_order b) (trace_body b s)
+  body_placed (body es xs) s = actions_placed xs es first_action s
 
-  catch_named : (c : Catch) (s : Position) → EachNamed s (catch_in_order c) (trace_catch c s)
-  catch_named no_catch s = no_event
-  catch_named (catch t b) s = body_named b s
+  catch_placed : (c : Catch) (s : Position) → EachPlaced s (catch_in_order c) (trace_catch c s)
+  catch_placed no_catch s = no_event
+  catch_placed (catch t b) s = body_placed b s
 
-  finally_named : (f : Finally) (s : Position) → EachNamed s (finally_in_order f) (trace_finally f s)
-  finally_named no_finally s = no_event
-  finally_named (finally b) s = body_named b s
+  finally_placed : (f : Finally) (s : Position) → EachPlaced s (finally_in_order f) (trace_finally f s)
+  finally_placed no_finally s = no_event
+  finally_placed (finally b) s = body_placed b s
 
 -- by the actions before it, from the block's first byte on
 names_whole : {xs : List Action} {k : ℕ} {P : ℕ → Action → Type 0} (before : List Action) (action : Action) (later : List Action) → xs ≡ before ++ (action ∷ later) → block_start.number + length before ≡ k
@@ -273,14 +273,43 @@ names_whole {P = P} before action later i n h =
     let start : 0 + total own_size before ≡ total own_size before = omega arith in
     record { before = before; action = action; later = later; is_among = i; is_number = omega arith; is_so = subst (λ p. P p action) start h }
 
+-- each event of a tree does so, and each label stands between actions
+pub events_placed : (t : Actions) → All (Placed (body_in_order t)) (events t)
+unfolding events event_position
+events_placed t = go (trace_body t block_start) (body_placed t block_start).each
+  where
+    at : (e : Event) → PlacedFrom block_start (body_in_order t) e → Placed (body_in_order t) e
+    at (label_at l s) (between before later i n p) = record { before = before; later = later; is_among = i; is_number = omega (arith, n); is_at = omega (arith, p) }
+    at (label_at l s) (at_action before action later i n h) = absurd h
+    at (branch_at l s) (at_action before action later i n h) = names_whole {P = Shows (branch_at l s)} before action later i n h
+    at (payload_too_long k s) (at_action before action later i n h) = names_whole {P = Shows (payload_too_long k s)} before action later i n h
+    at (body_too_long k s) (at_action before action later i n h) = names_whole {P = Shows (body_too_long k s)} before action later i n h
+
+    go : (es : List Event) → All (PlacedFrom block_start (body_in_order t)) es → All (Placed (body_in_order t)) es
+    go [] h = tt
+    go (e ∷ es) h = (at e h.0, go es h.1)
+
+-- a label apart, which names none
+named_from : {s : Position} {xs : List Action} (e : Event) → PlacedFrom s xs e → NamedFrom s xs e
+named_from (label_at l u) h = a_label
+named_from (branch_at l u) (at_action before action later i n h) = an_action {e = branch_at l u} before action later i n h
+named_from (payload_too_long k u) (at_action before action later i n h) = an_action {e = payload_too_long k u} before action later i n h
+named_from (body_too_long k u) (at_action before action later i n h) = an_action {e = body_too_long k u} before action later i n h
+
+each_named : {s : Position} {xs : List Action} (es : List Event) → EachPlaced s xs es → EachNamed s xs es
+each_named {s} {xs} es h = record { each = go es h.each }
+  where
+    go : (es : List Event) → All (PlacedFrom s xs) es → All (NamedFrom s xs) es
+    go [] h = tt
+    go (e ∷ es) h = (named_from e h.0, go es h.1)
+
 -- each event of a tree does so
 pub events_named : (t : Actions) → All (Named (body_in_order t)) (events t)
 unfolding events event_position
-events_named t = go (trace_body t block_start) (body_named t block_start).each
+events_named t = go (trace_body t block_start) (each_named (trace_body t block_start) (body_placed t block_start)).each
   where
     at : (e : Event) → NamedFrom block_start (body_in_order t) e → Named (body_in_order t) e
-    at (label_at l s) (a_label before later i n p) = record { before = before; later = later; is_among = i; is_number = omega (arith, n); is_at = omega (arith, p) }
-    at (label_at l s) (an_action before action later i n h) = absurd h
+    at (label_at l s) h = tt
     at (branch_at l s) (an_action before action later i n h) = names_whole {P = Shows (branch_at l s)} before action later i n h
     at (payload_too_long k s) (an_action before action later i n h) = names_whole {P = Shows (payload_too_long k s)} before action later i n h
     at (body_too_long k s) (an_action before action later i n h) = names_whole {P = Shows (body_too_long k s)} before action later i n h

@@ -89,29 +89,52 @@ pub record Between (xs : List Action) (s : Position) : Type 0 where
   pub is_at : total own_size before ≡ s.at
 
 -- what an event shows of the action that has its number and starts at byte p. A branch has its operand three bytes behind p; a
--- length is "over 65,535"; a label shows none, since a body may end with it
+-- length is "over 65,535"
 abbrev pub Shows : Event → ℕ → Action → Type 0
-Shows (label_at l s) p a = ⊥
+Shows (label_at l s) p a = Unit {0}
 Shows (branch_at l s) p a = BranchTo l a × (s.at ≡ p + 3)
 Shows (payload_too_long n s) p a = (payload_size a ≡ n) × (65535 < n) × (s.at ≡ p)
 Shows (body_too_long n s) p a = OwnsBody n a × (65535 < n) × (s.at ≡ p)
 
--- an event names one of these actions, which are written from a position on. A label stands before one, or behind the last
+-- the same, but that no action has the number of a label, since a body may end with it
+abbrev pub Tells : Event → ℕ → Action → Type 0
+Tells (label_at l s) p a = ⊥
+Tells (branch_at l s) p a = Shows (branch_at l s) p a
+Tells (payload_too_long n s) p a = Shows (payload_too_long n s) p a
+Tells (body_too_long n s) p a = Shows (body_too_long n s) p a
+
+-- an event names one of these actions, which are written from a position on. A label names none: a body may end with it
 pub data NamedFrom (s : Position) (xs : List Action) : Event → Type 0 where
-  a_label : {l : ℕ} {u : Position} (before later : List Action) → xs ≡ before ++ later → s.number + length before ≡ u.number → s.at + total own_size before ≡ u.at
-      → NamedFrom s xs (label_at l u)
+  a_label : {l : ℕ} {u : Position} → NamedFrom s xs (label_at l u)
   an_action : {e : Event} (before : List Action) (action : Action) (later : List Action) → xs ≡ before ++ (action ∷ later) → s.number + length before ≡ (event_position e).number
       → Shows e (s.at + total own_size before) action → NamedFrom s xs e
+
+-- the same, and a label stands before one of them, or behind the last
+pub data PlacedFrom (s : Position) (xs : List Action) : Event → Type 0 where
+  between : {l : ℕ} {u : Position} (before later : List Action) → xs ≡ before ++ later → s.number + length before ≡ u.number → s.at + total own_size before ≡ u.at
+      → PlacedFrom s xs (label_at l u)
+  at_action : {e : Event} (before : List Action) (action : Action) (later : List Action) → xs ≡ before ++ (action ∷ later) → s.number + length before ≡ (event_position e).number
+      → Tells e (s.at + total own_size before) action → PlacedFrom s xs e
 
 -- each of these events does
 pub record EachNamed (s : Position) (xs : List Action) (es : List Event) : Type 0 where
   pub each : All (NamedFrom s xs) es
 
+pub record EachPlaced (s : Position) (xs : List Action) (es : List Event) : Type 0 where
+  pub each : All (PlacedFrom s xs) es
+
 -- ---- the events of a tree
 
--- a label stands between actions; an event that is no label names an action, and shows this of it
+-- an event that is no label names an action, and shows this of it
 abbrev pub Named : List Action → Event → Type 0
-Named xs (label_at l s) = Between xs s
+Named xs (label_at l s) = Unit {0}
 Named xs (branch_at l s) = Names xs s.number (Shows (branch_at l s))
 Named xs (payload_too_long n s) = Names xs s.number (Shows (payload_too_long n s))
 Named xs (body_too_long n s) = Names xs s.number (Shows (body_too_long n s))
+
+-- the same, and a label stands between actions
+abbrev pub Placed : List Action → Event → Type 0
+Placed xs (label_at l s) = Between xs s
+Placed xs (branch_at l s) = Named xs (branch_at l s)
+Placed xs (payload_too_long n s) = Named xs (payload_too_long n s)
+Placed xs (body_too_long n s) = Named xs (body_too_long n s)

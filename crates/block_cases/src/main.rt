@@ -2,32 +2,23 @@
 // its length in four bytes.
 #![tactic(auto)]
 
-ghost use Rattle.std.specs.Prelude.{◌≡◌, ◌≤◌, length};
+ghost use Rattle.std.specs.Prelude.{◌≡◌, length};
 ghost use Rattle.print_text.specs.Pieces.{Room};
 
 use fields::u32_at;
-use io::{large_buffer, read_full, write_all};
-use libc::{STDIN_FILENO, STDOUT_FILENO};
 use patterns::unroll;
-use print::block_text;
-
-// Three bytes for each byte of the longest block, and a line.
-fn text_buffer() -> [u8; 196651]
-    ensures { 196651 ≡ length result }
-{
-    [0; 196651]
-}
-
-// Writes the text of an input.
-fn answer(input: &[u8], out: &mut [u8], text: &mut [u8])
-    requires { (length input.now ≤ 65536) × (length out.old ≡ 65536) × Room 196651 0 text.old }
-{
-    let end = block_text(input, out, text);
-    write_all(STDOUT_FILENO, &text[..end]);
-}
+use print::{text_buffer, write_text};
+use std::io;
+use std::io::{BufWriter, Read, Write};
 
 // An input is what its pattern stands for, as far as there is space.
-fn answer_all(input: &[u8], space: &mut [u8], out: &mut [u8], text: &mut [u8])
+fn answer_all<W: Write>(
+    input: &[u8],
+    space: &mut [u8],
+    out: &mut [u8],
+    text: &mut [u8],
+    writer: &mut W,
+) -> io::Result<()>
     requires { (length space.old ≡ 65536) × (length out.old ≡ 65536) × Room 196651 0 text.old }
 {
     let mut p = 0;
@@ -35,19 +26,23 @@ fn answer_all(input: &[u8], space: &mut [u8], out: &mut [u8], text: &mut [u8])
         let n = u32_at(input, p) as usize;
         p += 4;
         if input.len() - p < n {
-            return;
+            return Ok(());
         }
         let length = unroll(&input[p..p + n], space);
-        answer(&space[..length], out, text);
+        write_text(&space[..length], out, text, writer)?;
         p += n;
     }
+    Ok(())
 }
 
-fn main() {
-    let mut input = large_buffer();
-    let mut space = large_buffer();
-    let mut out = large_buffer();
-    let mut text = text_buffer();
-    let n = read_full(STDIN_FILENO, &mut input);
-    answer_all(&input[..n], &mut space, &mut out, &mut text);
+// Of the input, 65,536 bytes are read.
+fn main(rt: HostRuntime) -> io::Result<()> {
+    let mut input = Vec::with_capacity(rt.alloc(), 65536)?;
+    rt.stdin().take(65536).read_to_end(&mut input)?;
+    let mut space = vec![in rt.alloc(); 0; 65536]?;
+    let mut out = vec![in rt.alloc(); 0; 65536]?;
+    let mut text = text_buffer(rt.alloc())?;
+    let mut writer = BufWriter::new(rt.alloc(), rt.stdout())?;
+    answer_all(&input, &mut space, &mut out, &mut text, &mut writer)?;
+    writer.flush()
 }

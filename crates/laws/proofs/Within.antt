@@ -2,17 +2,15 @@
 use Rattle.std.specs.Prelude.{◌≡◌, refl, ℕ, ◌+◌, ◌≤◌, Bool, length, ltb, eqb}
 use native.Mathlib.Omega.{arith}
 use Rattle.std.proofs.Math.Bool.{true, false}
-use Rattle.std.proofs.Math.Option.{Option}
+use Rattle.std.proofs.Math.Option.{Option, none, some}
 use mathlib.Core.List.{List, [], ◌∷◌, ◌++◌}
 use Rattle.layout.specs.Lists.{All}
 use Rattle.layout.proofs.Lists.{all_append}
 use Rattle.layout.specs.OpCode.{OpCode, byte}
 use Rattle.layout.specs.Tree.{Flat, Small, GotoFrame, GetUrl, StoreRegister, ConstantPool, WaitForFrame, SetTarget, GotoLabel, WaitForFrame2, Push, GetUrl2, GotoFrame2, ActionIndex, first_action, next_action, Entry, entry, Action, flat, branch, owner, Try, ActionList, empty, more, Actions, body, Catch, no_catch, catch, Finally, no_finally, finally}
 use Rattle.layout.specs.Payload.{opcode, payload, framed}
-use Rattle.layout.specs.Write.{size, sizes, body_size, catch_size, finally_size, Position, moved, to_body, to_try, to_catch, to_finally, past, Event, label_at, branch_at, payload_too_long, body_too_long, event_if, payload_test, body_test, labels_at, trace, traces, trace_body, trace_catch, trace_finally, lookup}
+use Rattle.layout.specs.Write.{size, sizes, body_size, catch_size, finally_size, Position, moved, to_body, to_try, to_catch, to_finally, past, Event, label_at, branch_at, payload_too_long, body_too_long, event_if, payload_test, body_test, labels_at, trace, traces, trace_body, trace_catch, trace_finally, later, record_if, lookup}
 use Rattle.layout.proofs.Lengths.{length_framed}
-use Rattle.laws.specs.Branches.{IfRecorded}
-use Rattle.laws.proofs.Branches.{lookup_is}
 
 -- ---- a payload is no longer than its action
 
@@ -104,7 +102,23 @@ module _ (end : ℕ) where
 
   -- a label's final record, if it has one, is at most `end`
   abbrev pub Recorded : Option Position → Type 0
-  Recorded o = IfRecorded (λ s. s.at ≤ end) o
+  Recorded none = Unit {0}
+  Recorded (some s) = s.at ≤ end
+
+  later_within : (o p : Option Position) → Recorded o → Recorded p → Recorded (later o p)
+  unfolding later
+  later_within o none h k = h
+  later_within o (some s) h k = k
+
+  record_within : (t : Bool) (s : Position) → s.at ≤ end → Recorded (record_if t s)
+  unfolding record_if
+  record_within true s h = h
+  record_within false s h = tt
 
   pub lookup_within : (l : ℕ) (es : List Event) → AllWithin es → Recorded (lookup l es)
-  lookup_within l es h = lookup_is Within (λ s. s.at ≤ end) (λ k s i. i) l es h
+  unfolding lookup
+  lookup_within l [] h = tt
+  lookup_within l (label_at k s ∷ es) h = later_within (record_if (eqb l k) s) (lookup l es) (record_within (eqb l k) s h.0) (lookup_within l es h.1)
+  lookup_within l (branch_at k s ∷ es) h = lookup_within l es h.1
+  lookup_within l (payload_too_long n s ∷ es) h = lookup_within l es h.1
+  lookup_within l (body_too_long n s ∷ es) h = lookup_within l es h.1

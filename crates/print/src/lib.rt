@@ -1,7 +1,8 @@
 // The text that the block program prints, made at the front of a lent buffer.
 #![tactic(auto)]
 
-ghost use Rattle.std.specs.Prelude.{◌≡◌, ◌+◌, ◌≤◌, length};
+ghost use Rattle.std.specs.Prelude.{◌≡◌, ◌+◌, ◌≤◌, length, take, vec_len, IfOk, IfSome, OnOk};
+ghost use Rattle.std.specs.Io.KnownBytes.{Appends};
 ghost use Rattle.io.specs.Counts.{IsPrefixLen};
 ghost use Rattle.layout.specs.Book.{empty_book};
 ghost use Rattle.layout.specs.Judge.{plain_mode};
@@ -13,6 +14,9 @@ ghost use Rattle.print.specs.Text.{line, answered, block_text};
 use answer::{Answer, number_of, value_of};
 use judge::Mode;
 use print_text::{put_block, put_number, put_signed};
+use std::alloc::{AllocError, Global};
+use std::io;
+use std::io::{Read, Write};
 use stores::write_u8;
 
 // The value that a number and its 64 bits tell; only that of 10, a distance, can be negative.
@@ -69,4 +73,50 @@ pub fn block_text(input: &[u8], out: &mut [u8], text: &mut [u8]) -> usize
         return p;
     }
     put_block(text, p, &out[..bits as usize])
+}
+
+// Three bytes for each byte of the longest block, and a line.
+pub fn text_buffer(alloc: Global) -> Result<Vec<u8>, AllocError>
+    ensures { IfOk result (λ v. 196651 ≡ vec_len v) }
+{
+    vec![in alloc; 0; 196651]
+}
+
+// Writes the program's text of the input, which it makes in `out` and `text`.
+pub fn write_text<W: Write>(
+    input: &[u8],
+    out: &mut [u8],
+    text: &mut [u8],
+    writer: &mut W,
+) -> io::Result<()>
+    requires { (length input.now ≤ 65536) × (length out.old ≡ 65536) × Room 196651 0 text.old }
+    ensures { OnOk result (Appends (W.contents writer.old) (W.contents writer.new) (block_text input.now)) }
+{
+    let end = block_text(input, out, text);
+    writer.write_all(&text[..end])
+}
+
+// Reads 65,536 bytes, or as many as there are.
+fn read_input<R: Read + Drop>(alloc: Global, reader: R) -> io::Result<Vec<u8>>
+    ensures within { IfOk result (λ v. vec_len v ≤ 65536) }
+    ensures bytes { IfOk result (λ v. IfSome (R.remaining reader) (λ xs. v.items ≡ take 65536 xs)) }
+{
+    let mut input = Vec::with_capacity(alloc, 65536)?;
+    reader.take(65536).read_to_end(&mut input)?;
+    input.truncate(65536);
+    Ok(input)
+}
+
+// The block program: reads 65,536 bytes, or as many as there are, and writes their text.
+pub fn answer_reader<R: Read + Drop, W: Write>(
+    alloc: Global,
+    reader: R,
+    writer: &mut W,
+) -> io::Result<()>
+    ensures { OnOk result (IfSome (R.remaining reader) (λ xs. Appends (W.contents writer.old) (W.contents writer.new) (block_text (take 65536 xs)))) }
+{
+    let input = read_input(alloc, reader)?;
+    let mut out = vec![in alloc; 0; 65536]?;
+    let mut text = text_buffer(alloc)?;
+    write_text(&input, &mut out, &mut text, writer)
 }

@@ -8,10 +8,10 @@ use book::{CheckedBook, check_book};
 use cut::{CutMain, cut_main};
 use editions::{Edition, Terms, first_terms, second_terms, third_terms};
 use fields::u32_at;
-use io::{print_decimal, write_all};
-use libc::{STDIN_FILENO, STDOUT_FILENO};
 use positions::Fault;
 use reading::{Reading, read_main};
+use std::io;
+use std::io::{BufWriter, Read, Write};
 
 fn fault_number(f: Fault) -> u64 {
     match f {
@@ -23,17 +23,19 @@ fn fault_number(f: Fault) -> u64 {
     }
 }
 
-fn write_line(number: u64, value: usize, action: usize) {
-    print_decimal(STDOUT_FILENO, number);
-    write_all(STDOUT_FILENO, b" ");
-    print_decimal(STDOUT_FILENO, value as u64);
-    write_all(STDOUT_FILENO, b" ");
-    print_decimal(STDOUT_FILENO, action as u64);
-    write_all(STDOUT_FILENO, b"\n");
+fn write_line<W: Write>(out: &mut W, number: u64, value: usize, action: usize) -> io::Result<()> {
+    writeln!(out, "{number} {value} {action}")
 }
 
 // A main body by its terms: the table has slots for the label numbers of every edition.
-fn answer_main(b: &[u8], words: &[u8], index: &[u32], terms: Terms, start: usize)
+fn answer_main<W: Write>(
+    b: &[u8],
+    words: &[u8],
+    index: &[u32],
+    terms: Terms,
+    start: usize,
+    out: &mut W,
+) -> io::Result<()>
     requires { (length b.now ≤ 1048576) × (start ≤ 1048576) × (terms.label_bound ≤ 4096) }
 {
     let mut tab = [0; Terms::SECOND_LABELS];
@@ -42,78 +44,83 @@ fn answer_main(b: &[u8], words: &[u8], index: &[u32], terms: Terms, start: usize
     match read_main(
         b, words, index, terms, start, &mut tab, &mut homes, &mut over,
     ) {
-        Reading::Whole(_) => write_line(0, 0, 0),
-        Reading::Stops(f, p, action) => write_line(fault_number(f), p, action.0),
+        Reading::Whole(_) => write_line(out, 0, 0, 0),
+        Reading::Stops(f, p, action) => write_line(out, fault_number(f), p, action.0),
     }
 }
 
 // A main body without a book.
-fn answer_early(b: &[u8], terms: Terms, start: usize)
+fn answer_early<W: Write>(b: &[u8], terms: Terms, start: usize, out: &mut W) -> io::Result<()>
     requires { (length b.now ≤ 1048576) × (start ≤ 1048576) × (terms.label_bound ≤ 4096) }
 {
     let no_index = [0; 0];
-    answer_main(b, b, &no_index, terms, start);
+    answer_main(b, b, &no_index, terms, start, out)
 }
 
 // A main body of edition 3.
-fn answer_third(b: &[u8], book: &[u8], start: usize)
+fn answer_third<W: Write>(b: &[u8], book: &[u8], start: usize, out: &mut W) -> io::Result<()>
     requires { (length b.now ≤ 1048576) × (start ≤ 1048576) }
 {
     let mut index = [0; 4096];
     match check_book(book, &mut index) {
-        CheckedBook::Bad => write_line(18, 0, 0),
+        CheckedBook::Bad => write_line(out, 18, 0, 0),
         CheckedBook::Good(from, to, count) => {
-            answer_main(b, &book[from..to], &index, third_terms(count), start)
+            answer_main(b, &book[from..to], &index, third_terms(count), start, out)
         }
     }
 }
 
 // A main body of any edition.
-fn answer_edition(b: &[u8], book: &[u8], edition: Edition, start: usize)
+fn answer_edition<W: Write>(
+    b: &[u8],
+    book: &[u8],
+    edition: Edition,
+    start: usize,
+    out: &mut W,
+) -> io::Result<()>
     requires { (length b.now ≤ 1048576) × (start ≤ 1048576) }
 {
     match edition {
-        Edition::First => answer_early(b, first_terms(), start),
-        Edition::Second => answer_early(b, second_terms(), start),
-        Edition::Third => answer_third(b, book, start),
+        Edition::First => answer_early(b, first_terms(), start, out),
+        Edition::Second => answer_early(b, second_terms(), start, out),
+        Edition::Third => answer_third(b, book, start, out),
     }
 }
 
-fn answer(bytes: &[u8], book: &[u8]) {
+fn answer<W: Write>(bytes: &[u8], book: &[u8], out: &mut W) -> io::Result<()> {
     match cut_main(bytes) {
-        CutMain::SheetTooLong(n) => write_line(1, n, 0),
-        CutMain::BadTrailer => write_line(2, 0, 0),
+        CutMain::SheetTooLong(n) => write_line(out, 1, n, 0),
+        CutMain::BadTrailer => write_line(out, 2, 0, 0),
         CutMain::Main(edition, start, end) => {
-            answer_edition(&bytes[start..end], book, edition, start)
+            answer_edition(&bytes[start..end], book, edition, start, out)
         }
     }
 }
 
-fn answer_all(input: &[u8]) {
+fn answer_all<W: Write>(input: &[u8], out: &mut W) -> io::Result<()> {
     let mut p = 0;
     while p + 4 <= input.len() {
         let from = p + 4;
         let to = from + u32_at(input, p) as usize;
         if input.len() < to + 4 {
-            return;
+            return Ok(());
         }
         let start = to + 4;
         let end = start + u32_at(input, to) as usize;
         if input.len() < end + 4 {
-            return;
+            return Ok(());
         }
-        answer(&input[from..to], &input[start..end]);
+        answer(&input[from..to], &input[start..end], out)?;
         p = end + 4;
     }
+    Ok(())
 }
 
-// For the whole list.
-fn list_space() -> [u8; 524288] {
-    [0; 524288]
-}
-
-fn main() {
-    let mut input = list_space();
-    let n = io::read_full(STDIN_FILENO, &mut input);
-    answer_all(&input[..n]);
+// Of the list, 524,288 bytes are read.
+fn main(rt: HostRuntime) -> io::Result<()> {
+    let mut input = Vec::with_capacity(rt.alloc(), 524288)?;
+    rt.stdin().take(524288).read_to_end(&mut input)?;
+    let mut out = BufWriter::new(rt.alloc(), rt.stdout())?;
+    answer_all(&input, &mut out)?;
+    out.flush()
 }

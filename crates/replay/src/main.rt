@@ -1,37 +1,39 @@
-// Replays the oracle's answers: packs each sheet of a list, holds number, value, action number and every byte of the output to what
-// the list says, and steps through each block, whose steps must be as many as it says. Writes a line for each number that was met,
-// with its count, then how many steps were made in all, and how many answers differ and the first that does.
+// Replays the oracle's answers: packs each sheet of a list, and holds number, value, action number and every byte of the output to
+// what the list says. Writes a line for each number that was met, with its count, and then how many answers differ and the first
+// that does.
 #![tactic(auto)]
 
-ghost use Rattle.std.specs.Prelude.{◌≡◌, length};
+ghost use Rattle.std.specs.Prelude.{◌≡◌, IfOk, vec_len};
 
-use libc::STDIN_FILENO;
 use replayed::{record_length, replay_one};
+use std::alloc::{AllocError, Global};
+use std::io;
+use std::io::Read;
 use tally::{count, write_counts};
 
 // Two bytes more than the longest sheet has.
-fn space() -> [u8; 1048578]
-    ensures { 1048578 ≡ length result }
+fn space(alloc: Global) -> Result<Vec<u8>, AllocError>
+    ensures { IfOk result (λ v. 1048578 ≡ vec_len v) }
 {
-    [0; 1048578]
+    vec![in alloc; 0; 1048578]
 }
 
-// Each record has 34 bytes before its patterns, and byte 17 is the answer's number: see `replayed`.
+// Each record has 30 bytes before its patterns, and byte 17 is the answer's number: see `replayed`.
 fn replay_all(
     input: &[u8],
     sheet: &mut [u8],
     book: &mut [u8],
     block: &mut [u8],
     out: &mut [u8],
-    counts: &mut [usize; 22],
+    counts: &mut [usize; 21],
 ) {
     let mut p = 0;
     let mut record = 0;
-    while p + 34 <= input.len() {
-        let told = replay_one(&input[p..], sheet, book, block, out);
+    while p + 30 <= input.len() {
+        let agree = replay_one(&input[p..], sheet, book, block, out);
         let number = input[p + 17];
         record += 1;
-        count(counts, number, told.steps, told.agrees, record);
+        count(counts, number, agree, record);
         let n = record_length(&input[p..]);
         if input.len() - p < n {
             return;
@@ -40,24 +42,21 @@ fn replay_all(
     }
 }
 
-// For the list itself.
-fn list_space() -> [u8; 3145728] {
-    [0; 3145728]
-}
-
-// The four spaces are not in `main`, which has one for the list.
-fn replay_list(input: &[u8], counts: &mut [usize; 22]) {
-    let mut sheet = space();
-    let mut book = space();
-    let mut block = space();
-    let mut out = space();
+// Each of the four spaces stands on the heap.
+fn replay_list(alloc: Global, input: &[u8], counts: &mut [usize; 21]) -> Result<(), AllocError> {
+    let mut sheet = space(alloc)?;
+    let mut book = space(alloc)?;
+    let mut block = space(alloc)?;
+    let mut out = space(alloc)?;
     replay_all(input, &mut sheet, &mut book, &mut block, &mut out, counts);
+    Ok(())
 }
 
-fn main() {
-    let mut input = list_space();
-    let mut counts = [0; 22];
-    let n = io::read_full(STDIN_FILENO, &mut input);
-    replay_list(&input[..n], &mut counts);
-    write_counts(&counts);
+// Of the list, 3,145,728 bytes are read.
+fn main(rt: HostRuntime) -> io::Result<()> {
+    let mut input = Vec::with_capacity(rt.alloc(), 3145728)?;
+    rt.stdin().take(3145728).read_to_end(&mut input)?;
+    let mut counts = [0; 21];
+    replay_list(rt.alloc(), &input, &mut counts)?;
+    write_counts(&mut rt.stdout(), &counts)
 }

@@ -1,8 +1,8 @@
 // One record of a list of the oracle's answers: whether packing its sheet gives number, value, action number and every byte of the
-// output as it says, whether the block has as many steps as it says, and how long it is.
+// output as it says, and how long it is.
 //
-// A record is the lengths of three patterns, the room, the mode, the answer's number, value and action number, and the number of
-// steps, which is 0 unless the answer is Done, in 34 bytes; then the patterns of the sheet, of its book and of the block.
+// A record is the lengths of three patterns, the room, the mode, and the answer's number, value and action number, in 30 bytes; then
+// the patterns of the sheet, of its book and of the block.
 #![tactic(auto)]
 
 ghost use Rattle.std.specs.Prelude.{◌≤◌, length};
@@ -11,7 +11,6 @@ use answer::{Answer, action_of, number_of, value_of};
 use fields::{u32_at, u64_at};
 use judge::Mode;
 use patterns::unroll_at;
-use step::Stepped;
 
 // What every byte of the output holds before a sheet is packed.
 const FRESH: u8 = 0xA5;
@@ -81,7 +80,7 @@ fn replay_sheet<'a>(
     block: &[u8],
     out: &mut [u8],
 ) -> bool
-    requires { 34 ≤ length head.now }
+    requires { 30 ≤ length head.now }
 {
     let room = u32_at(head, 12) as usize;
     let mode = head[16];
@@ -110,63 +109,29 @@ fn replay_sheet<'a>(
     )
 }
 
-// What replaying a record gives: whether all is as it says, and how many steps were counted through the block.
-#[derive(Clone, Copy)]
-pub struct Replayed {
-    pub agrees: bool,
-    pub steps: usize,
-}
-
-// The steps through a block of this length at the front of the output; 0 if it is not clean. A clean one has at least its End.
-fn steps_through(out: &[u8], length: usize) -> usize {
-    if out.len() < length {
-        return 0;
-    }
-    match step::step(&out[..length]) {
-        Stepped::Done(n) => n,
-        Stepped::Unclean(_) => 0,
-    }
-}
-
-// The steps through the block that packing left in the output; 0 unless the record at the front of the input says Done.
-fn steps_of(input: &[u8], out: &[u8]) -> usize
-    requires { 34 ≤ length input.now }
-{
-    if input[17] != 0 {
-        return 0;
-    }
-    steps_through(out, u64_at(input, 18) as usize)
-}
-
-// Replays the record at the front of the input.
+// Whether the record at the front of the input agrees.
 pub fn replay_one(
     input: &[u8],
     sheet: &mut [u8],
     book: &mut [u8],
     block: &mut [u8],
     out: &mut [u8],
-) -> Replayed
-    requires { 34 ≤ length input.now }
+) -> bool
+    requires { 30 ≤ length input.now }
 {
     let n = u32_at(input, 0) as usize;
     let k = u32_at(input, 4) as usize;
     let m = u32_at(input, 8) as usize;
-    let long = unroll_at(input, 34, n, sheet);
-    let thick = unroll_at(input, 34 + n, k, book);
-    let wide = unroll_at(input, 34 + n + k, m, block);
-    let same = replay_sheet(input, &sheet[..long], &book[..thick], &block[..wide], out);
-    let steps = steps_of(input, out);
-    let due = u32_at(input, 30) as usize;
-    Replayed {
-        agrees: same && steps == due,
-        steps: steps,
-    }
+    let long = unroll_at(input, 30, n, sheet);
+    let thick = unroll_at(input, 30 + n, k, book);
+    let wide = unroll_at(input, 30 + n + k, m, block);
+    replay_sheet(input, &sheet[..long], &book[..thick], &block[..wide], out)
 }
 
 // The length of the record at the front of the input.
 pub fn record_length(input: &[u8]) -> usize
-    requires { 34 ≤ length input.now }
-    ensures { 34 ≤ result }
+    requires { 30 ≤ length input.now }
+    ensures { 30 ≤ result }
 {
-    34 + u32_at(input, 0) as usize + u32_at(input, 4) as usize + u32_at(input, 8) as usize
+    30 + u32_at(input, 0) as usize + u32_at(input, 4) as usize + u32_at(input, 8) as usize
 }

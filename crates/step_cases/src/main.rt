@@ -3,39 +3,40 @@
 #![tactic(auto)]
 
 use fields::u32_at;
-use io::{large_buffer, print_decimal, read_full, write_all};
-use libc::{STDIN_FILENO, STDOUT_FILENO};
 use patterns::unroll_at;
+use std::io;
+use std::io::{BufWriter, Read, Write};
 use step::Stepped;
 
-fn write_line(number: u64, value: usize) {
-    print_decimal(STDOUT_FILENO, number);
-    write_all(STDOUT_FILENO, b" ");
-    print_decimal(STDOUT_FILENO, value as u64);
-    write_all(STDOUT_FILENO, b"\n");
+fn write_line<W: Write>(out: &mut W, number: u64, value: usize) -> io::Result<()> {
+    writeln!(out, "{number} {value}")
 }
 
-fn answer(block: &[u8]) {
+fn answer<W: Write>(block: &[u8], out: &mut W) -> io::Result<()> {
     match step::step(block) {
-        Stepped::Done(n) => write_line(0, n),
-        Stepped::Unclean(p) => write_line(13, p),
+        Stepped::Done(n) => write_line(out, 0, n),
+        Stepped::Unclean(p) => write_line(out, 13, p),
     }
 }
 
 // A block is what its pattern stands for, as far as there is space.
-fn answer_all(input: &[u8], space: &mut [u8]) {
+fn answer_all<W: Write>(input: &[u8], space: &mut [u8], out: &mut W) -> io::Result<()> {
     let mut p = 0;
     while p + 4 <= input.len() {
         let n = u32_at(input, p) as usize;
         let length = unroll_at(input, p + 4, n, space);
-        answer(&space[..length]);
+        answer(&space[..length], out)?;
         p += 4 + n;
     }
+    Ok(())
 }
 
-fn main() {
-    let mut input = large_buffer();
-    let mut space = large_buffer();
-    let n = read_full(STDIN_FILENO, &mut input);
-    answer_all(&input[..n], &mut space);
+// Of the input, 65,536 bytes are read.
+fn main(rt: HostRuntime) -> io::Result<()> {
+    let mut input = Vec::with_capacity(rt.alloc(), 65536)?;
+    rt.stdin().take(65536).read_to_end(&mut input)?;
+    let mut space = vec![in rt.alloc(); 0; 65536]?;
+    let mut out = BufWriter::new(rt.alloc(), rt.stdout())?;
+    answer_all(&input, &mut space, &mut out)?;
+    out.flush()
 }

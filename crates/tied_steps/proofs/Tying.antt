@@ -30,8 +30,8 @@ use Rattle.laws.specs.Demands.{signed16}
 use Rattle.laws.proofs.Demands.{sub_up, sub_down, judged_signed}
 use Rattle.laws.specs.Packed.{Written}
 use Rattle.laws.proofs.Packed.{is_written, tree_fits}
-use Rattle.action_numbers.specs.Numbered.{body_in_order, own_size, BranchTo, branch_to, Names, Between, Named}
-use Rattle.action_numbers.proofs.Numbered.{total_append, length_order, names_each, events_named}
+use Rattle.action_numbers.specs.Numbered.{body_in_order, own_size, BranchTo, branch_to, Names, Between, Named, Placed}
+use Rattle.action_numbers.proofs.Numbered.{total_append, length_order, names_each, events_named, events_placed}
 use Rattle.tied_steps.specs.Places.{StepAt, Begins}
 use Rattle.tied_steps.specs.Own.{own_bytes}
 use Rattle.tied_steps.proofs.Own.{length_own, body_in_order_lem, all_steps, body_fits_in_order, ended, action_at, begins_at, step_is}
@@ -99,7 +99,7 @@ module _ (t : Actions) (fits : BodyFits t) (near : too_far (events t) (events t)
   -- so one begins where a label is recorded
   record_begins : (l : ℕ) (r : Position) → final l ≡ some r → Begins (block_bytes t) r.at
   record_begins l r e =
-      let b : Between xs r = subst (IfRecorded (Between xs)) e (lookup_is (Named xs) (Between xs) (λ k s h. h) l (events t) (events_named t)) in
+      let b : Between xs r = subst (IfRecorded (Between xs)) e (lookup_is (Placed xs) (Between xs) (λ k s h. h) l (events t) (events_placed t)) in
       subst (Begins (block_bytes t)) b.is_at (begins b.before b.later b.is_among)
 
   -- a branch among the actions lands by its label's record

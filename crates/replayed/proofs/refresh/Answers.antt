@@ -1,0 +1,10 @@
+-- `replayed::refresh` is safe: each place that it writes lies in the output.
+use native.Mathlib.Omega.{arith}
+use lib.ListN.{length-set}
+use Rattle.replayed.proofs.refresh.Goals as goal
+
+pub loop-i-smaller : goal.loop-i-smaller
+loop-i-smaller c = simp length-set (omega arith)
+
+pub loop-i-preserved : goal.loop-i-preserved
+loop-i-preserved c = (simp length-set (omega arith), simp length-set (omega arith))
