@@ -38,7 +38,7 @@ shown() {
   done
 }
 
-# Runs rt in the crate's folder, with all that it says in a log. If it fails, shows the log's end and stops.
+# Runs rt in the crate's folder, with all that it says in a log. If it fails, shows the end of what it said and stops.
 in_crate() { # NAME LOG COMMAND [WORD ..]
   local log=$2 status
   mkdir -p target
@@ -47,7 +47,7 @@ in_crate() { # NAME LOG COMMAND [WORD ..]
   status=${PIPESTATUS[0]}
   set -o pipefail
   [ "$status" -ne 0 ] || return 0
-  tail -n 20 "$log" >&2
+  grep -Ev ': proved$|: modules loaded=' "$log" | tail -n 20 >&2 || true
   say "'${*:3}' failed in crates/$1; $log has all that it said"
   exit "$status"
 }
