@@ -1,6 +1,6 @@
 /*
  * merinovault.h: packs a sheet of ActionScript 2 actions into the block of bytes that a player reads, and steps through a block.
- * Link libmerinovault.a, which `rt staticlib merinovault` proves and builds; docs/LINKING.md tells how.
+ * Link libmerinovault.a, which tools/native-lib.sh proves and builds; docs/LINKING.md tells how.
  *
  * Each function returns its answer's number and fills the 16 bytes of value: first the answer's value, then its action number,
  * each a little-endian signed 64-bit number of 8 bytes. If value_len is not 16, so if it is 8 too, the function returns
@@ -14,7 +14,7 @@
  *  - A run of length 0 is never read or written; its pointer may be NULL. No run needs an alignment.
  *  - strict and contained are true or false, as every bool is. If one was made to hold another byte by writing to its memory, the
  *    call is undefined.
- *  - The thread has stack enough. No proof bounds it; a call of merinovault_pack took up to 97 KiB (docs/LINKING.md).
+ *  - The thread has stack enough. No proof bounds it; a call of merinovault_pack took up to 95 KiB (docs/LINKING.md).
  *
  * The functions keep nothing between calls and allocate nothing, so several threads may call at once. They always return.
  */

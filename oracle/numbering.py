@@ -1,7 +1,6 @@
 """Which action an answer gives: document 02's item 7 by a definition of its own, beside the oracle's, and by wrong ones.
 
 readings.py and packings.py hold the oracle's action numbers to the first, and see that their lists tell each of the others from it.
-How many steps a block has, by item 14, is counted here too, in the sheet alone.
 """
 import struct
 from functools import lru_cache
@@ -234,16 +233,6 @@ def numberings(sheet, book, number, value):
         unless(number == 9, last),
         unless(number in (10, 14, 15), sum(n < right for n in reading.branches())),
     )
-
-
-def steps(sheet, book):
-    """The steps of a sheet's block: one for each action of all bodies, and the End. Then wrong counts of them.
-
-    These are: without the End; with the actions of the main body alone; with an End behind every body.
-    """
-    reading = read(sheet, book, None)
-    n = len(reading.actions)
-    return n + 1, n, 1 + sum(not action.body.owners for action in reading.actions), n + 1 + len(reading.bodies)
 
 
 def check(answers):

@@ -83,8 +83,8 @@ def replayed():
         records = file.read()
     at = 0
     while at < len(records):
-        sheet, book, block, _, _, number, _, _, _ = struct.unpack_from("<IIIIBBqII", records, at)
-        at += 34 + sheet + book + block
+        sheet, book, block, _, _, number, _, _ = struct.unpack_from("<IIIIBBqI", records, at)
+        at += 30 + sheet + book + block
         if number == 0:
             yield unrolled(records[at - block : at])
 

@@ -3,14 +3,13 @@
 # generated sheets, or to so many, and the archive's stepping through each sheet and block with a plain stepper's; ties the steps
 # and branches of each block to its sheet.
 # compare.sh speed [ROUNDS]: times packer and encoder against each other. What it is doing it tells on standard error. Needs rt,
-# cargo and Debian's crates (oracle/README.md); elsewhere than on x86-64 the archive is the native one of native-lib.sh, which
-# needs clang.
+# cargo and Debian's crates (oracle/README.md).
 set -euo pipefail
 cd "$(dirname "${BASH_SOURCE[0]}")/.."
 . tools/prove.sh
 needs rt cargo
-tools/native-lib.sh merinovault target/native/libmerinovault.a
-export MERINOVAULT_LIB_DIR=$PWD/target/native
+tools/native-lib.sh
+export MERINOVAULT_LIB_DIR=$PWD/target/staticlib
 cd compare
 if [ "${1-}" = speed ]; then
   shift

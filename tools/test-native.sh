@@ -1,28 +1,25 @@
 #!/usr/bin/env bash
-# test-native.sh: proves and builds the archive, and calls it from C and Rust on this machine: the header as C11 and C++17, the
-# Rust crate's tests, its examples on samples, the C example, and the C driver on the oracle's answers of crates/replay, plain
-# and under the address and undefined-behaviour sanitizers. On Arm all this is done with the native archive of native-lib.sh; then
-# the C example and the driver are also compiled for x86-64, linked with the archive that is shipped, and run by the kit's emulator.
-# Needs rt, a C and a C++ compiler (CC, CXX), cargo and xxd; on Arm clang too. Its last line is 'test-native.sh: all is well'.
+# test-native.sh: proves and builds the archive, and calls it from C and Rust: the header as C11 and C++17, the Rust crate's tests,
+# its examples on samples, the C example, and the C driver on the oracle's answers of crates/replay, plain and under the address and
+# undefined-behaviour sanitizers. Needs rt, a C and a C++ compiler (CC, CXX), cargo and xxd. Its last line is
+# 'test-native.sh: all is well'.
 set -euo pipefail
 cd "$(dirname "${BASH_SOURCE[0]}")/.."
 cc=${CC:-cc} cxx=${CXX:-c++}
 . tools/prove.sh
 needs rt cargo xxd "$cc" "$cxx"
-[ "$(uname -m)" = x86_64 ] || needs clang
 strict=(-Wall -Wextra -Wpedantic -Wconversion -Wshadow -Werror -Iinclude)
-shipped=target/staticlib/libmerinovault.a native=target/native/libmerinovault.a
-made=target/native/c
+archive=target/staticlib/libmerinovault.a made=target/test-native
 say() { echo "test-native.sh: $*"; }
 
-# The example writes what c/example.stdout has, and the driver what crates/replay must write; `run` says how to start them.
+# The example writes what c/example.stdout has, and the driver what crates/replay must write.
 try() { # WHAT EXAMPLE DRIVER
-  run "$2" | cmp - c/example.stdout
-  run "$3" <crates/replay/stdin | cmp - crates/replay/stdout
+  "$2" | cmp - c/example.stdout
+  "$3" <crates/replay/stdin | cmp - crates/replay/stdout
   say "$1: the example, and the driver on the list of crates/replay, write what they must"
 }
 
-tools/native-lib.sh merinovault "$native"
+tools/native-lib.sh
 mkdir -p "$made"
 
 echo '#include "merinovault.h"' >"$made/header.c"
@@ -31,7 +28,7 @@ echo '#include "merinovault.h"' >"$made/header.c"
 say "the header compiles as C11 and as C++17"
 
 say "the Rust crate's tests:"
-export MERINOVAULT_LIB_DIR=$PWD/target/native
+export MERINOVAULT_LIB_DIR=$PWD/target/staticlib
 cargo test --offline --manifest-path rust/Cargo.toml
 say "the Rust crate's tests pass"
 
@@ -98,24 +95,10 @@ done
 say "the Rust example step counts one step more than there are actions, in the blocks of $taken samples"
 
 say "the C example and the driver, plain and under the sanitizers:"
-run() { "$@"; }
 for name in example driver; do
-  "$cc" -std=c11 "${strict[@]}" -O2 "c/$name.c" "$native" -o "$made/$name"
-  "$cc" -std=c11 "${strict[@]}" -O1 -g -fsanitize=address,undefined -fno-sanitize-recover=all "c/$name.c" "$native" -o "$made/$name-sanitized"
+  "$cc" -std=c11 "${strict[@]}" -O2 "c/$name.c" "$archive" -o "$made/$name"
+  "$cc" -std=c11 "${strict[@]}" -O1 -g -fsanitize=address,undefined -fno-sanitize-recover=all "c/$name.c" "$archive" -o "$made/$name-sanitized"
 done
-try "for $(uname -m)" "$made/example" "$made/driver"
-try "for $(uname -m), sanitized" "$made/example-sanitized" "$made/driver-sanitized"
-
-if [ "$(uname -m)" != x86_64 ]; then
-  say "the same for x86-64:"
-  kit=$(dirname "$(dirname "$(rt doc)")")/on/$(uname -m)
-  # The C library's headers of this machine serve here: of what is used, nothing differs on x86-64.
-  headers=/usr/include/$("$cc" -print-multiarch 2>/dev/null || true)
-  for name in example driver; do
-    clang --target=x86_64-unknown-linux-gnu -std=c11 "${strict[@]}" -isystem "$headers" -fPIE -O2 -c "c/$name.c" -o "$made/$name-x86_64.o"
-    "$kit/bin/rattle-link" --target x86_64-unknown-linux-gnu --toolchain "$kit/toolchain" -o "$made/$name-x86_64" "$made/$name-x86_64.o" "$shipped"
-  done
-  run() { "$kit/toolchain/bin/qemu-x86_64" "$kit/toolchain/lib/ld-linux-x86-64.so.2" --library-path "$kit/toolchain/lib" "$@"; }
-  try "for x86-64, with the archive that is shipped, emulated" "$made/example-x86_64" "$made/driver-x86_64"
-fi
+try plain "$made/example" "$made/driver"
+try sanitized "$made/example-sanitized" "$made/driver-sanitized"
 say "all is well"

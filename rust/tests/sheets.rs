@@ -1,5 +1,5 @@
-//! The list of crates/replay, packed from Rust: number, value, action number and block are what the oracle answered, and a block
-//! has as many steps as its sheet has actions, and one more.
+//! The list of crates/replay, packed from Rust: number, value, action number and block are what the oracle answered, and each block
+//! is clean.
 mod common;
 use common::{MODES, packed_with};
 use merinovault::step;
@@ -55,14 +55,13 @@ fn answers_are_the_oracles() {
         by_mode[bits] += 1;
         let value = i64::from_le_bytes(list.array());
         let action = list.u32() as u64;
-        let steps = list.u32();
         let [sheet, book, block] = [sheet, book, block].map(|n| unrolled(list.bytes(n)));
         match packed_with(&book, &sheet, MODES[bits], room) {
             Ok(made) => {
                 let done = (0, made.len() as i64, 0);
                 assert_eq!((number, value, action), done, "record {record}");
                 assert!(made == block, "record {record}: another block");
-                assert_eq!(step(&made), Ok(steps), "record {record}");
+                assert!(step(&made).is_ok(), "record {record}: not clean");
                 let edition = usize::from(sheet[sheet.len() - 4]);
                 blocks_by_edition[edition - 1] += 1;
             }
