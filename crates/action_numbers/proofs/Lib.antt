@@ -1,2 +1,3 @@
+pub mod Measured
 pub mod Numbered
 pub mod Refusals

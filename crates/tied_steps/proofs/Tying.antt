@@ -31,7 +31,8 @@ use Rattle.laws.proofs.Demands.{sub_up, sub_down, judged_signed}
 use Rattle.laws.specs.Packed.{Written}
 use Rattle.laws.proofs.Packed.{is_written, tree_fits}
 use Rattle.action_numbers.specs.Numbered.{body_in_order, own_size, BranchTo, branch_to, Names, Between, Named, Placed}
-use Rattle.action_numbers.proofs.Numbered.{total_append, length_order, names_each, events_named, events_placed}
+use Rattle.action_numbers.proofs.Measured.{total_append}
+use Rattle.action_numbers.proofs.Numbered.{length_order, names_each, events_named, events_placed}
 use Rattle.tied_steps.specs.Places.{StepAt, Begins}
 use Rattle.tied_steps.specs.Own.{own_bytes}
 use Rattle.tied_steps.proofs.Own.{length_own, body_in_order_lem, all_steps, body_fits_in_order, ended, action_at, begins_at, step_is}
