@@ -1,7 +1,7 @@
 -- The fields of an opcode as far as its bodies, as `read_fields` reads them, and how many bytes they are written in. Assumes nothing.
 use Rattle.std.specs.Prelude.{ℕ, ◌+◌, ◌/◌, ◌%◌, List, ltb}
 use Rattle.layout.specs.Tree.{FlatOf, GotoFrame2, GetUrl, GetUrl2, WaitForFrame, OwnerOf, DefineFunction, DefineFunction2, CatchTargetOf, Variable, Register}
-use Rattle.layout.specs.Read.{Text, Terms, Reader, ◌>>=◌, give, tested, read_u8, read_u16, read_flag, read_string, read_param, read_counted, is_shape, has_catch, has_register, read_catch_target}
+use Rattle.layout.specs.Read.{Text, Terms, Reader, give, tested, read_u8, read_u16, read_flag, read_string, read_param, read_counted, is_shape, has_catch, has_register, read_catch_target, ◌>>=◌}
 use Rattle.layout.specs.Strings.{map_flat, map_owner}
 use Rattle.layout.specs.Lengths.{payload_length, owner_length}
 use Rattle.layout.specs.Pack.{spelling}

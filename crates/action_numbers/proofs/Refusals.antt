@@ -3,17 +3,17 @@
 -- number of every answer. Assumes nothing.
 use Rattle.std.proofs.Math.Path.{◌≡◌, refl}
 use Rattle.std.proofs.Common.{sym, ap, ◌∙◌, subst, ⊎_elim, ne_eqb}
-use Rattle.std.specs.Prelude.{◌⊎◌, ℕ, ◌+◌, ◌-◌, ◌≤◌, ◌<◌, Bool, ◌&&◌, not, length, drop, ℤ, pos, leb, eqb}
+use Rattle.std.specs.Prelude.{◌⊎◌, ℕ, ◌+◌, ◌-◌, ◌≤◌, ◌<◌, Bool, ◌&&◌, not, length, drop, pos, leb, eqb}
 use Rattle.std.proofs.Math.Logic.{inl, inr}
 use native.Mathlib.Omega.{arith}
 use Rattle.std.proofs.Math.Bool.{true, false, and-eq-true_iff}
 use Rattle.std.proofs.Math.Option.{Option, none, some, none-ne-some}
-use mathlib.Core.List.{List, [], ◌∷◌, ◌++◌}
+use mathlib.Core.List.{List, [], ◌∷◌}
 use Rattle.std.proofs.lemmas.Bool.{eqb-false, not-true}
 use Rattle.layout.specs.Lists.{All}
-use Rattle.layout.specs.Answers.{Fault, CutShort, UnknownCode, BadField, TooDeep, LeftOver, Refusal, SheetTooLong, BadTrailer, ReadingFault, ActionLenOverflow, BlockLenOverflow, JumpOffsetOverflow, NoRoom, NeverRecorded, StrayBranch, BadBook, Answer, Done, Refused, refusal_action, action}
+use Rattle.layout.specs.Answers.{Fault, CutShort, UnknownCode, BadField, TooDeep, LeftOver, Refusal, ReadingFault, JumpOffsetOverflow, NoRoom, NeverRecorded, StrayBranch, BadBook, Answer, Done, Refused, refusal_action, action}
 use Rattle.layout.specs.Tree.{ActionOf, flat, branch, owner, Try, ActionListOf, empty, more, Actions, ActionsOf, body, CatchOf, no_catch, catch, FinallyOf, no_finally, finally, count, counts, body_count, catch_count, finally_count}
-use Rattle.layout.specs.Read.{Text, Words, Terms, edition1, edition2, edition3, Place, placed, Stop, Read, got, bad, if_nothing_left, deepest, read_body, read_main}
+use Rattle.layout.specs.Read.{Text, Words, Terms, edition1, edition2, edition3, Place, placed, Read, got, bad, if_nothing_left, deepest, read_body, read_main}
 use Rattle.layout.specs.Strings.{map_action, map_actions, map_body, map_catch, map_finally}
 use Rattle.layout.specs.Write.{Position, Event, label_at, branch_at, payload_too_long, body_too_long, lookup, events, block_bytes, block_size}
 use Rattle.layout.specs.Judge.{too_long, distance, is_near, far_unless, judged, or_else, Mode, refusal_if, barred, judged_in, bad_branch, judge}
@@ -31,10 +31,9 @@ use Rattle.laws.proofs.ReadFits.{good_got, good_bad, main_good}
 use Rattle.laws.proofs.Books.{words_clean, spells}
 use Rattle.laws.specs.Packed.{IsMain}
 use Rattle.laws.proofs.Packed.{is_main, main_bytes}
-use Rattle.laws.specs.Branches.{EachBranch}
 use Rattle.laws.proofs.Branches.{or_left, or_right, each_then, Decided, decided}
 use Rattle.laws.specs.Barred.{Stray, stray}
-use Rattle.action_numbers.specs.Numbered.{payload_size, BranchTo, OwnsBody, body_in_order, Names, Named}
+use Rattle.action_numbers.specs.Numbered.{body_in_order, Named}
 use Rattle.action_numbers.proofs.Numbered.{length_order, names_under, names_as, events_named, event_named}
 use Rattle.action_numbers.specs.Refusals.{Far, IllBook, Meets, Says, Uncut, UncutIf, WrongBranch, a_far_branch, a_long_body, a_long_payload, a_stray_branch, an_unrecorded_branch, bad_trailer, is_too_long, too_far}
 

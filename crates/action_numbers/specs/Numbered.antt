@@ -1,15 +1,11 @@
 -- The actions of a tree in sheet order, which of them the number of an event names, and between which of them a label is recorded.
 -- Assumes nothing.
-use Rattle.std.specs.Prelude.{◌≡◌, refl, ℕ, zero, suc, ◌+◌, ◌<◌, Bool, true, List, [], ◌∷◌, ◌++◌, length, ltb, eqb}
-use Rattle.std.proofs.Common.{sym, ap, ◌∙◌, subst, arith, append_assoc, length-append, ltb-true}
-use Rattle.std.proofs.Math.Bool.{false}
+use Rattle.std.specs.Prelude.{◌≡◌, ℕ, ◌+◌, ◌<◌, List, [], ◌∷◌, ◌++◌, length}
 use Rattle.layout.specs.Lists.{All}
-use Rattle.layout.proofs.Lists.{all_append, all_right}
-use Rattle.layout.specs.Tree.{ActionIndex, first_action, next_action, Entry, entry, Owner, Branch, CatchTarget, Action, flat, branch, owner, Try, ActionList, empty, more, Actions, body, Catch, no_catch, catch, Finally, no_finally, finally, count, counts, body_count, catch_count, finally_count}
+use Rattle.layout.specs.Tree.{Owner, Branch, CatchTarget, Action, flat, branch, owner, Try, ActionList, empty, more, Actions, body, Catch, no_catch, catch, Finally, no_finally, finally}
 use Rattle.layout.specs.Payload.{opcode, payload, owner_fields, owner_payload, catch_shape, finally_shape, catch_name, try_payload, framed}
-use Rattle.layout.specs.Write.{size, sizes, body_size, catch_size, finally_size, Position, block_start, moved, to_body, to_try, to_catch, to_finally, past, Event, label_at, branch_at, payload_too_long, body_too_long, event_if, payload_test, body_test, labels_at, trace, traces, trace_body, trace_catch, trace_finally, events}
+use Rattle.layout.specs.Write.{body_size, catch_size, finally_size, Position, Event, label_at, branch_at, payload_too_long, body_too_long}
 use Rattle.layout.specs.Lengths.{total}
-use Rattle.layout.proofs.Lengths.{length-owner_fields, length-owner_payload, length-try_payload}
 use Rattle.laws.specs.Homes.{event_position}
 
 -- ---- the actions in sheet order

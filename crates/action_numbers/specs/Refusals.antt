@@ -1,40 +1,22 @@
 -- The action that a refusal names: of a sheet that reads whole, the one whose payload, body or branch is wrong. A fault's number is
 -- at most that of the bytes read, 18 is answered only where the book of an edition 3 sheet is ill formed, and an i64 holds the
 -- number of every answer. Assumes nothing.
-use Rattle.std.proofs.Math.Path.{◌≡◌, refl}
-use Rattle.std.proofs.Common.{sym, ap, ◌∙◌, subst, ⊎_elim, ne_eqb}
-use Rattle.std.specs.Prelude.{◌⊎◌, ℕ, ◌+◌, ◌-◌, ◌≤◌, ◌<◌, Bool, ◌&&◌, not, length, drop, ℤ, pos, leb, eqb}
-use Rattle.std.proofs.Math.Logic.{inl, inr}
-use native.Mathlib.Omega.{arith}
-use Rattle.std.proofs.Math.Bool.{true, false, and-eq-true_iff}
-use Rattle.std.proofs.Math.Option.{Option, none, some, none-ne-some}
-use mathlib.Core.List.{List, [], ◌∷◌, ◌++◌}
-use Rattle.std.proofs.lemmas.Bool.{eqb-false, not-true}
-use Rattle.layout.specs.Lists.{All}
-use Rattle.layout.specs.Answers.{Fault, CutShort, UnknownCode, BadField, TooDeep, LeftOver, Refusal, SheetTooLong, BadTrailer, ReadingFault, ActionLenOverflow, BlockLenOverflow, JumpOffsetOverflow, NoRoom, NeverRecorded, StrayBranch, BadBook, Answer, Done, Refused, refusal_action, action}
-use Rattle.layout.specs.Tree.{ActionOf, flat, branch, owner, Try, ActionListOf, empty, more, Actions, ActionsOf, body, CatchOf, no_catch, catch, FinallyOf, no_finally, finally, count, counts, body_count, catch_count, finally_count}
-use Rattle.layout.specs.Read.{Text, Words, Terms, edition1, edition2, edition3, Place, placed, Stop, Read, got, bad, if_nothing_left, deepest, read_body, read_main}
-use Rattle.layout.specs.Strings.{map_action, map_actions, map_body, map_catch, map_finally}
-use Rattle.layout.specs.Write.{Position, Event, label_at, branch_at, payload_too_long, body_too_long, lookup, events, block_bytes, block_size}
-use Rattle.layout.specs.Judge.{too_long, distance, is_near, far_unless, judged, or_else, Mode, refusal_if, barred, judged_in, bad_branch, judge}
-use Rattle.layout.specs.Cut.{Edition, First, Second, Third, Cut, main, uncut, sheet_limit, trailer_distance, trailer_edition, is_marked, cut_if, cut_at, cut_if_trailer, cut_if_short, cut}
+use Rattle.std.proofs.Math.Path.{◌≡◌}
+use Rattle.std.specs.Prelude.{ℕ, ◌+◌, ◌<◌, ℤ}
+use Rattle.std.proofs.Math.Bool.{true, false}
+use Rattle.std.proofs.Math.Option.{Option, none, some}
+use mathlib.Core.List.{List, ◌∷◌, ◌++◌}
+use Rattle.layout.specs.Answers.{Fault, Refusal, SheetTooLong, BadTrailer, ActionLenOverflow, BlockLenOverflow, JumpOffsetOverflow, NeverRecorded, StrayBranch}
+use Rattle.layout.specs.Tree.{Actions}
+use Rattle.layout.specs.Read.{Terms, Stop, bad, deepest, read_main}
+use Rattle.layout.specs.Write.{Position, Event, branch_at, lookup, events}
+use Rattle.layout.specs.Judge.{distance, is_near, judged, Mode, barred}
+use Rattle.layout.specs.Cut.{Edition, Third, Cut, main, uncut, cut}
 use Rattle.layout.specs.Book.{book_of}
-use Rattle.layout.specs.Pack.{unless, if_room, pack_tree, edition_terms, spelling, fault_action, pack_read, pack_by, pack_cut, pack, ReadsAs}
-use Rattle.layout.specs.Step.{step}
-use Rattle.layout.specs.Stepping.{AtMost, made, unclean}
-use Rattle.layout.proofs.Stepping.{step_most}
-use Rattle.layout.specs.Order.{IsI64, zero_up}
-use Rattle.layout.proofs.Order.{fault_next, tree_next}
-use Rattle.laws.specs.Fits.{Bytes}
-use Rattle.laws.proofs.Begun.{begins_got, begins_bad, main_begins}
-use Rattle.laws.proofs.ReadFits.{good_got, good_bad, main_good}
-use Rattle.laws.proofs.Books.{words_clean, spells}
-use Rattle.laws.specs.Packed.{IsMain}
-use Rattle.laws.proofs.Packed.{is_main, main_bytes}
+use Rattle.layout.specs.Pack.{edition_terms, fault_action}
 use Rattle.laws.specs.Branches.{EachBranch}
-use Rattle.laws.proofs.Branches.{or_left, or_right, each_then, Decided, decided}
-use Rattle.laws.specs.Barred.{Stray, stray}
-use Rattle.action_numbers.specs.Numbered.{payload_size, BranchTo, OwnsBody, body_in_order, Names, Named}
+use Rattle.laws.specs.Barred.{Stray}
+use Rattle.action_numbers.specs.Numbered.{payload_size, BranchTo, OwnsBody, body_in_order, Names}
 
 -- ---- what a refusal says of the action that it names
 

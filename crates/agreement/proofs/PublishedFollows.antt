@@ -27,7 +27,7 @@ use Rattle.laws.specs.Packed.{Written}
 use Rattle.laws.proofs.Packed.{is_written, tree_fits}
 use Rattle.laws.specs.Nears.{NoneFar}
 use Rattle.laws.proofs.Nears.{near_both, near_of_lem, bits_small, near_left, near_right, branch_near}
-use Rattle.agreement.specs.Published.{Order, as_published, as_written, ui8, UI16, ui16, UI32, ui32, SI16, positive, negative, DOUBLE, little_endian, high_word_first, NonZero, STRING, string, bit_of, BITS, eight_bits, Each, nil, cons, code_alone, code_and_length, Fields, header_and_fields, Simple, simple, simples, Member, here, there, PushData, PushString, PushNull, PushUndefined, PushRegister, PushBoolean, PushDouble, PushInteger, PushConstant8, PushConstant16, GetURL2Flags, from_most, from_least, byte_zero, FlatRecord, ActionSimple, EndAmongActions, ActionGotoFrame, ActionGetURL, ActionStoreRegister, ActionConstantPool, ActionWaitForFrame, ActionSetTarget, ActionGoToLabel, ActionWaitForFrame2, ActionPush, ActionGetURL2, ActionGotoFrame2, ActionGotoFrame2Bias, Lands, reaches, unlabelled, REGISTERPARAM, register_param, FunctionFlags, function_flags, OwnerFields, ActionWith, ActionDefineFunction, ActionDefineFunction2, CatchFields, NoCatch, CatchName, CatchRegister, FinallyFlag, NoFinally, FinallyBlock, Places, placed, labels_here, ActionRecord, ActionFlat, ActionJump, ActionIf, ActionBlock, ActionTry, ActionRecords, end, next, BodyRecords, code, CatchRecords, no_catch_body, CatchBody, FinallyRecords, no_finally_body, FinallyBody, place_if, last_place, Block, action_starts, actions_starts, body_starts, catch_starts, finally_starts, ValueUndisputed, FlatUndisputed, Undisputed, ActionsUndisputed, BodyUndisputed, CatchUndisputed, FinallyUndisputed}
+use Rattle.agreement.specs.Published.{Order, as_published, as_written, ui8, UI16, ui16, UI32, ui32, SI16, positive, negative, DOUBLE, little_endian, high_word_first, NonZero, STRING, string, bit_of, BITS, eight_bits, Each, nil, cons, code_alone, code_and_length, Fields, header_and_fields, simple, simples, Member, here, there, PushData, PushString, PushNull, PushUndefined, PushRegister, PushBoolean, PushDouble, PushInteger, PushConstant8, PushConstant16, GetURL2Flags, from_most, from_least, byte_zero, FlatRecord, ActionSimple, EndAmongActions, ActionGotoFrame, ActionGetURL, ActionStoreRegister, ActionConstantPool, ActionWaitForFrame, ActionSetTarget, ActionGoToLabel, ActionWaitForFrame2, ActionPush, ActionGetURL2, ActionGotoFrame2, ActionGotoFrame2Bias, Lands, reaches, unlabelled, REGISTERPARAM, register_param, FunctionFlags, function_flags, OwnerFields, ActionWith, ActionDefineFunction, ActionDefineFunction2, CatchFields, NoCatch, CatchName, CatchRegister, FinallyFlag, NoFinally, FinallyBlock, Places, placed, labels_here, ActionRecord, ActionFlat, ActionJump, ActionIf, ActionBlock, ActionTry, ActionRecords, end, next, BodyRecords, code, CatchRecords, no_catch_body, CatchBody, FinallyRecords, no_finally_body, FinallyBody, place_if, last_place, Block, action_starts, actions_starts, body_starts, catch_starts, finally_starts, ValueUndisputed, FlatUndisputed, Undisputed, ActionsUndisputed, BodyUndisputed, CatchUndisputed, FinallyUndisputed}
 use Rattle.agreement.specs.PublishedFollows.{Placed, at_of, byte_of, code_of, places_of, simple_of}
 
 -- ---- the definitions' numbers, strings and bits are of the published types

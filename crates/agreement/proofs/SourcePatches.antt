@@ -1,6 +1,6 @@
 -- What source 000's patch_labels does: it puts every branch's bits in place, or ends at the first branch that goes too far.
 -- Assumes nothing.
-use Rattle.std.specs.Prelude.{◌≡◌, Bool, ◌&&◌, length, ℤ, leb, ltb, eqb}
+use Rattle.std.specs.Prelude.{◌≡◌, Bool, ◌&&◌, length, leb, ltb, eqb}
 use Rattle.std.proofs.Math.Path.{refl, sym, ap, ap₂}
 use Rattle.std.proofs.Common.{◌∙◌, length-append}
 use Prim.Native.Nat.{ℕ, suc, ◌+◌, ◌-◌, ◌%◌, ◌≤◌, ◌<◌}
@@ -19,7 +19,7 @@ use Rattle.layout.specs.Judge.{is_near}
 use Rattle.layout.proofs.Lengths.{length-owner_fields, length-owner_payload, length-try_payload, framed_long, length_framed, branch_long, owner_long, try_long, length_bytes, length_body, length_catch}
 use Rattle.laws.proofs.Demands.{sub_up, sub_down}
 use Rattle.laws.proofs.Nears.{near_both}
-use Rattle.agreement.specs.Source.{PendingLabelWrite, Map, ActionEncoder, EncoderError, JumpOffsetOverflow, Result, ok, err, Writing, after, for_each, gotten, get, insert, two_le_bytes, fits_i16, bits_i16, offset_to, patch_offset, patch_position, patch_label}
+use Rattle.agreement.specs.Source.{PendingLabelWrite, Map, ActionEncoder, EncoderError, Result, ok, Writing, after, for_each, gotten, get, insert, two_le_bytes, fits_i16, bits_i16, offset_to, patch_offset, patch_position, patch_label}
 use Rattle.agreement.specs.SourceSteps.{pending_of, recorded, first_of, encoder}
 use Rattle.agreement.proofs.SourceSteps.{pending_append}
 use Rattle.agreement.specs.SourceWrites.{blank}

@@ -13,7 +13,7 @@ use Rattle.layout.specs.Tree.{ActionIndex, Entry, entry}
 use Rattle.layout.specs.Payload.{framed}
 use Rattle.layout.specs.Write.{Position, Event, label_at, branch_at, payload_too_long, body_too_long, event_if, payload_test, labels_at}
 use Rattle.layout.proofs.Lengths.{framed_long}
-use Rattle.agreement.specs.Source.{PendingLabelWrite, Map, ActionEncoder, EncoderError, ActionLenOverflow, BlockLenOverflow, Result, ok, err, Writing, after, ◌>>◌, pass, for_each, if_then, assert, gotten, get, insert, push_here, push_at, put, write_u8, two_le_bytes, write_u16, insert_label, insert_labels, labels_into, labels_per_pos, write_length, write_opcode_and_length, write_action_header}
+use Rattle.agreement.specs.Source.{PendingLabelWrite, Map, ActionEncoder, EncoderError, Result, ok, Writing, after, ◌>>◌, pass, for_each, if_then, assert, gotten, get, insert, push_here, push_at, put, write_u8, two_le_bytes, write_u16, insert_label, insert_labels, labels_into, labels_per_pos, write_length, write_opcode_and_length, write_action_header}
 use Rattle.agreement.specs.SourceSteps.{Does, encoder, first_of, first_overflow, label_all, labels_if, labels_of, list_of, pending_of, perform, recorded, result_of}
 
 pub overflow_append : (xs ys : List Event) → first_overflow (xs ++ ys) ≡ first_of (first_overflow xs) (first_overflow ys)

@@ -1,33 +1,14 @@
 -- Every block that the packer gives follows the published layouts, the three differences apart that Published names:
 -- `follows_published`, `no_other_difference` and `label_starts`, at the end. Assumes nothing.
-use Rattle.std.specs.Prelude.{◌≡◌, Bool, ℤ, pos, negsuc, eqb}
-use Rattle.std.proofs.Math.Path.{refl, sym, ap}
-use Rattle.std.proofs.Common.{ap₂, ◌∙◌, subst, ltb-true, ltb-false, le-ltb, eqb-true}
-use Prim.Native.Nat.{ℕ, zero, suc, ◌+◌, ◌-◌, ◌*◌, ◌/◌, ◌%◌, ◌≤◌, ◌<◌}
-use native.Mathlib.Omega.{arith}
-use Rattle.std.proofs.Math.Bool.{true, false}
-use Rattle.std.proofs.Math.Option.{Option, none, some, none-ne-some}
-use mathlib.Core.List.{List, [], ◌∷◌, ◌++◌, append-nil}
-use Rattle.std.proofs.Math.ListN.{length, length-append}
-use Rattle.std.proofs.Math.IntN.{sub_ℕ}
-use Rattle.std.proofs.Math.Dec.{ltb}
-use Rattle.std.proofs.lemmas.Bool.{eqb-false}
-use Rattle.layout.specs.Lists.{All, each, pick, first_with}
-use Rattle.layout.specs.Numbers.{le16, le32, bit}
-use Rattle.layout.specs.OpCode.{OpCode, SmallOpCode, small_byte, byte, small_op_codes, opcodes, opcode_of}
-use Rattle.layout.specs.Answers.{Done}
-use Rattle.layout.specs.Tree.{PushValue, String, Null, Undefined, Register, Boolean, Float, Integer, Constant, FunctionParam, function_param, Flat, Small, GotoFrame, GetUrl, StoreRegister, ConstantPool, WaitForFrame, SetTarget, GotoLabel, WaitForFrame2, Push, GetUrl2, GotoFrame2, Owner, With, DefineFunction, DefineFunction2, Branch, Jump, If, Variable, ActionIndex, first_action, next_action, Entry, entry, Action, flat, branch, owner, Try, ActionList, empty, more, Actions, body, Catch, no_catch, catch, Finally, no_finally, finally}
-use Rattle.layout.specs.Payload.{zero_ended, strings_bytes, constant_bytes, double_bytes, push_bytes, pushes_bytes, opcode, goto_frame2_bytes, get_url2_bits, payload, params_bytes, owner_op_code, owner_fields, owner_payload, branch_op_code, catch_shape, finally_shape, catch_name, try_payload, framed}
-use Rattle.layout.specs.Write.{body_size, catch_size, finally_size, Position, block_start, moved, to_operand, to_body, to_try, to_catch, to_finally, past, Event, label_at, branch_at, payload_too_long, body_too_long, event_if, payload_test, body_test, labels_at, trace, traces, trace_body, trace_catch, trace_finally, events, later, record_if, lookup, distance_bits, branch_bits, bytes, actions_bytes, body_bytes, catch_bytes, finally_bytes, block_bytes}
-use Rattle.layout.specs.Judge.{judged, too_far, Mode}
-use Rattle.layout.specs.Pack.{pack, ReadsAs}
-use Rattle.layout.proofs.Lengths.{length_le16, length-try_payload, framed_long, framed_short, length_framed, owner_long, length_bytes, length_body, length_catch, length_finally}
-use Rattle.laws.specs.Fits.{Bytes, Clean, ValueFits, ParamFits, Listed, FlatFits, OwnerFits, NameFits, Fits, ActionsFit, BodyFits, CatchFits, FinallyFits}
-use Rattle.laws.specs.Packed.{Written}
-use Rattle.laws.proofs.Packed.{is_written, tree_fits}
-use Rattle.laws.specs.Nears.{NoneFar}
-use Rattle.laws.proofs.Nears.{near_both, near_of_lem, bits_small, near_left, near_right, branch_near}
-use Rattle.agreement.specs.Published.{Order, as_published, as_written, ui8, UI16, ui16, UI32, ui32, SI16, positive, negative, DOUBLE, little_endian, high_word_first, NonZero, STRING, string, bit_of, BITS, eight_bits, Each, nil, cons, code_alone, code_and_length, Fields, header_and_fields, Simple, simple, simples, Member, here, there, PushData, PushString, PushNull, PushUndefined, PushRegister, PushBoolean, PushDouble, PushInteger, PushConstant8, PushConstant16, GetURL2Flags, from_most, from_least, byte_zero, FlatRecord, ActionSimple, EndAmongActions, ActionGotoFrame, ActionGetURL, ActionStoreRegister, ActionConstantPool, ActionWaitForFrame, ActionSetTarget, ActionGoToLabel, ActionWaitForFrame2, ActionPush, ActionGetURL2, ActionGotoFrame2, ActionGotoFrame2Bias, Lands, reaches, unlabelled, REGISTERPARAM, register_param, FunctionFlags, function_flags, OwnerFields, ActionWith, ActionDefineFunction, ActionDefineFunction2, CatchFields, NoCatch, CatchName, CatchRegister, FinallyFlag, NoFinally, FinallyBlock, Places, placed, labels_here, ActionRecord, ActionFlat, ActionJump, ActionIf, ActionBlock, ActionTry, ActionRecords, end, next, BodyRecords, code, CatchRecords, no_catch_body, CatchBody, FinallyRecords, no_finally_body, FinallyBody, place_if, last_place, Block, action_starts, actions_starts, body_starts, catch_starts, finally_starts, ValueUndisputed, FlatUndisputed, Undisputed, ActionsUndisputed, BodyUndisputed, CatchUndisputed, FinallyUndisputed}
+use Rattle.std.specs.Prelude.{eqb}
+use Prim.Native.Nat.{ℕ}
+use Rattle.std.proofs.Math.Option.{Option, none, some}
+use mathlib.Core.List.{List, [], ◌∷◌}
+use Rattle.layout.specs.Lists.{pick}
+use Rattle.layout.specs.OpCode.{OpCode, small_byte}
+use Rattle.layout.specs.Tree.{Small, GotoFrame, GetUrl, StoreRegister, ConstantPool, WaitForFrame, SetTarget, GotoLabel, WaitForFrame2, Push, GetUrl2, GotoFrame2, With, DefineFunction, DefineFunction2, Jump, If, Try}
+use Rattle.layout.specs.Write.{Position, Event, label_at, branch_at, payload_too_long, body_too_long}
+use Rattle.agreement.specs.Published.{Simple, simple, Member, Places}
 
 -- ---- the actions without a field are the published ones, with the published codes
 

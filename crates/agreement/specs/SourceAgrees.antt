@@ -1,30 +1,11 @@
 -- What source 000's ActionEncoder gives for the tree of a sheet agrees with what `pack` answers: `same_as_source`,
 -- `never_panics` and `agrees_once`, at the end. Assumes nothing.
-use Rattle.std.specs.Prelude.{◌≡◌, ℕ, ◌+◌, ◌≤◌, ◌<◌, Bool, length, ℤ, pos}
-use Rattle.std.proofs.Math.Path.{refl, ap}
-use Rattle.std.proofs.Common.{sym, ◌∙◌, subst, arith}
-use Rattle.std.proofs.Math.Bool.{true, false}
+use Rattle.std.specs.Prelude.{◌≡◌, ℕ, ◌≤◌, ◌<◌, length, ℤ, pos}
 use Rattle.std.proofs.Math.Option.{Option, none, some}
-use mathlib.Core.List.{List, [], ◌∷◌, ◌++◌, append-nil}
-use Rattle.std.proofs.Math.IntN.{sub_ℕ}
-use Rattle.std.proofs.Math.Dec.{leb}
-use borrow.Author.Tests.{leb-true, leb-false}
-use Rattle.layout.specs.OpCode.{OpCode, SmallOpCode, small_byte, byte}
+use mathlib.Core.List.{List}
 use Rattle.layout.specs.Answers.{Refusal, NoRoom, Answer, Done, Refused, refusal_number, refusal_value, number, value, length_of}
-use Rattle.layout.specs.Tree.{Actions}
-use Rattle.layout.specs.Payload.{headed, framed}
-use Rattle.layout.specs.Write.{Position, block_start, Event, label_at, branch_at, payload_too_long, body_too_long, trace_body, events, lookup, branch_bits, body_bytes, block_bytes, block_size}
-use Rattle.layout.specs.Judge.{too_long, distance, is_near, far_unless, judged, or_else, first_refused, too_far, judge, plain_mode}
-use Rattle.layout.specs.Pack.{unless, if_room, pack_tree, pack, ReadsAs, output}
-use Rattle.layout.proofs.Order.{tree_next}
-use Rattle.layout.proofs.Lengths.{length_block}
-use Rattle.laws.specs.Fits.{Bytes, WellBody}
-use Rattle.laws.proofs.Modes.{plain_far}
-use Rattle.laws.proofs.Packed.{tree_good}
-use Rattle.agreement.specs.Source.{PendingLabelWrite, ActionEncoder, EncoderError, JumpOffsetOverflow, ActionLenOverflow, BlockLenOverflow, Result, ok, err, panicked, after, for_each, new, patch_label, patch_labels, write_small_action, write_actions, encoding, encode}
-use Rattle.agreement.specs.SourceSteps.{first_overflow, pending_of, recorded, first_of, result_of, encoder}
-use Rattle.agreement.specs.SourceWrites.{blank}
-use Rattle.agreement.specs.SourcePatches.{far_if, far_branch, or_err}
+use Rattle.layout.specs.Pack.{output}
+use Rattle.agreement.specs.Source.{ActionEncoder, EncoderError, JumpOffsetOverflow, ActionLenOverflow, BlockLenOverflow, Result, ok, err, panicked}
 
 -- ---- what agreement is
 

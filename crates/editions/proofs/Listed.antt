@@ -9,7 +9,6 @@ use lib.Seq.{length-take-le}
 use lib.Dec.{leb, ltb}
 use borrow.Author.Tests.{leb-true, ltb-true}
 use Rattle.layout.specs.Lists.{All, pick}
-use Rattle.layout.specs.Read as definition
 use Rattle.laws.specs.Books.{Of, Short, WordsShort}
 use Rattle.editions.specs.Words.{length_at, place_of, is_whole, word_length, word_at, word_of, listed_from, words_by, words_if}
 use Rattle.editions.specs.Allowed.{terms_of}

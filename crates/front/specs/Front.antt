@@ -1,7 +1,7 @@
 -- The front of a body, as it is read. Assumes nothing.
 use Rattle.std.specs.Prelude.{◌≡◌, ℕ, List}
 use Rattle.layout.specs.Tree.{Entry}
-use Rattle.layout.specs.Read.{Terms, placed, Reader, got, give, ◌>>=◌, read_u16, read_entries}
+use Rattle.layout.specs.Read.{Terms, placed, Reader, got, give, read_u16, read_entries, ◌>>=◌}
 
 -- "u16 label entry count; each entry ..; u16 action count"
 pub record Front : Type 0 where

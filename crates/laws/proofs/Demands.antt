@@ -14,7 +14,7 @@ use Rattle.std.proofs.Math.Dec.{leb, ltb}
 use borrow.Author.Tests.{ltb-true, ltb-false, lt-ltb, le-ltb}
 use Rattle.layout.specs.Lists.{pick}
 use Rattle.layout.specs.Answers.{SheetTooLong, Answer, Done}
-use Rattle.layout.specs.Tree.{ActionOf, ActionListOf, ActionsOf, CatchOf, FinallyOf, ActionIndex, first_action, next_action, Entry, Action, flat, branch, owner, Try, ActionList, empty, more, Actions, body, Catch, no_catch, catch, Finally, no_finally, finally}
+use Rattle.layout.specs.Tree.{ActionsOf, CatchOf, FinallyOf, ActionIndex, first_action, next_action, Entry, Action, flat, branch, owner, Try, ActionList, empty, more, Actions, body, Catch, no_catch, catch, Finally, no_finally, finally}
 use Rattle.layout.specs.Payload.{owner_fields, catch_name}
 use Rattle.layout.specs.Write.{body_size, catch_size, finally_size, Position, block_start, Event, moved, to_body, to_try, to_catch, to_finally, past, payload_test, body_test, labels_at, trace, traces, trace_body, trace_catch, trace_finally, events, lookup, distance_bits, branch_bits, body_bytes, block_bytes, block_size}
 use Rattle.layout.specs.Judge.{distance, is_near, judged, too_far, Mode}

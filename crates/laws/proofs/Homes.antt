@@ -9,7 +9,7 @@ use Rattle.layout.specs.Lists.{All}
 use Rattle.layout.proofs.Lists.{all_append, all_left, all_right}
 use Rattle.layout.specs.Tree.{ActionIndex, first_action, next_action, Entry, entry, Owner, With, DefineFunction, DefineFunction2, Action, flat, branch, owner, Try, ActionList, empty, more, Actions, body, Catch, no_catch, catch, Finally, no_finally, finally}
 use Rattle.layout.specs.Payload.{owner_fields}
-use Rattle.layout.specs.Write.{size, sizes, body_size, catch_size, finally_size, Position, block_start, moved, home_in, to_body, to_try, to_catch, to_finally, past, Event, label_at, branch_at, payload_too_long, body_too_long, event_if, payload_test, body_test, labels_at, trace, traces, trace_body, trace_catch, trace_finally, events, block_size}
+use Rattle.layout.specs.Write.{size, sizes, body_size, catch_size, finally_size, Position, block_start, moved, home_in, to_body, to_try, to_catch, to_finally, past, Event, label_at, payload_too_long, body_too_long, event_if, payload_test, body_test, labels_at, trace, traces, trace_body, trace_catch, trace_finally, events, block_size}
 use Rattle.laws.specs.Homes.{Rising, event_position, homes, homes_body, homes_catch, homes_finally, homes_list, homes_of, new_home}
 
 -- what stands in the body has that home, or where the body makes none the one around it

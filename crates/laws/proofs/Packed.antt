@@ -16,7 +16,7 @@ use Rattle.layout.specs.Read.{Text, Terms, deepest, Place, Read, got, bad, read_
 use Rattle.layout.specs.Strings.{map_body}
 use Rattle.layout.specs.Payload.{payload, owner_fields, catch_name}
 use Rattle.layout.specs.Write.{body_size, catch_size, finally_size, Position, Event, label_at, branch_at, payload_too_long, body_too_long, block_start, to_body, to_try, to_catch, to_finally, past, event_if, payload_test, body_test, labels_at, trace, traces, trace_body, trace_catch, trace_finally, events, lookup, block_bytes, block_size}
-use Rattle.layout.specs.Judge.{too_long, too_far, or_else, Mode, bad_branch, judge}
+use Rattle.layout.specs.Judge.{too_long, or_else, Mode, bad_branch, judge}
 use Rattle.layout.specs.Cut.{Edition, Cut, main, uncut, sheet_limit, trailer_distance, trailer_edition, is_marked, cut_if, cut_at, cut_if_trailer, cut_if_short, cut}
 use Rattle.layout.specs.Book.{book_of}
 use Rattle.layout.specs.Pack.{unless, if_room, pack_tree, edition_terms, spelling, pack_read, pack_by, pack_cut, pack, ReadsAs}

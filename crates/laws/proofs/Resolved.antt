@@ -1,11 +1,8 @@
 -- What was read, as it is written: sizes and events with its strings resolved; it has as many actions. Assumes nothing.
-use Rattle.std.specs.Prelude.{◌≡◌, refl, ℕ, ◌+◌, List}
+use Rattle.std.specs.Prelude.{◌≡◌, refl, ℕ, ◌+◌}
 use Rattle.std.proofs.Common.{ap, ap₂}
 use Rattle.layout.specs.Tree.{ActionOf, flat, branch, owner, Try, ActionListOf, empty, more, ActionsOf, body, CatchOf, no_catch, catch, FinallyOf, no_finally, finally, count, counts, body_count, catch_count, finally_count}
-use Rattle.layout.specs.Read.{Text}
 use Rattle.layout.specs.Strings.{map_action, map_actions, map_body, map_catch, map_finally}
-use Rattle.layout.specs.Write.{size, body_size, Position, Event, trace, trace_body}
-use Rattle.layout.specs.Pack.{spelling}
 
 -- its strings do not count
 module _ {S T L : Type 0} (w : S → T) where

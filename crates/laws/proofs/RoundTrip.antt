@@ -14,7 +14,7 @@ use Rattle.layout.specs.Payload.{zero_ended, strings_bytes, constant_bytes, doub
 use Rattle.layout.specs.Write.{size, sizes, body_size, catch_size, finally_size, bytes, actions_bytes, body_bytes, catch_bytes, finally_bytes}
 use Rattle.layout.proofs.Lengths.{length_le16, length-owner_fields, length-owner_payload, length-try_payload, framed_long, framed_short, branch_long, owner_long, try_long, length_body, length_catch, length_finally}
 use Rattle.laws.specs.Meaning.{told_flat, told, told_actions, told_body, told_catch, told_finally}
-use Rattle.laws.specs.Unpack.{Part, take_u8, take_u16, take_u32, take_string, take_strings, take_params, take_value_of, take_values, take_payload, get_url2_of, goto_frame2_of, take_function, take_function2, catch_of, finally_of, owner_of, try_of, action_of, action_if, unpack_one, unpack}
+use Rattle.laws.specs.Unpack.{take_u8, take_u16, take_u32, take_string, take_strings, take_params, take_value_of, take_values, take_payload, get_url2_of, goto_frame2_of, take_function, take_function2, catch_of, finally_of, owner_of, try_of, action_of, action_if, unpack_one, unpack}
 use Rattle.laws.specs.Fits.{Clean, ValueFits, ParamFits, Listed, FlatFits, OwnerFits, NameFits, Fits, ActionsFit, BodyFits, CatchFits, FinallyFits}
 use Rattle.laws.specs.RoundTrip.{recaught, refinally, take_owner}
 

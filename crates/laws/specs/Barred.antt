@@ -1,17 +1,10 @@
 -- What a mode bars: what it asks of a branch, and what its Done says of a tree. Assumes nothing.
-use Rattle.std.specs.Prelude.{◌≡◌, ℕ, Bool, ◌&&◌, not, List}
-use Rattle.std.proofs.Math.Path.{refl}
-use Rattle.std.proofs.Common.{sym, ◌∙◌}
-use Rattle.std.proofs.Math.Bool.{true, false}
-use Rattle.std.proofs.lemmas.Bool.{false≢true}
-use Rattle.std.proofs.Math.Option.{Option, none, some, none-ne-some}
-use Rattle.std.proofs.Math.Dec.{eqb}
-use borrow.Author.Tests.{eqb-true, eq-eqb}
-use Rattle.layout.specs.Answers.{NeverRecorded, StrayBranch, Done}
+use Rattle.std.specs.Prelude.{◌≡◌}
+use Rattle.std.proofs.Math.Bool.{true}
+use Rattle.std.proofs.Math.Option.{Option, none, some}
 use Rattle.layout.specs.Tree.{Actions}
 use Rattle.layout.specs.Write.{Position, lookup, events}
-use Rattle.layout.specs.Judge.{Mode, plain_mode, refusal_if, barred}
-use Rattle.layout.specs.Pack.{pack, ReadsAs}
+use Rattle.layout.specs.Judge.{Mode}
 use Rattle.laws.specs.Branches.{EachBranch}
 
 -- ---- one branch, by its label's final record and its operand's position

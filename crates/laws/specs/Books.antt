@@ -1,20 +1,11 @@
 -- The words of a well_formed book have no zero byte, and so has every string that was read; what a string takes of the sheet.
 -- Assumes nothing.
-use Rattle.std.specs.Prelude.{◌≡◌, Bool, List, [], ◌∷◌, length, get_or, take, drop, leb, eqb}
-use Rattle.std.proofs.Common.{sym, arith}
-use Rattle.std.proofs.Math.Path.{subst}
-use Prim.Native.Nat.{ℕ, zero, suc, ◌+◌, ◌-◌, ◌≤◌, ◌<◌}
-use Rattle.std.proofs.Math.Bool.{true, false}
-use Rattle.std.proofs.Math.Option.{Option, none, some, none-ne-some}
-use Rattle.std.proofs.Math.Dec.{ltb}
+use Rattle.std.specs.Prelude.{List, length}
+use Prim.Native.Nat.{ℕ, ◌<◌}
+use Rattle.std.proofs.Math.Option.{Option, none, some}
 use Rattle.layout.specs.Lists.{All}
-use Rattle.layout.proofs.Lists.{all_take, all_drop}
-use Rattle.layout.specs.Read.{Text, plain, in_book, Words, Terms, edition1, edition2, edition3, Place, placed, Read, repeat, if_nothing_left, read_u16, read_plain, read_word, read_text, read_string}
-use Rattle.layout.specs.Cut.{Edition, First, Second, Third}
-use Rattle.layout.specs.Book.{read_entry, if_read, words_in, book_if, book_at, book_if_trailer, book_of}
-use Rattle.layout.specs.Pack.{edition_terms, spelling}
-use Rattle.laws.specs.Fits.{Bytes, Clean}
-use Rattle.laws.specs.ReadFits.{Good, fine, refused, Spells}
+use Rattle.layout.specs.Read.{Terms}
+use Rattle.laws.specs.Fits.{Clean}
 
 -- ---- the book
 

@@ -1,15 +1,9 @@
 -- Judging in parts: the first of two refusals, the branches among events, the final record of a label, and the first branch that a
 -- rule refuses. Assumes nothing.
-use Rattle.std.specs.Prelude.{◌≡◌, ℕ, Bool, eqb}
-use Rattle.std.proofs.Math.Path.{refl, sym, ap}
-use Rattle.std.proofs.Common.{ap₂, ◌∙◌}
-use Rattle.std.proofs.Math.Bool.{true, false}
-use Rattle.std.proofs.Math.Option.{Option, none, some, none-ne-some}
-use mathlib.Core.List.{List, [], ◌∷◌, ◌++◌}
-use Rattle.layout.specs.Lists.{All}
-use Rattle.layout.specs.Answers.{Refusal}
-use Rattle.layout.specs.Write.{Position, Event, label_at, branch_at, payload_too_long, body_too_long, later, record_if, lookup}
-use Rattle.layout.specs.Judge.{or_else, first_refused}
+use Rattle.std.specs.Prelude.{ℕ}
+use Rattle.std.proofs.Math.Option.{Option, none, some}
+use mathlib.Core.List.{List, [], ◌∷◌}
+use Rattle.layout.specs.Write.{Position, Event, label_at, branch_at, payload_too_long, body_too_long}
 
 -- ---- the branches among events
 

@@ -1,32 +1,14 @@
 -- Demand 3, the bound on a block's length, and the note, over `pack`. Assumes nothing.
-use Rattle.std.specs.Prelude.{◌≡◌, Bool, ◌&&◌, take, ℤ, pos, negsuc}
-use Rattle.std.proofs.Math.Path.{refl, sym, ap}
-use Rattle.std.proofs.Common.{ap₂, ◌∙◌, length-append, take_at}
-use Prim.Native.Nat.{ℕ, suc, ◌+◌, ◌-◌, ◌*◌, ◌%◌, ◌≤◌, ◌<◌}
-use native.Mathlib.Omega.{arith}
-use Rattle.std.proofs.Math.Bool.{true, false}
+use Rattle.std.specs.Prelude.{ℤ, pos, negsuc}
+use Prim.Native.Nat.{ℕ, ◌-◌}
 use Rattle.std.proofs.Math.Option.{Option, none, some}
-use mathlib.Core.List.{List, [], ◌∷◌, ◌++◌}
-use Rattle.std.proofs.Math.ListN.{length, drop}
-use Rattle.std.proofs.Math.Seq.{drop-drop}
-use Rattle.std.proofs.Math.IntN.{sub_ℕ}
-use Rattle.std.proofs.Math.Dec.{leb, ltb}
-use borrow.Author.Tests.{ltb-true, ltb-false, lt-ltb, le-ltb}
+use mathlib.Core.List.{List}
+use Rattle.std.proofs.Math.ListN.{length}
+use Rattle.std.proofs.Math.Dec.{ltb}
 use Rattle.layout.specs.Lists.{pick}
-use Rattle.layout.specs.Answers.{SheetTooLong, Answer, Done}
-use Rattle.layout.specs.Tree.{ActionOf, ActionListOf, ActionsOf, CatchOf, FinallyOf, ActionIndex, first_action, next_action, Entry, Action, flat, branch, owner, Try, ActionList, empty, more, Actions, body, Catch, no_catch, catch, Finally, no_finally, finally}
-use Rattle.layout.specs.Payload.{owner_fields, catch_name}
-use Rattle.layout.specs.Write.{body_size, catch_size, finally_size, Position, block_start, Event, moved, to_body, to_try, to_catch, to_finally, past, payload_test, body_test, labels_at, trace, traces, trace_body, trace_catch, trace_finally, events, lookup, distance_bits, branch_bits, body_bytes, block_bytes, block_size}
-use Rattle.layout.specs.Judge.{distance, is_near, judged, too_far, Mode}
-use Rattle.layout.specs.Read.{Words, Terms, edition1, edition2}
-use Rattle.layout.specs.Cut.{Edition, First, Second, Third, Cut, main, uncut, sheet_limit, trailer_distance, trailer_edition, is_marked, cut_if, cut_at, cut_if_trailer, cut_if_short, cut}
-use Rattle.layout.specs.Book.{book_of}
-use Rattle.layout.specs.Pack.{edition_terms, pack_cut, pack, output, ReadsAs}
-use Rattle.layout.proofs.Lengths.{length_block}
-use Rattle.laws.specs.Meaning.{told, told_actions, told_body, told_catch, told_finally, branch_distance, meaning}
-use Rattle.laws.specs.Fits.{Bytes}
-use Rattle.laws.specs.Nears.{NoneFar}
-use Rattle.laws.specs.Packed.{Written, Packed, sheet_distance, sheet_edition, IsMain}
+use Rattle.layout.specs.Tree.{ActionOf, ActionListOf, ActionsOf, CatchOf, FinallyOf, flat, branch, owner, Try, empty, more, body, no_catch, catch, no_finally, finally}
+use Rattle.layout.specs.Read.{Words, Terms}
+use Rattle.laws.specs.Packed.{sheet_distance}
 
 -- ---- the sixteen bits of a near branch say its distance
 

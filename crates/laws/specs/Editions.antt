@@ -1,31 +1,16 @@
 -- What two editions have in common: a sheet is answered the same in both, but where the one with the fewer label numbers refuses a
 -- label number, which the sheet then names. Assumes nothing.
-use Rattle.std.proofs.Math.Path.{◌≡◌, refl, sym, ap, subst}
-use Rattle.std.proofs.Common.{◌∙◌, arith, ⊎_elim, length-append}
-use Prim.Native.Nat.{ℕ, zero, suc, ◌+◌, ◌-◌, ◌/◌, ◌%◌, ◌≤◌, ◌<◌}
-use Rattle.std.specs.Prelude.{Bool, ◌&&◌, ◌⊎◌, length, drop, eqb}
-use Rattle.std.proofs.Math.Bool.{true, false}
-use Rattle.std.proofs.Math.Logic.{inl, inr}
-use Rattle.std.proofs.Math.Option.{Option, none, some}
+use Rattle.std.proofs.Math.Path.{◌≡◌}
+use Prim.Native.Nat.{ℕ, ◌+◌, ◌≤◌, ◌<◌}
 use mathlib.Core.List.{List, [], ◌∷◌, ◌++◌}
-use Rattle.std.proofs.Math.ListN.{take, length-drop}
-use Rattle.std.proofs.Math.Seq.{take-append-le}
-use Rattle.std.proofs.lemmas.List.{drop-append-le}
-use Rattle.std.proofs.Math.Dec.{leb, ltb}
-use borrow.Author.Tests.{leb-true, ltb-true, ltb-false}
-use Rattle.layout.specs.Lists.{pick, first_with}
-use Rattle.layout.specs.Numbers.{u16_at, u32_at, le16}
-use Rattle.layout.specs.Answers.{Fault, BadField, Refusal, ReadingFault, Done, Refused}
-use Rattle.layout.specs.OpCode.{OpCode, opcode_of}
-use Rattle.layout.specs.PushKind.{PushKind, kind_of}
-use Rattle.layout.specs.Tree.{String, function_param, CatchTargetOf, Variable, Entry, entry, ActionOf, flat, branch, owner, Try, ActionListOf, empty, more, ActionsOf, Actions, body, CatchOf, no_catch, catch, FinallyOf, no_finally, finally, count, body_count, catch_count}
-use Rattle.layout.specs.Read.{Text, Words, Terms, edition1, edition2, deepest, Place, placed, Stop, Read, got, bad, ahead, Reader, chain, more_begun, behind, if_whole, if_within, if_nothing_left, tested, repeat, is_shape, has_catch, has_finally, has_register, read_u8, read_u16, read_counted, read_string, read_value_of, read_value_if, read_value, read_param, read_label, read_entries, read_catch_target, read_catch, read_finally, read_try, read_fields, read_fields_if, read_action, read_actions, read_body_with, read_body, read_main}
+use Rattle.layout.specs.Numbers.{u16_at, le16}
+use Rattle.layout.specs.Answers.{Fault, BadField, Refusal, ReadingFault, Refused}
+use Rattle.layout.specs.Tree.{Entry, entry, ActionOf, flat, branch, owner, Try, ActionListOf, empty, more, ActionsOf, Actions, body, CatchOf, no_catch, catch, FinallyOf, no_finally, finally}
+use Rattle.layout.specs.Read.{Place, Stop, Read, got, bad}
 use Rattle.layout.specs.Strings.{map_action, map_actions, map_body, map_catch, map_finally}
 use Rattle.layout.specs.Judge.{Mode}
-use Rattle.layout.specs.Cut.{Edition, First, Second, Third, edition_number, editions, edition_of, Cut, main, uncut, sheet_limit, trailer_distance, trailer_edition, is_marked, cut_if, cut_at, cut_if_trailer, cut_if_short, cut}
-use Rattle.layout.specs.Book.{book_of}
-use Rattle.layout.specs.Pack.{edition_terms, spelling, fault_action, pack_read, pack, ReadsAs}
-use Rattle.layout.proofs.Order.{uncut_first, read_next, fault_next}
+use Rattle.layout.specs.Cut.{Edition, First, edition_number, Cut, main, uncut, cut}
+use Rattle.layout.specs.Pack.{pack, ReadsAs}
 
 -- ---- the label numbers that a tree names, in its entries and its branches, are under a bound
 

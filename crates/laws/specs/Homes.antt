@@ -1,15 +1,8 @@
 -- Homes name the function bodies of a block: no two bodies share one, and whatever is written has one of them. Assumes nothing.
-use Rattle.std.specs.Prelude.{◌≡◌, refl, ℕ, ◌+◌, ◌≤◌, ◌<◌, Bool, length, ltb, eqb}
-use Rattle.std.proofs.Common.{subst, arith}
-use Rattle.std.proofs.Math.Bool.{true, false}
-use mathlib.Core.List.Memᴰ.{head as first}
-use mathlib.Core.List.Memᴰ.{tail as further}
-use mathlib.Core.List.{List, [], ◌∷◌, ◌++◌, head_d, Memᴰ as Among}
-use Rattle.layout.specs.Lists.{All}
-use Rattle.layout.proofs.Lists.{all_append, all_left, all_right}
-use Rattle.layout.specs.Tree.{ActionIndex, first_action, next_action, Entry, entry, Owner, With, DefineFunction, DefineFunction2, Action, flat, branch, owner, Try, ActionList, empty, more, Actions, body, Catch, no_catch, catch, Finally, no_finally, finally}
-use Rattle.layout.specs.Payload.{owner_fields}
-use Rattle.layout.specs.Write.{size, sizes, body_size, catch_size, finally_size, Position, block_start, moved, home_in, to_body, to_try, to_catch, to_finally, past, Event, label_at, branch_at, payload_too_long, body_too_long, event_if, payload_test, body_test, labels_at, trace, traces, trace_body, trace_catch, trace_finally, events, block_size}
+use Rattle.std.specs.Prelude.{ℕ, ◌+◌, ◌≤◌}
+use mathlib.Core.List.{List, [], ◌∷◌, ◌++◌}
+use Rattle.layout.specs.Tree.{Owner, With, DefineFunction, DefineFunction2, Action, flat, branch, owner, Try, ActionList, empty, more, Actions, body, Catch, no_catch, catch, Finally, no_finally, finally}
+use Rattle.layout.specs.Write.{Position, block_start, to_body, to_try, to_catch, to_finally, past, Event, label_at, branch_at, payload_too_long, body_too_long}
 
 -- ---- the homes of a block
 

@@ -1,21 +1,13 @@
 -- The modes. A stricter mode answers what a weaker one does, or a refusal that it asks for and the weaker one does not. Where a
 -- mode bars no branch, it answers what plain mode answers. Assumes nothing.
-use Rattle.std.specs.Prelude.{◌≡◌, refl, Bool, ◌&&◌, List, eqb}
-use Rattle.std.proofs.Common.{sym, ap₂, ◌∙◌, subst, arith}
-use Prim.Native.Nat.{ℕ, ◌+◌}
-use Rattle.std.proofs.Math.Bool.{true, false, not}
-use Rattle.std.proofs.lemmas.Bool.{false≢true}
-use Rattle.std.proofs.Math.Option.{Option, none, some, none-ne-some}
-use Rattle.layout.specs.Answers.{Refusal, NeverRecorded, StrayBranch, Answer, Done, Refused}
-use Rattle.layout.specs.Tree.{Actions, ActionsOf}
-use Rattle.layout.specs.Read.{Text, Words, Terms, Read, got, bad, deepest, read_main}
-use Rattle.layout.specs.Strings.{map_body}
-use Rattle.layout.specs.Write.{Position, Event, lookup, events}
-use Rattle.layout.specs.Judge.{judged, or_else, too_long, Mode, plain_mode, refusal_if, barred, judged_in, far_by, bad_by, judge}
-use Rattle.layout.specs.Cut.{Cut, main, uncut, cut}
-use Rattle.layout.specs.Book.{book_of}
-use Rattle.layout.specs.Pack.{unless, block_in, pack_tree, edition_terms, spelling, pack_read, pack_by, pack_cut, pack, ReadsAs}
-use Rattle.layout.proofs.Order.{tree_next}
+use Rattle.std.specs.Prelude.{◌≡◌, Bool, List}
+use Prim.Native.Nat.{ℕ}
+use Rattle.std.proofs.Math.Bool.{true, false}
+use Rattle.std.proofs.Math.Option.{Option, none, some}
+use Rattle.layout.specs.Answers.{Refusal, NeverRecorded, StrayBranch, Answer, Refused}
+use Rattle.layout.specs.Tree.{Actions}
+use Rattle.layout.specs.Write.{lookup, events}
+use Rattle.layout.specs.Judge.{Mode, barred}
 use Rattle.laws.specs.Branches.{EachBranch}
 
 -- ---- the modes, and what they refuse besides

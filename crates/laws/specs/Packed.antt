@@ -1,27 +1,16 @@
 -- What a Done answer says: the sheet reads whole, nothing in its tree is too long or too far, there is room, and the block
 -- is the tree's. Assumes nothing.
-use Rattle.std.specs.Prelude.{◌≡◌, Bool, ◌&&◌, List, [], ◌∷◌, ◌++◌, drop, ltb}
-use Rattle.std.proofs.Math.Path.{refl, sym, ap, ap₂}
-use Rattle.std.proofs.Common.{◌∙◌, subst, arith, length-take, length-drop}
-use Prim.Native.Nat.{ℕ, ◌+◌, ◌-◌, ◌*◌, ◌≤◌, ◌<◌}
-use Rattle.std.proofs.Math.Bool.{true, false}
-use Rattle.std.proofs.Math.Option.{Option, none, some, none-ne-some}
+use Rattle.std.specs.Prelude.{◌≡◌, List, drop}
+use Prim.Native.Nat.{ℕ, ◌+◌, ◌-◌, ◌≤◌}
+use Rattle.std.proofs.Math.Option.{Option, none, some}
 use Rattle.std.proofs.Math.ListN.{length, take}
-use Rattle.std.proofs.Math.Dec.{leb}
-use borrow.Author.Tests.{ltb-false, leb-true}
-use Rattle.layout.proofs.Lists.{all_take, all_drop}
-use Rattle.layout.specs.Answers.{Refusal, ActionLenOverflow, BlockLenOverflow, Done, Refused}
-use Rattle.layout.specs.Tree.{Actions, ActionsOf, ActionIndex, first_action, next_action, Entry, Action, flat, branch, owner, Try, ActionList, empty, more, body, Catch, no_catch, catch, Finally, no_finally, finally}
-use Rattle.layout.specs.Read.{Text, Terms, deepest, Place, Read, got, bad, read_main}
+use Rattle.layout.specs.Tree.{Actions, ActionsOf}
+use Rattle.layout.specs.Read.{Text, Terms, deepest, Place, got, read_main}
 use Rattle.layout.specs.Strings.{map_body}
-use Rattle.layout.specs.Payload.{payload, owner_fields, catch_name}
-use Rattle.layout.specs.Write.{body_size, catch_size, finally_size, Position, Event, label_at, branch_at, payload_too_long, body_too_long, block_start, to_body, to_try, to_catch, to_finally, past, event_if, payload_test, body_test, labels_at, trace, traces, trace_body, trace_catch, trace_finally, events, lookup, block_bytes, block_size}
-use Rattle.layout.specs.Judge.{too_long, too_far, or_else, Mode, bad_branch, judge}
-use Rattle.layout.specs.Cut.{Edition, Cut, main, uncut, sheet_limit, trailer_distance, trailer_edition, is_marked, cut_if, cut_at, cut_if_trailer, cut_if_short, cut}
-use Rattle.layout.specs.Book.{book_of}
-use Rattle.layout.specs.Pack.{unless, if_room, pack_tree, edition_terms, spelling, pack_read, pack_by, pack_cut, pack, ReadsAs}
-use Rattle.layout.proofs.Order.{tree_next}
-use Rattle.laws.specs.Fits.{Bytes, Well, WellActions, WellBody, WellCatch, WellFinally, Fits, ActionsFit, BodyFits, CatchFits, FinallyFits}
+use Rattle.layout.specs.Write.{Event, events, block_bytes, block_size}
+use Rattle.layout.specs.Judge.{too_long, too_far}
+use Rattle.layout.specs.Cut.{Edition, sheet_limit, trailer_distance, trailer_edition}
+use Rattle.layout.specs.Pack.{spelling, ReadsAs}
 
 -- ---- a tree that is written
 

@@ -1,7 +1,7 @@
 -- Lists: a property of all elements, a function applied to each, the first element with a number. Assumes nothing.
 use Rattle.std.specs.Prelude.{◌≡◌, refl, ℕ, zero, suc, Bool, true, false, List, [], ◌∷◌, ◌++◌, take, drop, eqb}
 use Rattle.std.proofs.Common.{sym, ap, ◌∙◌, arith, eqb-true}
-use Rattle.std.proofs.Math.Option.{Option, none, some}
+use Rattle.std.proofs.Math.Option.{some}
 use Rattle.layout.specs.Lists.{All, first_with, pick}
 
 -- what was found has the number

@@ -1,5 +1,5 @@
 -- Answers of the stepping check, worked by hand. Assumes nothing.
-use Rattle.std.specs.Prelude.{◌≡◌, refl, ℕ, List, [], ◌∷◌, pos}
+use Rattle.std.specs.Prelude.{refl}
 use Rattle.layout.specs.Lists.{All, pick}
 use Rattle.layout.specs.Answers.{refusal_number, refusal_value, number, value}
 use Rattle.layout.specs.Step.{reach, ended, walk, step_from, step}

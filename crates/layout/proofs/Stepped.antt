@@ -1,8 +1,7 @@
 -- Stepping without an allowance: a byte string as a sequence of steps, and what the stepping check must answer for it. Stepping
 -- proves that it answers just that. Assumes nothing.
-use Rattle.std.specs.Prelude.{◌≡◌, ℕ, suc, ◌+◌, ◌*◌, ◌≤◌, ◌<◌, List, [], ◌∷◌, ◌++◌, length}
+use Rattle.std.specs.Prelude.{◌≡◌, ℕ, suc, ◌+◌, ◌≤◌, List, ◌++◌, length}
 use Rattle.std.proofs.Common.{sym, ap, ◌∙◌, subst, arith, append_assoc, append-nil, length-append}
-use Rattle.layout.specs.Answers.{Answer, Done, Refused, Unclean}
 use Rattle.layout.specs.Stepped.{IsStep, Steps, end_step, first, long, nothing, short}
 
 pub end_step_lem : IsStep end_step

@@ -2,7 +2,7 @@
 use Rattle.std.specs.Prelude.{ℕ, ◌-◌, Bool, true, false, ◌&&◌, List, [], ◌∷◌, length, get_or, take, drop, leb, eqb}
 use Rattle.std.proofs.Math.Option.{Option, none, some}
 use Rattle.layout.specs.Numbers.{u16_at, u32_at}
-use Rattle.layout.specs.Read.{Words, placed, Read, got, bad, Reader, chain, ◌>>=◌, repeat, if_nothing_left, read_u16, read_spelling}
+use Rattle.layout.specs.Read.{Words, placed, Read, got, bad, Reader, chain, repeat, if_nothing_left, read_u16, read_spelling, ◌>>=◌}
 
 -- "u16 length and bytes", which "hold no NUL"; here 65,535 is a plain length
 unfoldable pub read_entry : List ℕ → Reader (List ℕ)

@@ -1,8 +1,7 @@
 -- Answers of the stepping check, worked by hand. Assumes nothing.
-use Rattle.std.specs.Prelude.{◌≡◌, refl, ℕ, List, [], ◌∷◌, pos}
-use Rattle.layout.specs.Lists.{All, pick}
-use Rattle.layout.specs.Answers.{refusal_number, refusal_value, number, value}
-use Rattle.layout.specs.Step.{reach, ended, walk, step_from, step}
+use Rattle.std.specs.Prelude.{◌≡◌, ℕ, List, [], ◌∷◌, pos}
+use Rattle.layout.specs.Answers.{number, value}
+use Rattle.layout.specs.Step.{step}
 
 -- a byte string; the number and the value
 pub data Case : Type 0 where

@@ -1,7 +1,6 @@
 -- Stepping without an allowance: a byte string as a sequence of steps, and what the stepping check must answer for it. Stepping
 -- proves that it answers just that. Assumes nothing.
 use Rattle.std.specs.Prelude.{◌≡◌, ℕ, suc, ◌+◌, ◌*◌, ◌≤◌, ◌<◌, List, [], ◌∷◌, ◌++◌, length}
-use Rattle.std.proofs.Common.{sym, ap, ◌∙◌, subst, arith, append_assoc, append-nil, length-append}
 use Rattle.layout.specs.Answers.{Answer, Done, Refused, Unclean}
 
 -- the bytes of one step: "one byte for an opcode under 80, else 3 plus the declared length"

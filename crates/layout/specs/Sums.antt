@@ -1,21 +1,12 @@
 -- The sums worked by hand: P1 to P12, each sheet, without note, and the block that it packs to; and answers by the mode, by the
 -- edition, by the action that they name and by the book. Assumes nothing.
-use Rattle.std.specs.Prelude.{◌≡◌, refl, ℕ, true, false, List, [], ◌∷◌, ◌++◌, length, ℤ, pos}
-use Rattle.std.proofs.Math.Option.{some}
-use Rattle.layout.specs.Lists.{All, each, pick, first_with}
-use Rattle.layout.specs.Numbers.{le16, le32, bit}
-use Rattle.layout.specs.Answers.{NeverRecorded, StrayBranch, JumpOffsetOverflow, Done, fault_number, refusal_number, refusal_value, refusal_action, number, value, action, length_of}
-use Rattle.layout.specs.OpCode.{small_byte, byte, small_op_codes, opcodes, opcode_of}
-use Rattle.layout.specs.PushKind.{kind_byte, push_kinds, kind_of}
-use Rattle.layout.specs.Read.{edition1, edition2, edition3, read_plain, read_word, read_text, if_whole, if_within, tested, repeat, first_zero, if_no_zero, if_nothing_left, read_u8, read_u16, read_u32, read_u64, read_bytes, read_flag, read_spelling, read_counted, has_catch, has_finally, has_register, is_shape, read_string, read_value_of, read_value_if, read_value, read_param, read_label, read_entries, read_catch_target, read_catch, read_finally, read_try, read_fields, read_fields_if, read_action, read_actions, read_body_with, read_body, read_main}
-use Rattle.layout.specs.Tree.{count}
-use Rattle.layout.specs.Strings.{map_value, map_param, map_flat, map_owner, map_target, map_action}
-use Rattle.layout.specs.Payload.{zero_ended, strings_bytes, constant_bytes, double_bytes, push_bytes, pushes_bytes, opcode, goto_frame2_bytes, get_url2_bits, payload, owner_op_code, params_bytes, owner_fields, owner_payload, branch_op_code, catch_shape, finally_shape, catch_name, try_payload, headed, framed}
-use Rattle.layout.specs.Write.{Event, label_at, branch_at, position, home_in, moved, event_if, payload_test, body_test, labels_at, events, later, record_if, lookup, distance_bits, branch_bits, block_bytes, block_size, size, trace, bytes}
-use Rattle.layout.specs.Judge.{too_long, distance, is_near, far_unless, judged, or_else, Mode, plain_mode, refusal_if, barred, judged_in, first_refused, bad_branch, judge}
-use Rattle.layout.specs.Cut.{edition_number, editions, edition_of, trailer_distance, trailer_edition, is_marked, cut_if, cut_at, cut_if_trailer, cut_if_short, cut}
-use Rattle.layout.specs.Book.{empty_book, read_entry, if_read, words_in, book_distance, book_count, is_book_marked, book_if, book_at, book_if_trailer, book_of}
-use Rattle.layout.specs.Pack.{unless, if_room, pack_tree, edition_terms, spelling, fault_action, pack_read, pack_by, pack_cut, pack, output}
+use Rattle.std.specs.Prelude.{◌≡◌, ℕ, true, false, List, [], ◌∷◌, ◌++◌, length, ℤ, pos}
+use Rattle.layout.specs.Numbers.{le16, le32}
+use Rattle.layout.specs.Answers.{Done, number, value, action, length_of}
+use Rattle.layout.specs.Write.{Event, label_at, branch_at, position}
+use Rattle.layout.specs.Judge.{Mode, plain_mode}
+use Rattle.layout.specs.Book.{empty_book}
+use Rattle.layout.specs.Pack.{pack}
 
 -- a main body, and the block
 pub data Sum : Type 0 where

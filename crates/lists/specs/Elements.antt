@@ -1,7 +1,7 @@
 -- The elements of a list: a string that stands after some bytes, and how many bytes an element is written in. Assumes nothing.
 use Rattle.std.specs.Prelude.{ℕ, ◌+◌, List}
 use Rattle.layout.specs.Tree.{PushValueOf, Constant}
-use Rattle.layout.specs.Read.{Text, Terms, Reader, ◌>>=◌, read_bytes, read_string}
+use Rattle.layout.specs.Read.{Text, Terms, Reader, read_bytes, read_string, ◌>>=◌}
 use Rattle.layout.specs.Strings.{map_value}
 use Rattle.layout.specs.Lengths.{push_length}
 use Rattle.layout.specs.Pack.{spelling}

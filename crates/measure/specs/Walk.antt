@@ -3,7 +3,7 @@
 use Rattle.std.specs.Prelude.{◌≡◌, ℕ, zero, suc, ◌+◌, ◌-◌, ◌*◌, ◌≤◌, ◌<◌, List, [], ◌∷◌, ◌++◌, get_or, set, ltb, eqb}
 use Rattle.layout.specs.Lists.{pick}
 use Rattle.layout.specs.Tree.{Branch, ActionOf, branch, ActionsOf, count, body_count}
-use Rattle.layout.specs.Read.{Text, placed, stop, Read, got, bad, Reader, chain, give, ◌>>=◌, behind}
+use Rattle.layout.specs.Read.{Text, placed, stop, Read, got, bad, Reader, chain, give, behind, ◌>>=◌}
 use Rattle.layout.specs.Write.{size, Position, position, moved, Event, label_at, branch_at, payload_too_long, body_too_long, trace, body_test}
 use Rattle.layout.specs.Lengths.{total}
 use Rattle.laws.specs.Resolved.{action_size, action_trace, body_length, body_events}

@@ -1,11 +1,11 @@
 -- "A packing answer depends only on the sheet, the mode, the output's length, whether the book is well formed, its entry count, and
 -- the entries that the sheet names"; in editions 1 and 2 it does not depend on the book. Assumes nothing.
-use Rattle.std.specs.Prelude.{◌≡◌, ℕ, length, get_or}
+use Rattle.std.specs.Prelude.{◌≡◌, ℕ, length}
 use Rattle.std.proofs.Math.Path.{refl, ap}
 use Rattle.std.proofs.Common.{sym, ◌∙◌}
 use Rattle.std.proofs.Math.Option.{none, some}
 use mathlib.Core.List.{List, [], ◌∷◌}
-use Rattle.layout.specs.Lists.{All, each}
+use Rattle.layout.specs.Lists.{each}
 use Rattle.layout.specs.Tree.{ActionsOf}
 use Rattle.layout.specs.Read.{Text, plain, in_book, Words, Terms, edition1, edition2, edition3, deepest, Read, got, bad, read_main}
 use Rattle.layout.specs.Strings.{map_body}

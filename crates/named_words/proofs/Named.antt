@@ -1,16 +1,12 @@
 -- The strings of a tree, front to back, and the entries of a book that a sheet names. Assumes nothing.
-use Rattle.std.specs.Prelude.{◌≡◌, ℕ}
+use Rattle.std.specs.Prelude.{◌≡◌}
 use Rattle.std.proofs.Math.Path.{refl, ap, ap₂}
 use Rattle.std.proofs.Common.{sym, ◌∙◌}
-use Rattle.std.proofs.Math.Option.{Option, none, some}
 use mathlib.Core.List.{List, [], ◌∷◌, ◌++◌}
 use Rattle.layout.specs.Lists.{All, each}
 use Rattle.layout.proofs.Lists.{all_left, all_right}
 use Rattle.layout.specs.Tree.{PushValueOf, String, Null, Undefined, Register, Boolean, Float, Integer, Constant, FunctionParamOf, function_param, FlatOf, Small, GotoFrame, GetUrl, StoreRegister, ConstantPool, WaitForFrame, SetTarget, GotoLabel, WaitForFrame2, Push, GetUrl2, GotoFrame2, OwnerOf, With, DefineFunction, DefineFunction2, CatchTargetOf, Variable, ActionOf, flat, branch, owner, Try, ActionListOf, empty, more, ActionsOf, body, CatchOf, no_catch, catch, FinallyOf, no_finally, finally}
-use Rattle.layout.specs.Read.{Text, plain, in_book, Words, Terms, deepest, Read, got, bad, read_main}
 use Rattle.layout.specs.Strings.{map_value, map_param, map_flat, map_owner, map_target, map_action, map_actions, map_body, map_catch, map_finally}
-use Rattle.layout.specs.Cut.{Cut, main, uncut, cut}
-use Rattle.layout.specs.Pack.{edition_terms}
 use Rattle.named_words.specs.Named.{in_action, in_actions, in_body, in_catch, in_finally, in_flat, in_name, in_owner, in_param, in_target, in_value, joined}
 
 -- what holds of each string of a Try holds of those of the catch's name and of the bodies

@@ -1,10 +1,9 @@
 -- What editions 2 and 3 have in common: a sheet that reads whole and names no entry is answered the same in both; and so is any
 -- sheet that does not come to an entry number. Assumes nothing.
-use Rattle.std.specs.Prelude.{◌≡◌, refl, ◌⊎◌, ℕ, ◌+◌, ◌≤◌, List, [], ◌∷◌, length}
+use Rattle.std.specs.Prelude.{◌≡◌, refl, ◌⊎◌, ℕ, List, [], ◌∷◌, length}
 use Rattle.std.proofs.Math.Path.{sym, ap}
 use Rattle.std.proofs.Common.{◌∙◌, inl, inr, ⊎_elim, arith}
 use Rattle.std.proofs.Math.Option.{Option, none, some}
-use Rattle.layout.specs.Numbers.{u16_at}
 use Rattle.layout.specs.Tree.{Actions, ActionsOf}
 use Rattle.layout.specs.Read.{Text, plain, in_book, Words, Terms, edition2, edition3, deepest, Place, Read, got, read_main}
 use Rattle.layout.specs.Judge.{Mode}

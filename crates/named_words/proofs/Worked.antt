@@ -1,6 +1,6 @@
 -- A sheet worked by hand: the entries that it names, in its own actions, in a function's body, and as the name of a catch.
 -- Assumes nothing.
-use Rattle.std.specs.Prelude.{◌≡◌, refl, ℕ, List, [], ◌∷◌}
+use Rattle.std.specs.Prelude.{◌≡◌, refl, [], ◌∷◌}
 use Rattle.layout.specs.Lists.{each, pick, first_with}
 use Rattle.layout.specs.Numbers.{le16, le32}
 use Rattle.layout.specs.OpCode.{small_byte, byte, small_op_codes, opcodes, opcode_of}

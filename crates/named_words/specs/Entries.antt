@@ -1,21 +1,12 @@
 -- "A packing answer depends only on the sheet, the mode, the output's length, whether the book is well formed, its entry count, and
 -- the entries that the sheet names"; in editions 1 and 2 it does not depend on the book. Assumes nothing.
 use Rattle.std.specs.Prelude.{◌≡◌, ℕ, length, get_or}
-use Rattle.std.proofs.Math.Path.{refl, ap}
-use Rattle.std.proofs.Common.{sym, ◌∙◌}
 use Rattle.std.proofs.Math.Option.{none, some}
-use mathlib.Core.List.{List, [], ◌∷◌}
-use Rattle.layout.specs.Lists.{All, each}
-use Rattle.layout.specs.Tree.{ActionsOf}
-use Rattle.layout.specs.Read.{Text, plain, in_book, Words, Terms, edition1, edition2, edition3, deepest, Read, got, bad, read_main}
-use Rattle.layout.specs.Strings.{map_body}
-use Rattle.layout.specs.Judge.{Mode}
-use Rattle.layout.specs.Cut.{Edition, First, Second, Third, Cut, main, uncut, cut}
+use mathlib.Core.List.{List, []}
+use Rattle.layout.specs.Lists.{All}
+use Rattle.layout.specs.Read.{Words}
 use Rattle.layout.specs.Book.{book_of}
-use Rattle.layout.specs.Pack.{edition_terms, pack_read, pack_by, pack_cut, pack}
-use Rattle.named_words.specs.Named.{in_body, entry_numbers, named_read, named_by, named_cut, named}
-use Rattle.named_words.specs.Follows.{map_read}
-use Rattle.named_words.specs.Respelt.{respell, plainly}
+use Rattle.named_words.specs.Named.{named}
 
 -- ---- only the entries that are named count
 

@@ -1,22 +1,10 @@
 -- Two readings of one main body, by terms that differ only in how strings are read: where the one's strings follow the other's, so
 -- does the whole. Assumes nothing.
-use Rattle.std.specs.Prelude.{◌≡◌, ◌⊎◌, Bool, ◌&&◌, List, [], ◌∷◌, length, eqb}
-use Rattle.std.proofs.Math.Path.{refl, ap}
-use Rattle.std.proofs.Common.{subst, inl, inr}
-use Prim.Native.Nat.{ℕ, zero, suc, ◌+◌}
-use Rattle.std.proofs.Math.Bool.{true, false}
-use Rattle.std.proofs.Math.Option.{Option, none, some}
-use Rattle.std.proofs.Math.Dec.{leb, ltb}
-use Rattle.layout.specs.Lists.{All, each}
-use Rattle.layout.proofs.Lists.{all_left, all_right}
+use Rattle.std.specs.Prelude.{List}
+use Prim.Native.Nat.{ℕ}
+use Rattle.layout.specs.Lists.{All}
 use Rattle.layout.specs.Answers.{Fault}
-use Rattle.layout.specs.OpCode.{OpCode, opcode_of}
-use Rattle.layout.specs.PushKind.{PushKind, kind_of}
-use Rattle.layout.specs.Tree.{CatchTargetOf, entry, ActionOf, Try, ActionsOf, CatchOf, count, body_count, catch_count}
-use Rattle.layout.specs.Read.{Text, plain, in_book, Terms, deepest, Place, placed, Stop, Read, got, bad, Reader, chain, ◌>>=◌, give, more_begun, behind, if_nothing_left, tested, repeat, is_shape, has_catch, has_finally, has_register, read_u8, read_u16, read_u32, read_u64, read_flag, read_counted, read_string, read_value_of, read_value_if, read_value, read_param, read_label, read_entries, read_catch_target, read_catch, read_finally, read_try, read_fields, read_fields_if, read_action, read_actions, read_body_with, read_body, read_main}
-use Rattle.layout.specs.Strings.{map_value, map_param, map_flat, map_owner, map_target, map_action, map_actions, map_body, map_catch, map_finally}
-use Rattle.laws.proofs.Resolved.{count_same, body_same, catch_same}
-use Rattle.named_words.specs.Named.{joined, in_value, in_param, in_flat, in_owner, in_target, in_action, in_actions, in_name, in_body, in_catch, in_finally}
+use Rattle.layout.specs.Read.{Text, plain, in_book, Place, Stop, Read, got, bad}
 
 -- ---- one reading follows another
 

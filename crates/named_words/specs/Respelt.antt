@@ -1,20 +1,10 @@
 -- One main body, read in two ways: by the words of two books of one count, where only the bytes of named entries differ; and by
 -- edition 3 and by edition 2, where no entry is named, or up to the first entry number. Assumes nothing.
-use Rattle.std.specs.Prelude.{◌≡◌, ◌⊎◌, ℕ, ◌+◌, ◌≤◌, Bool, length, get_or, leb, eqb}
-use Rattle.std.proofs.Math.Path.{refl, sym, ap}
-use Rattle.std.proofs.Common.{◌∙◌, subst, inl, ⊎_elim, arith, leb-true, eqb-true, le-ltb}
-use Rattle.std.proofs.Math.Logic.{inr}
-use Rattle.std.proofs.Math.Bool.{true, false}
-use Rattle.std.proofs.Math.Option.{Option, none, some}
+use Rattle.std.specs.Prelude.{◌≡◌, ℕ, ◌+◌, ◌≤◌, length, get_or}
 use mathlib.Core.List.{List, []}
-use Rattle.std.proofs.Math.Dec.{ltb}
 use Rattle.layout.specs.Numbers.{u16_at}
-use Rattle.layout.specs.Tree.{ActionsOf}
-use Rattle.layout.specs.Read.{Text, plain, in_book, Words, Terms, edition2, edition3, deepest, Place, placed, ahead, stop, Read, got, chain, if_whole, if_within, tested, read_u16, read_spelling, read_plain, read_word, read_text, read_string, read_main}
-use Rattle.layout.specs.Strings.{map_body}
+use Rattle.layout.specs.Read.{Text, plain, in_book, Words}
 use Rattle.layout.specs.Pack.{spelling}
-use Rattle.named_words.specs.Named.{in_body}
-use Rattle.named_words.specs.Follows.{IsPlain, Plain, other, Follows, gives, meets, ends, unasked, map_read, Nowhere, Ends}
 
 -- ---- by the words of two books of one count
 

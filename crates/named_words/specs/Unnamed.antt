@@ -1,22 +1,11 @@
 -- What editions 2 and 3 have in common: a sheet that reads whole and names no entry is answered the same in both; and so is any
 -- sheet that does not come to an entry number. Assumes nothing.
-use Rattle.std.specs.Prelude.{◌≡◌, refl, ◌⊎◌, ℕ, ◌+◌, ◌≤◌, List, [], ◌∷◌, length}
-use Rattle.std.proofs.Math.Path.{sym, ap}
-use Rattle.std.proofs.Common.{◌∙◌, inl, inr, ⊎_elim, arith}
-use Rattle.std.proofs.Math.Option.{Option, none, some}
+use Rattle.std.specs.Prelude.{◌≡◌, ℕ, ◌+◌, ◌≤◌, List, [], length}
 use Rattle.layout.specs.Numbers.{u16_at}
-use Rattle.layout.specs.Tree.{Actions, ActionsOf}
-use Rattle.layout.specs.Read.{Text, plain, in_book, Words, Terms, edition2, edition3, deepest, Place, Read, got, read_main}
-use Rattle.layout.specs.Judge.{Mode}
-use Rattle.layout.specs.Cut.{Edition, Second, Third, Cut, main, cut}
-use Rattle.layout.specs.Book.{book_of}
-use Rattle.layout.specs.Pack.{edition_terms, pack_read, pack, ReadsAs}
-use Rattle.layout.proofs.Order.{uncut_first, read_next}
-use Rattle.laws.specs.Editions.{sheet_in, CutAlike, mains, uncuts}
-use Rattle.laws.proofs.Editions.{cut_alike}
-use Rattle.named_words.specs.Named.{in_body, entry_numbers}
-use Rattle.named_words.specs.Follows.{Plain, Ends, ends_at}
-use Rattle.named_words.specs.Respelt.{Numbered, numbered}
+use Rattle.layout.specs.Read.{edition3, deepest, read_main}
+use Rattle.layout.specs.Cut.{Third, main, cut}
+use Rattle.named_words.specs.Follows.{Ends}
+use Rattle.named_words.specs.Respelt.{Numbered}
 
 -- in edition 3, with a book of no entries, the sheet s is refused right behind 65,535. So it is where reading comes to an entry
 -- number; it may be so too where another field that is 65,535 stands before a fault

@@ -1,10 +1,10 @@
 -- What a call of the packer promises, over `Outcome m s book o n v i after`: a mode m, a sheet s, a book, an output that held o,
 -- the number n, the value v, the action number i, and what the output holds afterwards. That any two calls on one m, s, book and o
 -- tell and leave the same is `same_outcome`, in layout's Order. Assumes nothing.
-use Rattle.std.specs.Prelude.{◌≡◌, true, false, ◌⊎◌, ℕ, ◌+◌, ◌*◌, ◌≤◌, ◌<◌, List, ◌++◌, length, take, drop, ℤ, pos}
+use Rattle.std.specs.Prelude.{◌≡◌, true, false, ◌⊎◌, ℕ, ◌+◌, ◌≤◌, ◌<◌, List, ◌++◌, length, take, drop, ℤ, pos}
 use Rattle.std.proofs.Math.Path.{refl, ap}
 use Rattle.std.proofs.Common.{sym, ◌∙◌, subst, inl, inr, arith, length-append, length-drop, take-append-drop, take_at, drop_at}
-use Rattle.std.proofs.Math.Option.{none, some}
+use Rattle.std.proofs.Math.Option.{none}
 use Rattle.std.proofs.Math.Logic.{⊎_elim}
 use Rattle.layout.specs.Answers.{Fault, CutShort, UnknownCode, BadField, TooDeep, LeftOver, Refusal, SheetTooLong, BadTrailer, ReadingFault, ActionLenOverflow, BlockLenOverflow, JumpOffsetOverflow, NoRoom, InputFull, Unclean, NeverRecorded, StrayBranch, BadBook, Answer, Done, Refused, fault_number, refusal_number, refusal_value, refusal_action, number, value, action, length_of, Told}
 use Rattle.layout.specs.Tree.{Actions, body_count}
@@ -20,7 +20,7 @@ use Rattle.laws.specs.Modes.{OfMode, never_recorded, stray_branch, asks, Stricte
 use Rattle.laws.proofs.Modes.{than_plain, as_weaker, done_plain}
 use Rattle.laws.specs.Barred.{Stray, TreeRecorded, TreeContained}
 use Rattle.laws.proofs.Barred.{recorded_plain, done_recorded, done_contained}
-use Rattle.laws.specs.Packed.{Written, Packed, sheet_distance, sheet_edition}
+use Rattle.laws.specs.Packed.{Written, Packed}
 use Rattle.laws.proofs.Packed.{refused_done, is_packed, is_main}
 use Rattle.laws.specs.Demands.{note_length}
 use Rattle.laws.proofs.Demands.{same_meaning, length_done, same_note, same_note_output}
@@ -31,7 +31,7 @@ use Rattle.laws.proofs.Editions.{other_edition}
 use Rattle.action_numbers.specs.Numbered.{payload_size, OwnsBody, body_in_order, Names}
 use Rattle.action_numbers.specs.Refusals.{Far, WrongBranch, Says, a_long_payload, a_long_body, a_far_branch, an_unrecorded_branch, a_stray_branch, Meets, IllBook}
 use Rattle.action_numbers.proofs.Refusals.{says_under, whole_says, fault_meets, fault_within, book_refused}
-use Rattle.agreement.specs.Source.{ActionEncoder, Result, ok, err, encode, panicked}
+use Rattle.agreement.specs.Source.{Result, ok, err, encode, panicked}
 use Rattle.agreement.specs.SourceAgrees.{Agrees, in_room, no_room, overflowed, Alike}
 use Rattle.agreement.proofs.SourceAgrees.{same_as_source, agrees_once}
 use Rattle.agreement.specs.Published.{Block, as_written, as_published, BodyUndisputed}

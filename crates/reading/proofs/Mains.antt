@@ -20,7 +20,6 @@ use Rattle.positions.specs.Scanned.{fault_of, meant}
 use Rattle.operands.proofs.Scans.{meant_back}
 use Rattle.scan.specs.Mains.{MainScanned, whole, stopped}
 use Rattle.reading.specs.Readings.{fault_in, said, MainRead}
-use Rattle.reading.specs.declared.Reading.{Reading}
 use Rattle.reading.specs.declared.Reading.TheVariants as reading
 
 module _ (terms : Terms) (b tab homes over : List ℕ) (s : Walked) (m : MainScanned tab homes over (read_main terms b deepest) s) where

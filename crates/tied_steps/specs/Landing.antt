@@ -1,10 +1,6 @@
 -- Where branches land, said of the bytes of a block alone, and blocks in which one does not. Assumes nothing.
-use Rattle.std.specs.Prelude.{◌≡◌, refl, ◌⊎◌, ℕ, ◌+◌, List, [], ◌∷◌, ◌++◌, length, get_or, ℤ, pos, negsuc, ◌+ℤ◌}
-use Rattle.std.proofs.Common.{ap, inl, arith, length-append}
-use Rattle.layout.specs.Lists.{pick}
+use Rattle.std.specs.Prelude.{◌≡◌, ◌⊎◌, ℕ, ◌+◌, List, [], ◌∷◌, length, get_or, pos, ◌+ℤ◌}
 use Rattle.layout.specs.Numbers.{u16_at}
-use Rattle.layout.specs.Stepped.{long, nothing, end_step}
-use Rattle.layout.proofs.Stepped.{end_step_lem, one_step, step_length}
 use Rattle.laws.specs.Demands.{signed16}
 use Rattle.tied_steps.specs.Places.{StepAt, Begins}
 

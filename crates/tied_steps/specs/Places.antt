@@ -1,8 +1,7 @@
 -- Places among the steps of a byte string: where a step begins, that none begins within another, and that its bytes tell a step.
 -- Assumes nothing.
-use Rattle.std.specs.Prelude.{◌≡◌, refl, ℕ, ◌+◌, ◌≤◌, ◌<◌, List, ◌∷◌, ◌++◌, length, take, drop}
-use Rattle.std.proofs.Common.{sym, ap, ◌∙◌, arith, append_assoc, length-append, take_at, drop_at}
-use Rattle.layout.specs.Stepped.{IsStep, short, long, Steps, nothing, first}
+use Rattle.std.specs.Prelude.{◌≡◌, ℕ, ◌+◌, List, ◌++◌, length}
+use Rattle.layout.specs.Stepped.{IsStep, Steps}
 
 -- ---- where a step begins
 

@@ -4,7 +4,7 @@ use Rattle.std.proofs.Math.Option.{Option, none, some}
 use Rattle.std.proofs.lemmas.List.Edits.{sets}
 use Rattle.layout.specs.Numbers.{le16}
 use Rattle.layout.specs.Tree.{Action, ActionOf, Try, Actions, ActionsOf}
-use Rattle.layout.specs.Read.{Text, Terms, Place, placed, Reader, got, ◌>>=◌, give, has_catch, has_finally}
+use Rattle.layout.specs.Read.{Text, Terms, Place, placed, Reader, got, give, has_catch, has_finally, ◌>>=◌}
 use Rattle.layout.specs.Strings.{map_action, map_body}
 use Rattle.layout.specs.Write.{Position, position, Event, bytes, body_bytes, branch_bits, events, block_bytes, block_size}
 use Rattle.layout.specs.Judge.{too_far}

@@ -2,7 +2,6 @@ use Rattle.layout.specs.Read.{is_shape, has_catch, has_register}
 use mathlib.Core.Path.{refl}
 use native.Mathlib.Omega.{arith}
 use Rattle.action_fields.proofs.Steps as steps
-use borrow.Author.Rules.{rules}
 use Rattle.action_fields.proofs.scan_catch.Goals as goal
 
 pub returns-then-b-at : goal.returns-then-b-at

@@ -4,7 +4,6 @@ use native.Mathlib.Omega.{arith}
 use Rattle.editions.proofs.Listed.{terms_short}
 use Rattle.lists.proofs.Lists as lists
 use Rattle.action_fields.proofs.Steps as steps
-use borrow.Author.Rules.{rules}
 use Rattle.action_fields.proofs.scan_define_function_2.Goals as goal
 
 pub text_len-requires : goal.text_len-requires

@@ -5,7 +5,6 @@ use native.Mathlib.Omega.{arith}
 use Rattle.editions.proofs.Listed.{terms_short}
 use Rattle.lists.proofs.Lists as lists
 use Rattle.action_fields.proofs.Steps as steps
-use borrow.Author.Rules.{rules}
 use Rattle.action_fields.proofs.scan_get_url.Goals as goal
 
 pub scan_string-requires-in-Ends : goal.scan_string-requires-in-Ends

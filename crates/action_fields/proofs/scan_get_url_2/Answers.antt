@@ -2,7 +2,6 @@ use Rattle.action_fields.specs.Fields.{read_get_url2}
 use mathlib.Core.Path.{◌∙◌}
 use native.Mathlib.Omega.{arith}
 use Rattle.action_fields.proofs.Steps as steps
-use borrow.Author.Rules.{rules}
 use Rattle.action_fields.proofs.scan_get_url_2.Goals as goal
 
 pub scan_flag-requires-in-Ends : goal.scan_flag-requires-in-Ends

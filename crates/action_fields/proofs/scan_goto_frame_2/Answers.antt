@@ -1,7 +1,6 @@
 use Rattle.opcode.specs.PayloadLengths.{goto_frame_2_short}
 use native.Mathlib.Omega.{arith}
 use Rattle.action_fields.proofs.Steps as steps
-use borrow.Author.Rules.{rules}
 use Rattle.action_fields.proofs.scan_goto_frame_2.Goals as goal
 
 pub returns-then-b-at-lt2 : goal.returns-then-b-at-lt2

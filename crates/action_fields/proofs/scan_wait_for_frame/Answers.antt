@@ -1,6 +1,5 @@
 use native.Mathlib.Omega.{arith}
 use Rattle.action_fields.proofs.Steps as steps
-use borrow.Author.Rules.{rules}
 use Rattle.action_fields.proofs.scan_wait_for_frame.Goals as goal
 
 pub returns-then-b-at-lt2 : goal.returns-then-b-at-lt2

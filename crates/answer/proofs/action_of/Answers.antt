@@ -1,6 +1,5 @@
 -- `answer::action_of` meets its contract: each answer's action number, or 0. Assumes nothing.
 use Rattle.answer.specs.Answered.{action}
-use borrow.Author.Rules.{rules}
 use Rattle.answer.proofs.action_of.Goals as goal
 
 pub returns-in-Done : goal.returns-in-Done

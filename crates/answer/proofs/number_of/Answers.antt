@@ -1,6 +1,5 @@
 use mathlib.Core.Path.{refl}
 use Rattle.answer.specs.Answered.{number}
-use borrow.Author.Rules.{rules}
 use Rattle.answer.proofs.number_of.Goals as goal
 
 pub returns-in-Done : goal.returns-in-Done

@@ -4,7 +4,6 @@ use Rattle.layout.specs.Lists.{pick}
 use Rattle.layout.specs.Numbers.{bits64}
 use Rattle.answer.specs.Answered.{number, value, value_by}
 use Rattle.answer.proofs.Values.{natural_bits, signed_bits}
-use borrow.Author.Rules.{rules}
 use Rattle.answer.proofs.value_of.Goals as goal
 
 pub returns-in-Done : goal.returns-in-Done

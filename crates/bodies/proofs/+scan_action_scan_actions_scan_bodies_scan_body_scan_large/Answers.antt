@@ -1,18 +1,13 @@
 use Rattle.bodies.proofs.Walks as walk
 use Rattle.laws.specs.Resolved.{body_length, body_events}
-use Rattle.measure.specs.Walk.{state}
-use Rattle.labels.specs.Table.{tables}
 use Rattle.operands.proofs.Scans.{ends_is}
 use Rattle.positions.specs.Scanned.{fault_of}
-use Rattle.layout.specs.Read.{read_body}
 use Rattle.layout.specs.Tree.{body_count}
-use Rattle.editions.specs.Allowed.{terms_of}
 use Rattle.editions.proofs.Listed.{terms_short}
 use Rattle.labels.proofs.Labels.{slots_kept}
 use mathlib.Core.Path.{refl, sym, ◌∙◌}
 use native.Mathlib.Omega.{arith}
-use borrow.Author.Rules.{rules}
-use Prim.Native.Nat.{ℕ, ◌+◌, ◌-◌, ◌*◌, ◌<◌}
+use Prim.Native.Nat.{◌-◌}
 use Rattle.bodies.proofs.+scan_action_scan_actions_scan_bodies_scan_body_scan_large.Goals as goal
 
 pub scan_action-returns-then-b-at : goal.scan_action-returns-then-b-at

@@ -1,6 +1,5 @@
 -- `book::after_entries` meets its contract: what is left, from where it stands, is read as all are. Assumes nothing.
-use native.Mathlib.Omega.{arith}
-use Rattle.book.proofs.Entries.{Going, going_start, going_next, going_fails, going_done}
+use Rattle.book.proofs.Entries.{Going}
 use Rattle.book.proofs.after_entries.Given as goal
 
 abbrev pub invariant-loop-left : goal.invariant-loop-left

@@ -1,7 +1,6 @@
 -- `book::after_entry` meets its contract. Assumes nothing.
 use native.Mathlib.Omega.{arith}
 use Rattle.book.proofs.Entries.{entry_out, entry_cut, entry_nul, entry_in}
-use borrow.Author.Rules.{rules}
 use Rattle.book.proofs.after_entry.Goals as goal
 
 pub returns-then-words-at-lt2 : goal.returns-then-words-at-lt2

@@ -2,7 +2,6 @@
 use native.Mathlib.Omega.{arith}
 use Rattle.book.specs.Checks.{ill}
 use Rattle.book.proofs.Trailer.{no_trailer, bad_first, bad_second, bad_distance, book_good, book_ill}
-use borrow.Author.Rules.{rules}
 use Rattle.book.proofs.check_book.Goals as goal
 
 pub returns-then-book-lt8 : goal.returns-then-book-lt8

@@ -1,10 +1,9 @@
 -- `book::index_words` meets its contract: from slot to slot, the words before are read and their places are in the index. Assumes nothing.
-use mathlib.Core.Path.{◌≡◌, refl}
+use mathlib.Core.Path.{refl}
 use Prim.Native.Nat.{◌-◌}
 use native.Mathlib.Omega.{arith}
-use lib.ListN.{length, length-set}
-use borrow.Author.Rules.{rules}
-use Rattle.book.proofs.Indexes.{some_left, Indexing, indexing_start, slot_few, slot_within, indexing_next, indexing_fails, indexing_done}
+use lib.ListN.{length-set}
+use Rattle.book.proofs.Indexes.{some_left, indexing_start, slot_few, slot_within, indexing_next, indexing_fails, indexing_done}
 use Rattle.book.proofs.index_words.Goals as goal
 
 pub loop-i-init : goal.loop-i-init

@@ -1,10 +1,8 @@
 -- `book::index_words` meets its contract: from slot to slot, the words before are read and their places are in the index. Assumes nothing.
-use mathlib.Core.Path.{◌≡◌, refl}
+use mathlib.Core.Path.{◌≡◌}
 use Prim.Native.Nat.{◌-◌}
-use native.Mathlib.Omega.{arith}
-use lib.ListN.{length, length-set}
-use borrow.Author.Rules.{rules}
-use Rattle.book.proofs.Indexes.{some_left, Indexing, indexing_start, slot_few, slot_within, indexing_next, indexing_fails, indexing_done}
+use lib.ListN.{length}
+use Rattle.book.proofs.Indexes.{Indexing}
 use Rattle.book.proofs.index_words.Given as goal
 
 abbrev pub invariant-loop-i : goal.invariant-loop-i

@@ -7,7 +7,6 @@ use Rattle.layout.specs.Cut.{First, Second, Third, edition_number, cut, cut_if_s
 use Rattle.editions.specs.Allowed.{meant}
 use Rattle.cut.specs.Cuts.{said}
 use Rattle.cut.proofs.Trailer.{bad_edition, bad_first, bad_second, bad_distance, main_body}
-use borrow.Author.Rules.{rules}
 use Rattle.cut.proofs.cut_main.Goals as goal
 
 pub returns-then-n-gt1048576 : goal.returns-then-n-gt1048576

@@ -1,5 +1,4 @@
 -- `encode::write_head` meets its contract: each case is written as the action that it shows. Assumes nothing.
-use borrow.Author.Rules.{rules}
 use Rattle.encode.proofs.Shows as shows
 use Rattle.encode.proofs.write_head.Goals as goal
 

@@ -2,7 +2,6 @@
 use Prim.Native.Nat.{◌+◌}
 use native.Mathlib.Omega.{arith}
 use lib.ListN.{get_or}
-use borrow.Author.Rules.{rules}
 use Rattle.layout.specs.Numbers.{le16}
 use Rattle.layout.specs.Payload.{headed}
 use Rattle.encode_flat.proofs.Actions as actions

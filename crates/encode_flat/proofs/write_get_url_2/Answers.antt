@@ -1,5 +1,4 @@
 -- `encode_flat::write_get_url_2` meets its contract: the byte is the one that the definitions make of the flags and the method. Assumes nothing.
-use borrow.Author.Rules.{rules}
 use Rattle.layout.specs.OpCode.{byte}
 use Rattle.layout.specs.Payload.{opcode, framed}
 use Rattle.encode_flat.proofs.Actions as actions

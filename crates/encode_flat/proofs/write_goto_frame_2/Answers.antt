@@ -2,7 +2,6 @@
 use mathlib.Core.List.{[], ◌∷◌}
 use Prim.Native.Nat.{◌+◌}
 use native.Mathlib.Omega.{arith}
-use borrow.Author.Rules.{rules}
 use Rattle.layout.specs.Numbers.{le16}
 use Rattle.layout.specs.OpCode.{byte}
 use Rattle.layout.specs.Payload.{opcode, framed, headed}

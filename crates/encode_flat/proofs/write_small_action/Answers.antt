@@ -1,7 +1,6 @@
 -- `encode_flat::write_small_action` meets its contract: an opcode under 80 is alone, and another has a length of 0. Assumes nothing.
 use mathlib.Core.Path.{refl}
 use native.Mathlib.Omega.{arith}
-use borrow.Author.Rules.{rules}
 use Rattle.layout.specs.Numbers.{le16}
 use Rattle.encode_flat.proofs.Actions as actions
 use Rattle.encode_flat.proofs.write_small_action.Goals as goal

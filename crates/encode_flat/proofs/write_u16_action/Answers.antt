@@ -1,7 +1,6 @@
 -- `encode_flat::write_u16_action` meets its contract: the header's run and then the u16's are one run. Assumes nothing.
 use mathlib.Core.Path.{refl}
 use native.Mathlib.Omega.{arith}
-use borrow.Author.Rules.{rules}
 use Rattle.layout.specs.Numbers.{le16}
 use Rattle.layout.specs.Payload.{headed}
 use Rattle.encode_values.proofs.Headers as headers

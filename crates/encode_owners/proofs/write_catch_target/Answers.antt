@@ -1,7 +1,6 @@
 -- `encode_owners::write_catch_target` meets its contract: in each case the bytes are the target's. Assumes nothing.
 use mathlib.Core.Path.{refl}
 use native.Mathlib.Omega.{arith}
-use borrow.Author.Rules.{rules}
 use Rattle.encode_values.proofs.Puts as values
 use Rattle.encode_owners.specs.Payloads.{target_bytes, TargetWithin}
 use Rattle.encode_owners.proofs.write_catch_target.Goals as goal

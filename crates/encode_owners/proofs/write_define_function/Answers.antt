@@ -2,7 +2,6 @@
 use mathlib.Core.Path.{◌∙◌}
 use native.Mathlib.Omega.{arith}
 use Rattle.editions.specs.Allowed.{terms_of}
-use borrow.Author.Rules.{rules}
 use Rattle.encode_owners.proofs.Wholes as wholes
 use Rattle.encode_owners.proofs.write_define_function.Goals as goal
 

@@ -1,7 +1,6 @@
 -- `encode_owners::write_try` meets its contract: the shape, the lengths, the target and then the header before them are one run. Assumes nothing.
 use mathlib.Core.Path.{◌∙◌}
 use native.Mathlib.Omega.{arith}
-use borrow.Author.Rules.{rules}
 use Rattle.encode_owners.proofs.Wholes as wholes
 use Rattle.encode_owners.specs.Payloads.{target_bytes}
 use Rattle.encode_owners.proofs.write_try.Goals as goal

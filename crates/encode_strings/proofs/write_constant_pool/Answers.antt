@@ -1,7 +1,6 @@
 -- `encode_strings::write_constant_pool` meets its contract: the count, the strings and then the header before them are one run. Assumes nothing.
 use native.Mathlib.Omega.{arith}
 use Rattle.editions.specs.Allowed.{terms_of}
-use borrow.Author.Rules.{rules}
 use Rattle.encode_values.specs.Pieces.{strings_at}
 use Rattle.encode_strings.proofs.Wholes as wholes
 use Rattle.encode_strings.proofs.write_constant_pool.Goals as goal

@@ -1,7 +1,6 @@
 -- `encode_strings::write_get_url` meets its contract: the header's run and then those of the two strings are one run. Assumes nothing.
 use native.Mathlib.Omega.{arith}
 use lib.ListN.{length-append}
-use borrow.Author.Rules.{rules}
 use Rattle.layout.specs.OpCode.{byte}
 use Rattle.layout.specs.Payload.{zero_ended, opcode, payload, framed}
 use Rattle.encode_values.proofs.Puts as values

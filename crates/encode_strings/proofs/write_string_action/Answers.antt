@@ -1,6 +1,5 @@
 -- `encode_strings::write_string_action` meets its contract: the header's run and then the string's are one run, and the header holds the string's length. Assumes nothing.
 use native.Mathlib.Omega.{arith}
-use borrow.Author.Rules.{rules}
 use Rattle.encode_values.proofs.Puts as values
 use Rattle.encode_values.proofs.Headers as headers
 use Rattle.encode_strings.proofs.Rooms as rooms

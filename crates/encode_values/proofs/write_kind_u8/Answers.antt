@@ -1,6 +1,5 @@
 -- `encode_values::write_kind_u8` meets its contract: the kind's run and then the byte's are one run. Assumes nothing.
 use native.Mathlib.Omega.{arith}
-use borrow.Author.Rules.{rules}
 use Rattle.encode_values.proofs.Puts as puts
 use Rattle.encode_values.proofs.write_kind_u8.Goals as goal
 

@@ -1,6 +1,5 @@
 -- `encode_values::write_param_at` meets its contract: its byte and then the string behind it are what is written of a parameter. Assumes nothing.
 use native.Mathlib.Omega.{arith}
-use borrow.Author.Rules.{rules}
 use Rattle.encode_values.proofs.Texts as texts
 use Rattle.encode_values.proofs.write_param_at.Goals as goal
 

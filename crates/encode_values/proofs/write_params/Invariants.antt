@@ -1,8 +1,7 @@
 -- `encode_values::write_params` meets its contract: the parameters that are left give with those written what all give. Assumes nothing.
-use mathlib.Core.Path.{◌≡◌, ◌∙◌}
+use mathlib.Core.Path.{◌≡◌}
 use lib.ListN.{length}
 use Rattle.editions.specs.Allowed.{terms_of}
-use borrow.Author.Rules.{rules}
 use Rattle.layout.specs.Read.{read_param}
 use Rattle.encode_values.proofs.Lists as lists
 use Rattle.encode_values.specs.Pieces.{param_bytes, params_at}

@@ -1,6 +1,5 @@
 -- `encode_values::write_push_constant` meets its contract: under 256 the definitions write kind 8 and a byte, else kind 9 and a u16. Assumes nothing.
 use native.Mathlib.Omega.{arith}
-use borrow.Author.Rules.{rules}
 use Rattle.layout.specs.Numbers.{le16}
 use Rattle.encode_values.proofs.Puts as puts
 use Rattle.encode_values.proofs.write_push_constant.Goals as goal

@@ -1,6 +1,5 @@
 -- `encode_values::write_push_float` meets its contract: the kind's run and then the double's are one run. Assumes nothing.
 use native.Mathlib.Omega.{arith}
-use borrow.Author.Rules.{rules}
 use Rattle.layout.specs.Numbers.{le16, le32}
 use Rattle.layout.specs.Payload.{double_bytes}
 use Rattle.encode_values.proofs.Puts as puts

@@ -1,6 +1,5 @@
 -- `encode_values::write_push_integer` meets its contract: the kind's run and then the integer's are one run. Assumes nothing.
 use native.Mathlib.Omega.{arith}
-use borrow.Author.Rules.{rules}
 use Rattle.layout.specs.Numbers.{le16, le32}
 use Rattle.encode_values.proofs.Puts as puts
 use Rattle.encode_values.proofs.write_push_integer.Goals as goal

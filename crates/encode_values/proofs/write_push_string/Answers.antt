@@ -1,6 +1,5 @@
 -- `encode_values::write_push_string` meets its contract: the kind's run and then the string's are one run. Assumes nothing.
 use native.Mathlib.Omega.{arith}
-use borrow.Author.Rules.{rules}
 use Rattle.encode_values.proofs.Puts as puts
 use Rattle.encode_values.proofs.write_push_string.Goals as goal
 

@@ -1,5 +1,4 @@
 -- `encode_values::write_push_value` meets its contract: in each case the bytes written are those of the value that the case shows. Assumes nothing.
-use borrow.Author.Rules.{rules}
 use Rattle.encode_values.proofs.Values as values
 use Rattle.encode_values.proofs.write_push_value.Goals as goal
 

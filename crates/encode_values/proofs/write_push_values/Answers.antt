@@ -1,11 +1,7 @@
 -- `encode_values::write_push_values` meets its contract: the values that are left give with those written what all give. Assumes nothing.
-use mathlib.Core.Path.{◌≡◌, ◌∙◌}
-use lib.ListN.{length}
-use Rattle.editions.specs.Allowed.{terms_of}
+use mathlib.Core.Path.{◌∙◌}
 use borrow.Author.Rules.{rules}
-use Rattle.layout.specs.Read.{read_value}
 use Rattle.encode_values.proofs.Lists as lists
-use Rattle.encode_values.specs.Pieces.{value_bytes, values_at}
 use Rattle.encode_values.proofs.write_push_values.Goals as goal
 
 pub loop-left-init : goal.loop-left-init

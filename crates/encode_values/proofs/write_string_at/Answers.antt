@@ -1,6 +1,5 @@
 -- `encode_values::write_string_at` meets its contract: the string at the place is a span, and its bytes with a zero byte are what is written of it. Assumes nothing.
 use native.Mathlib.Omega.{arith}
-use borrow.Author.Rules.{rules}
 use Rattle.encode_values.proofs.Texts as texts
 use Rattle.encode_values.proofs.write_string_at.Goals as goal
 

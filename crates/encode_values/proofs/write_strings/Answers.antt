@@ -1,11 +1,7 @@
 -- `encode_values::write_strings` meets its contract: the strings that are left give with those written what all give. Assumes nothing.
-use mathlib.Core.Path.{◌≡◌, ◌∙◌}
-use lib.ListN.{length}
-use Rattle.editions.specs.Allowed.{terms_of}
+use mathlib.Core.Path.{◌∙◌}
 use borrow.Author.Rules.{rules}
-use Rattle.layout.specs.Read.{read_string}
 use Rattle.encode_values.proofs.Lists as lists
-use Rattle.encode_values.specs.Pieces.{string_bytes, strings_at}
 use Rattle.encode_values.proofs.write_strings.Goals as goal
 
 pub loop-left-init : goal.loop-left-init

@@ -1,6 +1,5 @@
 -- `encode_values::write_text` meets its contract: what is handed back is the span's bytes. Assumes nothing.
 use native.Mathlib.Omega.{arith}
-use borrow.Author.Rules.{rules}
 use Rattle.encode_values.proofs.Puts as puts
 use Rattle.encode_values.proofs.write_text.Goals as goal
 

@@ -1,8 +1,6 @@
 -- `fields::first_nul` meets its contract. Where the least byte is not zero, none is; the loop's invariant: no byte passed is zero. Assumes nothing.
-use mathlib.Core.Path.{◌≡◌}
-use Prim.Native.Nat.{ℕ, ◌+◌, ◌-◌, ◌<◌, ◌≤◌}
+use Prim.Native.Nat.{◌-◌}
 use native.Mathlib.Omega.{arith}
-use lib.ListN.{get_or}
 use borrow.Author.Rules.{rules}
 use borrow.Author.Count.{below_more}
 use Rattle.fields.proofs.Zeros.{nul_at}

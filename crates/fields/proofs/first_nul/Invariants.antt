@@ -1,11 +1,7 @@
 -- `fields::first_nul` meets its contract. Where the least byte is not zero, none is; the loop's invariant: no byte passed is zero. Assumes nothing.
 use mathlib.Core.Path.{◌≡◌}
 use Prim.Native.Nat.{ℕ, ◌+◌, ◌-◌, ◌<◌, ◌≤◌}
-use native.Mathlib.Omega.{arith}
 use lib.ListN.{get_or}
-use borrow.Author.Rules.{rules}
-use borrow.Author.Count.{below_more}
-use Rattle.fields.proofs.Zeros.{nul_at}
 use Rattle.fields.proofs.first_nul.Given as goal
 
 abbrev pub invariant-loop-i : goal.invariant-loop-i

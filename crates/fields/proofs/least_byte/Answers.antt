@@ -1,5 +1,4 @@
 -- `fields::least_byte` meets its contract. The loop's invariant: the least so far is at most every byte passed. Assumes nothing.
-use mathlib.Core.Logic.{⊎_elim}
 use Prim.Native.Nat.{ℕ, ◌+◌, ◌-◌, ◌<◌, ◌≤◌}
 use native.Mathlib.Omega.{arith}
 use lib.ListN.{get_or}

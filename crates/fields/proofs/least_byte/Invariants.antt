@@ -1,10 +1,6 @@
 -- `fields::least_byte` meets its contract. The loop's invariant: the least so far is at most every byte passed. Assumes nothing.
-use mathlib.Core.Logic.{⊎_elim}
 use Prim.Native.Nat.{ℕ, ◌+◌, ◌-◌, ◌<◌, ◌≤◌}
-use native.Mathlib.Omega.{arith}
 use lib.ListN.{get_or}
-use borrow.Author.Rules.{rules}
-use borrow.Author.Count.{below_more}
 use Rattle.fields.proofs.least_byte.Given as goal
 
 abbrev pub invariant-loop-i : goal.invariant-loop-i

@@ -1,13 +1,7 @@
 use Rattle.front.proofs.Fronts.{entries_cut, entries_big, entries_low, entries_half, entries_more, entries_end}
-use Rattle.positions.specs.Scanned.{scanned, fault_of}
-use Rattle.layout.specs.Read.{Words, placed, read_entries}
-use Prim.Native.Nat.{◌≤◌}
-use lib.ListN.{length}
+use Rattle.positions.specs.Scanned.{fault_of}
 use native.Mathlib.Omega.{arith}
-use mathlib.Core.Path.{◌≡◌, refl, ◌∙◌}
-use mathlib.Core.Option.{Option}
-use Rattle.editions.specs.Allowed.{bounded}
-use borrow.Author.Rules.{rules}
+use mathlib.Core.Path.{refl, ◌∙◌}
 use Rattle.front.proofs.scan_entries.Goals as goal
 
 pub loop-left-init : goal.loop-left-init

@@ -1,13 +1,10 @@
-use Rattle.front.proofs.Fronts.{entries_cut, entries_big, entries_low, entries_half, entries_more, entries_end}
-use Rattle.positions.specs.Scanned.{scanned, fault_of}
+use Rattle.positions.specs.Scanned.{scanned}
 use Rattle.layout.specs.Read.{Words, placed, read_entries}
 use Prim.Native.Nat.{◌≤◌}
 use lib.ListN.{length}
-use native.Mathlib.Omega.{arith}
-use mathlib.Core.Path.{◌≡◌, refl, ◌∙◌}
+use mathlib.Core.Path.{◌≡◌}
 use mathlib.Core.Option.{Option}
 use Rattle.editions.specs.Allowed.{bounded}
-use borrow.Author.Rules.{rules}
 use Rattle.front.proofs.scan_entries.Given as goal
 
 abbrev pub invariant-loop-left : goal.invariant-loop-left

@@ -2,7 +2,6 @@ use Rattle.front.proofs.Fronts.{front_cut, front_stops, front_place, front_ends}
 use Rattle.positions.specs.Scanned.{fault_of}
 use native.Mathlib.Omega.{arith}
 use mathlib.Core.Option.{none}
-use borrow.Author.Rules.{rules}
 use Rattle.front.proofs.scan_front.Goals as goal
 
 pub returns-then-b-at-lt2 : goal.returns-then-b-at-lt2

@@ -3,7 +3,6 @@ use mathlib.Core.Path.{sym}
 use native.Mathlib.Omega.{arith}
 use Rattle.editions.proofs.Listed.{terms_short}
 use Rattle.if_room.proofs.Nears as nears
-use borrow.Author.Rules.{rules}
 use Rattle.if_room.proofs.pack_near.Goals as goal
 
 pub overflow_add-len : goal.overflow_add-len

@@ -1,17 +1,8 @@
 use Rattle.judge.proofs.Actions as laws
 use Rattle.judge.proofs.Loops as loops
-use Rattle.judge.specs.Judging.{mode_of, Judging}
-use Rattle.laws.specs.Resolved.{body_length, body_events}
-use Rattle.measure.specs.Walk.{standing, measured, in_turn, in_bodies}
-use Rattle.layout.specs.Tree.{body_count}
-use Rattle.editions.specs.Allowed.{terms_of}
-use Rattle.editions.proofs.Listed.{terms_short}
-use Rattle.layout.specs.Read.{placed, read_body}
-use Rattle.layout.specs.Lengths.{total}
 use mathlib.Core.Path.{refl}
 use native.Mathlib.Omega.{arith}
-use borrow.Author.Rules.{rules}
-use Prim.Native.Nat.{ℕ, ◌+◌, ◌-◌, ◌*◌, ◌<◌}
+use Prim.Native.Nat.{◌-◌}
 use Rattle.judge.proofs.+judge_action_judge_bodies_judge_body_judge_large.Goals as goal
 
 pub judge_action-bounds-b-at : goal.judge_action-bounds-b-at

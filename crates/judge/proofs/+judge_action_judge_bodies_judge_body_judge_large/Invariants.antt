@@ -1,5 +1,4 @@
 use Rattle.judge.proofs.Actions as laws
-use Rattle.judge.proofs.Loops as loops
 use Rattle.judge.specs.Judging.{mode_of, Judging}
 use Rattle.laws.specs.Resolved.{body_length, body_events}
 use Rattle.measure.specs.Walk.{standing, measured, in_turn, in_bodies}
@@ -8,10 +7,7 @@ use Rattle.editions.specs.Allowed.{terms_of}
 use Rattle.editions.proofs.Listed.{terms_short}
 use Rattle.layout.specs.Read.{placed, read_body}
 use Rattle.layout.specs.Lengths.{total}
-use mathlib.Core.Path.{refl}
-use native.Mathlib.Omega.{arith}
-use borrow.Author.Rules.{rules}
-use Prim.Native.Nat.{ℕ, ◌+◌, ◌-◌, ◌*◌, ◌<◌}
+use Prim.Native.Nat.{◌+◌, ◌-◌, ◌*◌}
 use Rattle.judge.proofs.+judge_action_judge_bodies_judge_body_judge_large.Given as goal
 
 abbrev pub decreases-judge_action : goal.decreases-judge_action

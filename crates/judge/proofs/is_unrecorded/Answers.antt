@@ -1,5 +1,4 @@
 -- `judge::is_unrecorded` meets its contract. Assumes nothing.
-use borrow.Author.Rules.{rules}
 use Rattle.judge.proofs.is_unrecorded.Goals as goal
 
 pub returns-then-mode : goal.returns-then-mode

@@ -1,6 +1,5 @@
 -- `judge::judge_branch` meets its contract. Assumes nothing.
 use Rattle.judge.proofs.Distances.{branch_unrecorded, branch_stray, branch_far, branch_near}
-use borrow.Author.Rules.{rules}
 use Rattle.judge.proofs.judge_branch.Goals as goal
 
 pub is_unrecorded-requires : goal.is_unrecorded-requires

@@ -1,7 +1,6 @@
 -- `judge::judge_main` meets its contract. Assumes nothing.
 use Rattle.editions.proofs.Listed.{terms_short}
 use Rattle.judge.proofs.Mains.{main_clear, main_asks, main_passed, main_bad}
-use borrow.Author.Rules.{rules}
 use Rattle.judge.proofs.judge_main.Goals as goal
 
 pub returns-then-is_clear : goal.returns-then-is_clear

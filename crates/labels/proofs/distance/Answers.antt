@@ -1,7 +1,6 @@
 -- `labels::distance` meets its contract. Assumes nothing.
 use native.Mathlib.Omega.{arith}
 use Rattle.labels.proofs.Distances as laws
-use borrow.Author.Rules.{rules}
 use Rattle.labels.proofs.distance.Goals as goal
 
 pub returns-then-slot-eq0 : goal.returns-then-slot-eq0

@@ -1,11 +1,9 @@
 -- `labels::due_entry` meets its contract. The invariant: the lesser of `least` and what is due among the entries left is what is due among all.
 -- Assumes nothing.
 use mathlib.Core.Path.{◌≡◌, ◌∙◌}
-use mathlib.Core.Logic.{⊎_elim}
-use Prim.Native.Nat.{min, ◌+◌, ◌*◌, ◌≤◌}
+use Prim.Native.Nat.{min}
 use native.Mathlib.Omega.{arith}
-use lib.ListN.{length}
-use Rattle.labels.specs.Table.{entries_at, none_left, unless_under, due, key}
+use Rattle.labels.specs.Table.{entries_at, unless_under}
 use Rattle.labels.proofs.Recording as laws
 use Rattle.labels.proofs.due_entry.Goals as goal
 use Rattle.labels.proofs.due_entry.Goals.{else-e-from, else-x-least, then-e-from, then-x-least}

@@ -1,12 +1,9 @@
 -- `labels::due_entry` meets its contract. The invariant: the lesser of `least` and what is due among the entries left is what is due among all.
 -- Assumes nothing.
-use mathlib.Core.Path.{◌≡◌, ◌∙◌}
-use mathlib.Core.Logic.{⊎_elim}
+use mathlib.Core.Path.{◌≡◌}
 use Prim.Native.Nat.{min, ◌+◌, ◌*◌, ◌≤◌}
-use native.Mathlib.Omega.{arith}
 use lib.ListN.{length}
 use Rattle.labels.specs.Table.{entries_at, none_left, due}
-use Rattle.labels.proofs.Recording as laws
 use Rattle.labels.proofs.due_entry.Given as goal
 
 abbrev pub invariant-loop-left : goal.invariant-loop-left

@@ -1,6 +1,5 @@
 -- `labels::is_recorded` meets its contract: a slot without a record holds 0. Assumes nothing.
 use Rattle.labels.proofs.Distances.{slot_empty, slot_full}
-use borrow.Author.Rules.{rules}
 use Rattle.labels.proofs.is_recorded.Goals as goal
 
 pub returns-then-tab-label-eq0 : goal.returns-then-tab-label-eq0

@@ -2,9 +2,7 @@
 -- Each turn raises `next`. Assumes nothing.
 use Prim.Native.Nat.{◌-◌}
 use native.Mathlib.Omega.{arith}
-use Rattle.labels.specs.Table.{tables, entries_at, none_left, index_of, position_of}
 use Rattle.labels.proofs.Recording as laws
-use borrow.Author.Rules.{rules}
 use Rattle.labels.proofs.record_each.Goals as goal
 
 pub loop-next-init : goal.loop-next-init

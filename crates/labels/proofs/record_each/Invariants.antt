@@ -1,10 +1,8 @@
 -- `labels::record_each` meets its contract. The invariant: recording what is left gives what recording all gives (`Standing`).
 -- Each turn raises `next`. Assumes nothing.
 use Prim.Native.Nat.{◌-◌}
-use native.Mathlib.Omega.{arith}
 use Rattle.labels.specs.Table.{tables, entries_at, none_left, index_of, position_of}
 use Rattle.labels.proofs.Recording as laws
-use borrow.Author.Rules.{rules}
 use Rattle.labels.proofs.record_each.Given as goal
 
 abbrev pub invariant-loop-next : goal.invariant-loop-next

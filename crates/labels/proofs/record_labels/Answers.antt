@@ -1,6 +1,5 @@
 -- `labels::record_labels` meets its contract. Assumes nothing.
 use Rattle.labels.proofs.Recording as laws
-use borrow.Author.Rules.{rules}
 use Rattle.labels.proofs.record_labels.Goals as goal
 
 pub returns-then-first-i : goal.returns-then-first-i

@@ -4,7 +4,6 @@ use Rattle.operands.proofs.Reading as reading
 use Rattle.operands.proofs.Scans.{stops}
 use Rattle.opcode.specs.PayloadLengths.{push_constant_short}
 use native.Mathlib.Omega.{arith}
-use borrow.Author.Rules.{rules}
 use Rattle.lists.proofs.scan_constant.Goals as goal
 
 pub returns-then-b-at-lt2 : goal.returns-then-b-at-lt2

@@ -1,6 +1,5 @@
 use Rattle.lists.proofs.Values as values
 use native.Mathlib.Omega.{arith}
-use borrow.Author.Rules.{rules}
 use Rattle.lists.proofs.scan_push_value.Goals as goal
 
 pub returns-then-b-at : goal.returns-then-b-at

@@ -1,10 +1,6 @@
-use Rattle.editions.specs.Allowed.{terms_of}
 use Rattle.editions.proofs.Listed.{terms_short}
 use borrow.Author.Rules.{rules}
-use Rattle.layout.specs.Read.{placed, read_counted}
-use Rattle.layout.specs.Lengths.{total}
-use Rattle.positions.specs.Scanned.{fault_of, scanned}
-use Rattle.lists.specs.Elements.{read_named, named_size}
+use Rattle.positions.specs.Scanned.{fault_of}
 use Rattle.lists.proofs.Lists as lists
 use native.Mathlib.Omega.{arith}
 use Rattle.lists.proofs.scan_strings.Goals as goal

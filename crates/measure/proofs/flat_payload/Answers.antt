@@ -1,6 +1,5 @@
 use mathlib.Core.Path.{refl}
 use Rattle.measure.proofs.Layings as lay
-use borrow.Author.Rules.{rules}
 use Rattle.measure.proofs.flat_payload.Goals as goal
 
 pub returns-in-Stops : goal.returns-in-Stops

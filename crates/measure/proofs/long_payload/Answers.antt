@@ -1,6 +1,5 @@
 use native.Mathlib.Omega.{arith}
 use Rattle.measure.proofs.Layings as lay
-use borrow.Author.Rules.{rules}
 use Rattle.measure.proofs.long_payload.Goals as goal
 
 pub overflow_sub-w : goal.overflow_sub-w

@@ -1,6 +1,5 @@
 use Rattle.measure.proofs.Runs as runs
 use native.Mathlib.Omega.{arith}
-use borrow.Author.Rules.{rules}
 use Rattle.measure.proofs.note_long.Goals as goal
 
 pub returns-then-len-le65535 : goal.returns-then-len-le65535

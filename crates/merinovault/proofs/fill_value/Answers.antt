@@ -2,7 +2,6 @@
 use native.Mathlib.Omega.{arith}
 use lib.ListN.{length-take}
 use Rattle.merinovault.proofs.Values.{halves_filled}
-use borrow.Author.Rules.{rules}
 use Rattle.merinovault.proofs.fill_value.Goals as goal
 
 pub slice_bounds-fill_u64-end-2 : goal.slice_bounds-fill_u64-end-2

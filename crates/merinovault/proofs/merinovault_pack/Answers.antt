@@ -4,7 +4,6 @@ use mathlib.Core.Path.{sym, ◌∙◌}
 use native.Mathlib.Omega.{arith}
 use Rattle.layout.specs.Answers.{length_of}
 use Rattle.laws.proofs.Fits.{all_bytes}
-use Rattle.merinovault.specs.Calls.{Lent}
 use Rattle.merinovault.proofs.Values.{sixteen, other, told_bytes}
 use borrow.Author.Rules.{rules}
 use Rattle.merinovault.proofs.merinovault_pack.Goals as goal

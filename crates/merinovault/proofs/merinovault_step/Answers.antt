@@ -3,7 +3,6 @@ use mathlib.Core.Path.{sym}
 use mathlib.Core.List.{[]}
 use native.Mathlib.Omega.{arith}
 use Rattle.laws.proofs.Fits.{all_bytes}
-use Rattle.merinovault.specs.Calls.{Lent}
 use Rattle.merinovault.proofs.Values.{other, step_done, step_unclean, done_number, done_value, unclean_number, unclean_value}
 use borrow.Author.Rules.{rules}
 use Rattle.merinovault.proofs.merinovault_step.Goals as goal

@@ -2,7 +2,6 @@ use Rattle.positions.specs.Scanned.{fault_of}
 use Rattle.operands.proofs.Reading as reading
 use Rattle.operands.proofs.Scans.{ends, stops}
 use native.Mathlib.Omega.{arith}
-use borrow.Author.Rules.{rules}
 use Rattle.operands.proofs.scan_label.Goals as goal
 
 pub returns-then-b-at-lt2 : goal.returns-then-b-at-lt2

@@ -3,7 +3,6 @@ use native.Mathlib.Omega.{arith}
 use Rattle.positions.specs.Scanned.{fault_of}
 use Rattle.operands.proofs.Reading as reading
 use Rattle.operands.proofs.Scans.{stops}
-use borrow.Author.Rules.{rules}
 use Rattle.operands.proofs.scan_plain.Goals as goal
 
 pub returns-then-b-at : goal.returns-then-b-at

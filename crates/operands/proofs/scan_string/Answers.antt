@@ -4,7 +4,6 @@ use native.Mathlib.Omega.{arith}
 use Rattle.positions.specs.Scanned.{fault_of}
 use Rattle.operands.proofs.Reading as reading
 use Rattle.operands.proofs.Scans.{stops}
-use borrow.Author.Rules.{rules}
 use Rattle.operands.proofs.scan_string.Goals as goal
 
 pub returns-then-b-at-lt2 : goal.returns-then-b-at-lt2

@@ -6,7 +6,6 @@ use Rattle.positions.specs.Scanned.{fault_of}
 use Rattle.editions.proofs.Listed.{length_words, word_listed}
 use Rattle.operands.proofs.Reading as reading
 use Rattle.operands.proofs.Scans.{stops}
-use borrow.Author.Rules.{rules}
 use Rattle.operands.proofs.scan_word.Goals as goal
 
 pub returns-then-b-at-lt2 : goal.returns-then-b-at-lt2

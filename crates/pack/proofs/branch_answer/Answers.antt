@@ -5,7 +5,6 @@ use Rattle.layout.specs.Answers.{refusal_number, refusal_value, refusal_action}
 use Rattle.layout.specs.Answers as answers
 use Rattle.answer.specs.Answered.{number, value, action}
 use Rattle.judge.specs.Judging.{refusal_of}
-use borrow.Author.Rules.{rules}
 use Rattle.pack.proofs.branch_answer.Goals as goal
 
 pub returns-in-Far : goal.returns-in-Far

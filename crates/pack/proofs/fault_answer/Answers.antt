@@ -4,7 +4,6 @@ use Rattle.layout.specs.Answers.{fault_number, refusal_number, refusal_value, re
 use Rattle.layout.specs.Answers as answers
 use Rattle.answer.specs.Answered.{number, value, action}
 use Rattle.positions.specs.Scanned.{meant}
-use borrow.Author.Rules.{rules}
 use Rattle.pack.proofs.fault_answer.Goals as goal
 
 pub returns-in-CutShort : goal.returns-in-CutShort

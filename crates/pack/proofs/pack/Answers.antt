@@ -1,10 +1,7 @@
 -- `pack::pack` meets its contract: what the cut refuses, or what is made of the main body. Assumes nothing.
-use Prim.Native.Nat.{◌≤◌}
 use native.Mathlib.Omega.{arith}
-use lib.ListN.{length}
 use Rattle.cut.proofs.Mains as cuts
 use Rattle.pack.proofs.Packs as packs
-use borrow.Author.Rules.{rules}
 use Rattle.pack.proofs.pack.Goals as goal
 
 pub slice_bounds-pack_edition-count : goal.slice_bounds-pack_edition-count

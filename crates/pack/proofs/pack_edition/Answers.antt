@@ -1,7 +1,6 @@
 -- `pack::pack_edition` meets its contract: each edition has its function. Assumes nothing.
 use Rattle.editions.specs.Allowed.{meant}
 use Rattle.pack.proofs.Packs as packs
-use borrow.Author.Rules.{rules}
 use Rattle.pack.proofs.pack_edition.Goals as goal
 
 pub returns-in-First : goal.returns-in-First

@@ -12,7 +12,6 @@ use Rattle.editions.specs.Allowed.{wordless}
 use Rattle.editions.specs.declared.Terms.{Terms}
 use Rattle.scan.proofs.Mains.{zeros_cleared, zeros_slots, lent_empty}
 use Rattle.pack.proofs.Packs as packs
-use borrow.Author.Rules.{rules}
 use Rattle.pack.proofs.pack_first.Goals as goal
 
 -- terms that are those of edition 1 have its bound

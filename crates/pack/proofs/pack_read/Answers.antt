@@ -1,6 +1,5 @@
 -- `pack::pack_read` meets its contract: what reading refuses, or what the steps make of a main body that reads whole. Assumes nothing.
 use Rattle.pack.proofs.Packs as packs
-use borrow.Author.Rules.{rules}
 use Rattle.pack.proofs.pack_read.Goals as goal
 
 pub pack_whole-requires : goal.pack_whole-requires

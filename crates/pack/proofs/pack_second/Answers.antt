@@ -3,7 +3,6 @@ use mathlib.Core.Path.{ap}
 use mathlib.Core.List.{[]}
 use Rattle.layout.specs.Read.{Terms, edition2}
 use Rattle.pack.proofs.Packs as packs
-use borrow.Author.Rules.{rules}
 use Rattle.pack.proofs.pack_second.Goals as goal
 
 pub pack_wide-requires : goal.pack_wide-requires

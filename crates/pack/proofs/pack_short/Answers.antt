@@ -1,6 +1,5 @@
 -- `pack::pack_short` meets its contract: the verdict refuses a branch, or the answer is by the room. Assumes nothing.
 use Rattle.pack.proofs.Packs as packs
-use borrow.Author.Rules.{rules}
 use Rattle.pack.proofs.pack_short.Goals as goal
 
 pub judge_main-requires : goal.judge_main-requires

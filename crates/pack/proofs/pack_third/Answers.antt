@@ -1,10 +1,7 @@
 -- `pack::pack_third` meets its contract: 18, or what is made of the main body with the words of the book. Assumes nothing.
-use Prim.Native.Nat.{◌≤◌}
 use native.Mathlib.Omega.{arith}
-use lib.ListN.{length}
 use Rattle.book.proofs.Books.{good_within, good_count, good_words, ill_book}
 use Rattle.pack.proofs.Packs as packs
-use borrow.Author.Rules.{rules}
 use Rattle.pack.proofs.pack_third.Goals as goal
 
 pub slice_bounds-pack_with-count : goal.slice_bounds-pack_with-count

@@ -1,6 +1,5 @@
 -- `pack::pack_whole` meets its contract: what the walk noted is 8 or 9, or nothing is too long. Assumes nothing.
 use Rattle.pack.proofs.Packs as packs
-use borrow.Author.Rules.{rules}
 use Rattle.pack.proofs.pack_whole.Goals as goal
 
 pub returns-then-noted-eq8 : goal.returns-then-noted-eq8

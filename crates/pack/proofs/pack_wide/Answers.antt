@@ -5,7 +5,6 @@ use Prim.Native.Nat.{ℕ}
 use native.Mathlib.Omega.{arith}
 use lib.ListN.{length-replicate}
 use Rattle.scan.proofs.Mains.{zeros_cleared, zeros_slots, lent_empty}
-use borrow.Author.Rules.{rules}
 use Rattle.pack.proofs.pack_wide.Goals as goal
 
 pub read_main-r-requires : goal.read_main-r-requires

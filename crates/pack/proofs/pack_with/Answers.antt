@@ -3,7 +3,6 @@ use mathlib.Core.Path.{ap}
 use mathlib.Core.List.{[]}
 use Rattle.layout.specs.Read.{Terms, edition3}
 use Rattle.pack.proofs.Packs as packs
-use borrow.Author.Rules.{rules}
 use Rattle.pack.proofs.pack_with.Goals as goal
 
 pub third_terms-requires : goal.third_terms-requires

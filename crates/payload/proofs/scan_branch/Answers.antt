@@ -1,6 +1,5 @@
 use mathlib.Core.Option.{none}
 use Rattle.payload.proofs.Branches as branches
-use borrow.Author.Rules.{rules}
 use Rattle.payload.proofs.scan_branch.Goals as goal
 
 pub u16_at-requires : goal.u16_at-requires

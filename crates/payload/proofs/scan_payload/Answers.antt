@@ -2,7 +2,6 @@ use Rattle.payload.proofs.Arms as arms
 use native.Mathlib.Omega.{arith}
 use Rattle.editions.proofs.Listed.{terms_short}
 use Rattle.measure.proofs.Layings as lay
-use borrow.Author.Rules.{rules}
 use Rattle.payload.proofs.scan_payload.Goals as goal
 
 pub long_payload-requires : goal.long_payload-requires

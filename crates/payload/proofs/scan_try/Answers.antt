@@ -2,7 +2,6 @@ use Rattle.action_fields.specs.Fields.{bodies_after}
 use mathlib.Core.Path.{sym, ◌∙◌}
 use native.Mathlib.Omega.{arith}
 use Rattle.measure.proofs.Layings as lay
-use borrow.Author.Rules.{rules}
 use Rattle.payload.proofs.scan_try.Goals as goal
 
 pub bounds-b-at : goal.bounds-b-at

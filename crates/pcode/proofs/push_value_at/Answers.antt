@@ -1,6 +1,5 @@
 -- `push_value_at` meets its contract, kind by kind. Assumes nothing.
 use native.Mathlib.Omega.{arith}
-use borrow.Author.Rules.{rules}
 use Rattle.pcode.proofs.Values.{is_string, is_null, is_undefined, is_register, is_boolean, is_float, is_integer, is_constant, value_shown, value_room, kind_room, constant_kind}
 use Rattle.pcode.proofs.push_value_at.Goals as goal
 

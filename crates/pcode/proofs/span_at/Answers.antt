@@ -12,7 +12,6 @@ use Rattle.words.specs.declared.Word.{Word}
 use Rattle.words.specs.Found.{found_at}
 use Rattle.pcode.specs.Shown.{book_span, plain_span, span_at}
 use Rattle.pcode.proofs.Readings.{span_word, span_plain, span_least}
-use borrow.Author.Rules.{rules}
 use Rattle.pcode.proofs.span_at.Goals as goal
 
 length-room : (t : code-terms.Terms) (e index b : List ℕ) (p : ℕ) → (span_at t e index b p).next ≤ length b → p + 2 ≤ length b

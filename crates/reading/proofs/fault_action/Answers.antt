@@ -1,7 +1,6 @@
 -- `reading::fault_action` meets its contract: TooDeep names the last action begun, any other fault the next. Assumes nothing.
 use Rattle.layout.specs.Pack.{fault_action}
 use Rattle.positions.specs.Scanned.{meant}
-use borrow.Author.Rules.{rules}
 use Rattle.reading.proofs.fault_action.Goals as goal
 
 pub returns-then-begun-eq0 : goal.returns-then-begun-eq0

@@ -1,12 +1,10 @@
 -- `reading::read_main` meets its contract: the walk stops at a fault, or leaves what packing goes on with. Assumes nothing.
 use mathlib.Core.Path.{◌∙◌}
 use native.Mathlib.Omega.{arith}
-use Rattle.laws.specs.Fits.{Bytes}
 use Rattle.laws.proofs.Fits.{all_bytes}
 use Rattle.editions.proofs.Listed.{terms_short}
 use Rattle.scan.proofs.Mains.{main_place}
 use Rattle.reading.proofs.Mains as mains
-use borrow.Author.Rules.{rules}
 use Rattle.reading.proofs.read_main.Goals as goal
 
 pub overflow_add-place : goal.overflow_add-place

@@ -3,7 +3,6 @@ use Rattle.editions.proofs.Listed.{terms_short}
 use Rattle.scan.proofs.Mains.{ready, main_stops, main_left, main_whole}
 use Rattle.positions.specs.Scanned.{fault_of}
 use native.Mathlib.Omega.{arith}
-use borrow.Author.Rules.{rules}
 use Rattle.scan.proofs.scan_main.Goals as goal
 
 pub scan_body-requires : goal.scan_body-requires

@@ -1,7 +1,6 @@
 -- `look_at` meets its contract: it tells how far the step at a place goes. Assumes nothing.
 use Rattle.step.proofs.Walks as walks
 use native.Mathlib.Omega.{arith}
-use borrow.Author.Rules.{rules}
 use Rattle.step.proofs.look_at.Goals as goal
 
 pub returns-then-block-at-lt128 : goal.returns-then-block-at-lt128

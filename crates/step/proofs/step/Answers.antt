@@ -1,11 +1,9 @@
 -- `step` meets its contract: where the loop ends, and wherever it goes on, what is left to do answers what the whole does.
 -- Assumes nothing.
 use Rattle.step.proofs.Walks as walks
-use lib.ListN.{length}
 use Prim.Native.Nat.{◌-◌}
 use native.Mathlib.Omega.{arith}
 use mathlib.Core.Path.{refl}
-use borrow.Author.Rules.{rules}
 use Rattle.step.proofs.step.Goals as goal
 
 pub loop-at-init : goal.loop-at-init

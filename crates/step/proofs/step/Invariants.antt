@@ -3,9 +3,6 @@
 use Rattle.step.proofs.Walks as walks
 use lib.ListN.{length}
 use Prim.Native.Nat.{◌-◌}
-use native.Mathlib.Omega.{arith}
-use mathlib.Core.Path.{refl}
-use borrow.Author.Rules.{rules}
 use Rattle.step.proofs.step.Given as goal
 
 abbrev pub invariant-loop-at : goal.invariant-loop-at

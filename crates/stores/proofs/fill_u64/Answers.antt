@@ -1,6 +1,5 @@
 use Rattle.stores.proofs.Stores.{words_filled}
 use native.Mathlib.Omega.{arith}
-use borrow.Author.Rules.{rules}
 use Rattle.stores.proofs.fill_u64.Goals as goal
 
 pub returns : goal.returns

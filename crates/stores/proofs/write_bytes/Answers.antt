@@ -1,11 +1,10 @@
 -- `write_bytes` meets its contract. The loop's invariant: the bytes copied so far are one run of stores. Assumes nothing.
 use mathlib.Core.Path.{◌≡◌, refl, ap, ◌∙◌}
-use Prim.Native.Nat.{◌-◌, ◌≤◌}
+use Prim.Native.Nat.{◌-◌}
 use native.Mathlib.Omega.{arith}
 use lib.ListN.{length}
-use lib.Seq.{sets, length-sets}
+use lib.Seq.{length-sets}
 use borrow.Author.Rules.{rules}
-use Rattle.fields.specs.Runs.{part}
 use Rattle.stores.proofs.Stores.{copy_more}
 use Rattle.stores.proofs.write_bytes.Goals as goal
 

@@ -1,6 +1,5 @@
 -- `write_f64_me` meets its contract: the high word's run and then the low word's are one run. Assumes nothing.
 use Prim.Native.Nat.{◌/◌, ◌%◌}
-use borrow.Author.Rules.{rules}
 use Rattle.layout.specs.Numbers.{le32}
 use Rattle.layout.specs.Payload.{double_bytes}
 use Rattle.stores.proofs.Stores.{sets_then, length_le32}

@@ -1,7 +1,6 @@
 -- `write_string` meets its contract: the bytes' run and then the zero byte are one run. Assumes nothing.
 use native.Mathlib.Omega.{arith}
 use mathlib.Core.List.{◌∷◌, []}
-use borrow.Author.Rules.{rules}
 use Rattle.layout.specs.Payload.{zero_ended}
 use Rattle.fields.specs.Runs.{part}
 use Rattle.stores.proofs.Stores.{sets_then}

@@ -2,7 +2,6 @@
 use Prim.Native.Nat.{◌<◌, ◌/◌, ◌%◌}
 use native.Mathlib.Nat.{mod-eq_of_lt}
 use native.Mathlib.Omega.{arith}
-use borrow.Author.Rules.{rules}
 use Rattle.layout.proofs.Lengths.{length_le16}
 use Rattle.layout.specs.Numbers.{le16, le32}
 use Rattle.stores.proofs.Stores.{sets_then}

@@ -1,6 +1,5 @@
 -- `words::length_at` meets its contract. Assumes nothing.
 use native.Mathlib.Omega.{arith}
-use borrow.Author.Rules.{rules}
 use borrow.Author.Tests.{le-leb, lt-leb}
 use Rattle.layout.specs.Lists.{pick}
 use Rattle.editions.specs.Words.{length_at}

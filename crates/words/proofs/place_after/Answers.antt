@@ -1,9 +1,6 @@
 -- `words::place_after` meets its contract: the words that are left, from where it stands, end where all do. Assumes nothing.
-use mathlib.Core.Path.{◌≡◌, refl, sym, ◌∙◌}
-use Prim.Native.Nat.{◌+◌, ◌*◌, ◌≤◌}
+use mathlib.Core.Path.{refl, sym, ◌∙◌}
 use native.Mathlib.Omega.{arith}
-use borrow.Author.Rules.{rules}
-use Rattle.editions.specs.Words.{place_after}
 use Rattle.words.proofs.Places.{after_none, after_one}
 use Rattle.words.proofs.place_after.Goals as goal
 

@@ -1,7 +1,6 @@
 -- `words::place_in` meets its contract. Assumes nothing.
 use mathlib.Core.Path.{refl, sym}
 use native.Mathlib.Omega.{arith}
-use borrow.Author.Rules.{rules}
 use Rattle.words.proofs.Places.{get_or_out}
 use Rattle.words.proofs.place_in.Goals as goal
 

@@ -1,7 +1,6 @@
 -- `words::word_at` meets its contract. Assumes nothing.
 use native.Mathlib.Omega.{arith}
 use Rattle.words.proofs.Places.{found_whole, found_nothing}
-use borrow.Author.Rules.{rules}
 use Rattle.words.proofs.word_at.Goals as goal
 
 pub returns-then-words-start : goal.returns-then-words-start

@@ -1,13 +1,11 @@
 -- The five functions of the cycle meet their contracts. A body calls its actions with one level less, and within a level an
 -- action its bodies, a Try's bodies a body that may be absent, that one a block, and a block a body. Assumes nothing.
-use borrow.Author.Rules.{rules}
 use mathlib.Core.Path.{sym, ap, ◌∙◌}
 use mathlib.Core.Bool.{not}
 use native.Mathlib.Omega.{arith}
-use Prim.Native.Nat.{ℕ, ◌+◌, ◌*◌, ◌<◌}
+use Prim.Native.Nat.{ℕ, ◌+◌, ◌*◌}
 use Rattle.layout.specs.Numbers.{u16_at}
 use Rattle.layout.specs.Read.{has_catch, has_finally, read_body}
-use Rattle.editions.specs.Allowed.{terms_of}
 use Rattle.write.proofs.Loop as loop
 use Rattle.write.proofs.Steps as steps
 use Rattle.write.proofs.Actions as acts

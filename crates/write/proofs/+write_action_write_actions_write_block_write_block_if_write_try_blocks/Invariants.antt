@@ -1,15 +1,8 @@
 -- The five functions of the cycle meet their contracts. A body calls its actions with one level less, and within a level an
 -- action its bodies, a Try's bodies a body that may be absent, that one a block, and a block a body. Assumes nothing.
-use borrow.Author.Rules.{rules}
-use mathlib.Core.Path.{sym, ap, ◌∙◌}
-use native.Mathlib.Omega.{arith}
-use Prim.Native.Nat.{ℕ, ◌+◌, ◌*◌, ◌<◌}
-use Rattle.layout.specs.Numbers.{u16_at}
-use Rattle.layout.specs.Read.{has_catch, has_finally, read_body}
+use Prim.Native.Nat.{◌+◌, ◌*◌}
 use Rattle.editions.specs.Allowed.{terms_of}
 use Rattle.write.proofs.Loop as loop
-use Rattle.write.proofs.Steps as steps
-use Rattle.write.proofs.Actions as acts
 use Rattle.write.proofs.+write_action_write_actions_write_block_write_block_if_write_try_blocks.Given as goal
 
 abbrev pub decreases-write_action : goal.decreases-write_action

@@ -1,5 +1,4 @@
 -- `write::bodies_of` meets its contract: each case of an action has the bodies that the definition says. Assumes nothing.
-use borrow.Author.Rules.{rules}
 use mathlib.Core.Path.{◌≡◌, refl}
 use Prim.Native.Nat.{ℕ}
 use mathlib.Core.List.{List, [], ◌∷◌}

@@ -1,6 +1,5 @@
 -- `write::main_at` meets its contract: the main body's actions and one End are the block. Assumes nothing.
 use mathlib.Core.Path.{ap}
-use Rattle.writer.specs.declared.Writer.{Writer}
 use Rattle.write.proofs.Block.{end_fits, end_taken}
 use Rattle.write.proofs.main_at.Goals as goal
 

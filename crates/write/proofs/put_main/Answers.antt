@@ -1,5 +1,4 @@
 -- `write::put_main` meets its contract: the actions by the table are the block without its End. Assumes nothing.
-use borrow.Author.Rules.{rules}
 use Rattle.write.proofs.Main.{main_room, main_put}
 use Rattle.write.proofs.put_main.Goals as goal
 

@@ -3,7 +3,6 @@ use mathlib.Core.Path.{◌≡◌, ap, ◌∙◌}
 use Prim.Native.Nat.{ℕ, ◌*◌, ◌/◌, ◌%◌, ◌^◌}
 use native.Mathlib.Omega.{arith}
 use lib.Dec.{eqb}
-use borrow.Author.Rules.{rules}
 use Rattle.layout.specs.Numbers.{bit}
 use Rattle.layout.specs.Lists.{each, first_with, pick}
 use Rattle.layout.specs.OpCode.{opcode_of, opcodes, small_op_codes, byte, small_byte}
