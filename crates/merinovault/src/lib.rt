@@ -1,6 +1,6 @@
-// What the C-callable entries of the archive libmerinovault.a do (merinovault_c exports them): the number is returned, and the value and the action number fill a lent
-// slice of 16 bytes, each as a little-endian i64. A value slice of any other length is answered 11 before everything else, and
-// nothing is written.
+// What the C-callable entries of the archive libmerinovault.a do, which merinovault_c exports: the number is returned, and the value
+// and the action number fill a lent slice of 16 bytes, each as a little-endian i64. A value slice of any other length is answered 11
+// before everything else, and nothing is written.
 #![tactic(auto)]
 
 ghost use Rattle.std.specs.Prelude.{◌≡◌, ◌++◌, length};
