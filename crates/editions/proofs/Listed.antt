@@ -13,6 +13,7 @@ use Rattle.laws.specs.Books.{Of, Short, WordsShort}
 use Rattle.editions.specs.Words.{length_at, place_of, is_whole, word_length, word_at, word_of, listed_from, words_by, words_if}
 use Rattle.editions.specs.Allowed.{terms_of}
 use Rattle.editions.specs.declared.Terms.{Terms}
+use Rattle.std.specs.Prelude as code
 
 pub length_listed : {A : Type 0} (f : ℕ → A) (i n : ℕ) → length (listed_from f i n) ≡ n
 unfolding listed_from
@@ -91,10 +92,10 @@ module _ (e index : List ℕ) (count : ℕ) where
 
 -- the words of every terms are short
 pub terms_short : (t : Terms) (e index : List ℕ) → WordsShort (terms_of t e index)
-terms_short t e index = go t.names_words
+terms_short t e index = go t.word_count
   where
-    go : (z : Bool) → Of (All Short) (words_if z (words_by e index t.word_count))
-    go true =
+    go : (z : code.Option ℕ) → Of (All Short) (words_if z e index)
+    go (code.Some count) =
         unfold words_if words_by in
-        all_listed Short (word_of e index t.word_count) (λ j. unfold word_of in (omega (arith, length_word e (place_of e index t.word_count j), word_most e (place_of e index t.word_count j)))) 0 t.word_count
-    go false = unfold words_if in tt
+        all_listed Short (word_of e index count) (λ j. unfold word_of in (omega (arith, length_word e (place_of e index count j), word_most e (place_of e index count j)))) 0 count
+    go code.None = unfold words_if in tt

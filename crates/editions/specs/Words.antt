@@ -1,6 +1,7 @@
 -- Where the words of a book stand: e are the bytes of its entries, and an index holds the places of some of them. Every function here
 -- is total, so that nothing need be asked of an index where a word is looked up; `book` makes sure that it is right. Assumes nothing.
-use Rattle.std.specs.Prelude.{ℕ, zero, suc, ◌+◌, ◌/◌, ◌%◌, Bool, true, false, ◌&&◌, List, [], ◌∷◌, length, get_or, take, drop, leb, ltb}
+use Rattle.std.specs.Prelude.{ℕ, zero, suc, ◌+◌, ◌/◌, ◌%◌, Bool, true, false, ◌&&◌, List, [], ◌∷◌, length, get_or, take, drop, leb, ltb, Some, None}
+use Rattle.std.specs.Prelude as code
 use Rattle.std.proofs.Math.Option.{Option, none, some}
 use Rattle.layout.specs.Lists.{pick}
 use Rattle.layout.specs.Numbers.{u16_at}
@@ -52,6 +53,6 @@ unfoldable pub words_by : List ℕ → List ℕ → ℕ → Words
 words_by e index count = listed_from (word_of e index count) 0 count
 
 -- the words, if they may be named
-unfoldable pub words_if : Bool → Words → Option Words
-words_if true ws = some ws
-words_if false ws = none
+unfoldable pub words_if : code.Option ℕ → List ℕ → List ℕ → Option Words
+words_if (Some count) e index = some (words_by e index count)
+words_if None e index = none

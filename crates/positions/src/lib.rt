@@ -9,6 +9,10 @@ pub struct ActionIndex(pub u32);
 #[derive(Clone, Copy)]
 pub struct BytePosition(pub usize);
 
+// The number of an action, counted from 0 in sheet order through all bodies.
+#[derive(Clone, Copy)]
+pub struct ActionNumber(pub usize);
+
 // What reading can meet: 3 to 7 of document 01.
 #[derive(Clone, Copy)]
 pub enum Fault {
@@ -19,29 +23,38 @@ pub enum Fault {
     LeftOver,
 }
 
-// Of a field or a list that is read: the place where reading ended and the position that writing would have reached, or the place of a
-// fault, and the fault.
+// The place in the main body where reading stands, and the position in the block that writing has reached there, or would have.
 #[derive(Clone, Copy)]
-pub enum Scan {
-    Ends(usize, BytePosition),
-    Stops(usize, Fault),
-}
-
-// The number of an action, counted from 0 in sheet order through all bodies.
-#[derive(Clone, Copy)]
-pub struct ActionNumber(pub usize);
-
-// Of a part that holds actions: the place where reading ended, the position that writing would have reached, and the number of the
-// next action; or a fault, its place, and the number of the action being read, or else of the next.
-#[derive(Clone, Copy)]
-pub enum Walked {
-    Ends(usize, BytePosition, ActionNumber),
-    Stops(Fault, usize, ActionNumber),
-}
-
-// Of a part that is written: the place in the main body where reading goes on, and the position in the block where writing does.
-#[derive(Clone, Copy)]
-pub struct Ends {
-    pub next: usize,
+pub struct Spot {
+    pub at: usize,
     pub pos: BytePosition,
 }
+
+// A fault, and the place where it was met.
+#[derive(Clone, Copy)]
+pub struct Stop {
+    pub fault: Fault,
+    pub place: usize,
+}
+
+// What reading a field or a list comes to: the spot after it.
+pub type Scan = Result<Spot, Stop>;
+
+// Where a walk over actions stands: a spot, and the number of the next action.
+#[derive(Clone, Copy)]
+pub struct Cursor {
+    pub at: usize,
+    pub pos: BytePosition,
+    pub number: ActionNumber,
+}
+
+// A fault, its place, and the number of the action being read, or else of the next.
+#[derive(Clone, Copy)]
+pub struct Halt {
+    pub fault: Fault,
+    pub place: usize,
+    pub number: ActionNumber,
+}
+
+// What reading a part that holds actions comes to: where the walk stands after it.
+pub type Walked = Result<Cursor, Halt>;

@@ -7,6 +7,7 @@ ghost use Rattle.fields.specs.Runs.{part};
 ghost use Rattle.editions.specs.Words.{step_of, length_at, place_after, place_of};
 ghost use Rattle.words.specs.Found.{Found};
 
+use editions::MainBody;
 use fields::u16_at;
 
 // Where the bytes of a word stand.
@@ -51,23 +52,11 @@ fn place_after(words: &[u8], at: usize, n: usize) -> usize
     requires { (at < 4294967296) × (n ≤ 16) }
     ensures { (result ≡ place_after words.now n at) × (result ≤ at + 65537 * n) }
 {
-    let mut left = n;
     let mut p = at;
-    while 0 < left {
+    for _ in 0..n {
         p = p + 2 + length_at(words, p);
-        left -= 1;
     }
     p
-}
-
-// A place that the index holds, or 0.
-fn place_in(index: &[u32], slot: usize) -> usize
-    ensures { (result ≡ get_or index.now slot 0) × (result < 4294967296) }
-{
-    if index.len() <= slot {
-        return 0;
-    }
-    index[slot] as usize
 }
 
 // The place of word i, where the index has the place of every word whose number is a multiple of `step`: from the last such place
@@ -76,9 +65,8 @@ fn place_by(words: &[u8], index: &[u32], step: usize, i: usize) -> usize
     requires { (0 < step) × (step ≤ 16) }
     ensures { (result ≡ place_after words.now (i % step) (get_or index.now (i / step) 0)) × (result < 8589934592) }
 {
-    let slot = i / step;
-    let left = i % step;
-    place_after(words, place_in(index, slot), left)
+    let start = index.get(i / step).map_or(0, |place| *place as usize);
+    place_after(words, start, i % step)
 }
 
 // The place of word i of so many. Each step is written as a number, so that dividing by it takes no division.
@@ -101,26 +89,26 @@ fn place_of(words: &[u8], index: &[u32], count: usize, i: usize) -> usize
 }
 
 // Word i of so many. One that does not stand whole is empty, so that nothing is asked of the index.
-pub fn word_at(words: &[u8], index: &[u32], count: usize, i: usize) -> Word
-    ensures { Found words.now index.now count i result }
+pub fn word_at(m: &MainBody<'_>, count: u16, i: usize) -> Word
+    ensures { Found m.now.words.now m.now.index.now count i result }
 {
-    let p = place_of(words, index, count, i);
-    let n = length_at(words, p);
+    let p = place_of(m.words, m.index, count as usize, i);
+    let n = length_at(m.words, p);
     let start = p + 2;
-    if words.len() < start + n {
+    if m.words.len() < start + n {
         return Word { at: 0, len: 0 };
     }
     Word { at: start, len: n }
 }
 
 // A string, as the part of the main body or of the words that holds it.
-pub fn text_of<'a>(b: &'a [u8], words: &'a [u8], from_book: bool, at: usize, len: usize) -> &'a [u8]
-    requires { at + len ≤ length (cond from_book words.now b.now) }
-    ensures { result.now ≡ part (cond from_book words.now b.now) at len }
+pub fn text_of<'a>(m: &MainBody<'a>, from_book: bool, at: usize, len: usize) -> &'a [u8]
+    requires { at + len ≤ length (cond from_book m.now.words.now m.now.b.now) }
+    ensures { result.now ≡ part (cond from_book m.now.words.now m.now.b.now) at len }
 {
     if from_book {
-        &words[at..at + len]
+        &m.words[at..at + len]
     } else {
-        &b[at..at + len]
+        &m.b[at..at + len]
     }
 }
