@@ -1,2 +1,2 @@
-pub mod Trailer
+pub mod Trailers
 pub mod Mains

@@ -1,48 +1,83 @@
 // The cut of a sheet into note, main body and trailer: answers 1 and 2.
 #![tactic(auto)]
 
-ghost use Rattle.std.specs.Prelude.{◌≡◌};
+ghost use Rattle.std.specs.Prelude.{◌≡◌, false, MatchOption};
 ghost use Rattle.layout.specs.Cut.{cut};
-ghost use Rattle.cut.specs.Cuts.{said, Within};
+ghost use Rattle.cut.specs.Trailers.{is_trailed, Trailed};
+ghost use Rattle.cut.specs.Cuts.{Coded, said, Within};
 
 use editions::Edition;
 use fields::{u16_at, u32_at};
 
-// The edition, and where the main body starts and ends in the sheet; or a refusal.
+// The length of the longest sheet.
+const SHEET_LIMIT: usize = 1048576;
+
+// What the eight bytes at the end of a sheet or of a book say: the part before them that they point back to, where it starts, and
+// a number, which is a sheet's edition or a book's entry count.
 #[derive(Clone, Copy)]
-pub enum CutMain {
-    Main(Edition, usize, usize),
+pub struct Trailer<'a> {
+    pub start: usize,
+    pub part: &'a [u8],
+    pub code: usize,
+}
+
+// The main body of a sheet, with the sheet's edition, and where it starts in the sheet.
+#[derive(Clone, Copy)]
+pub struct Cut<'a> {
+    pub edition: Edition,
+    pub start: usize,
+    pub main: &'a [u8],
+}
+
+// Why a sheet has no main body: its length is over the limit, or its trailer is none.
+#[derive(Clone, Copy)]
+pub enum CutError {
     SheetTooLong(usize),
     BadTrailer,
 }
 
-// The main body of a sheet, by its trailer.
-pub fn cut_main(sheet: &[u8]) -> CutMain
-    ensures { (said sheet.now result ≡ cut sheet.now) × Within sheet.now result }
+// The trailer at the end of these bytes, where its two last bytes are this mark and 0x31.
+pub fn trailer_of(bytes: &[u8], mark: u8) -> Option<Trailer<'_>>
+    ensures { MatchOption result (is_trailed mark bytes.now ≡ false) (λ t. Trailed mark bytes.now t) }
 {
-    let n = sheet.len();
-    if 1048576 < n {
-        return CutMain::SheetTooLong(n);
+    let end = bytes.len().checked_sub(8)?;
+    if bytes[end + 6] != mark || bytes[end + 7] != 0x31 {
+        return None;
     }
-    if n < 8 {
-        return CutMain::BadTrailer;
+    let distance = u32_at(bytes, end) as usize;
+    let start = end.checked_sub(distance)?;
+    Some(Trailer {
+        start,
+        part: &bytes[start..end],
+        code: u16_at(bytes, end + 4),
+    })
+}
+
+// The edition that a trailer names.
+fn edition_of(code: usize) -> Option<Edition>
+    ensures { Coded code result }
+{
+    match code {
+        1 => Some(Edition::First),
+        2 => Some(Edition::Second),
+        3 => Some(Edition::Third),
+        _ => None,
     }
-    let end = n - 8;
-    if sheet[end + 6] != 0x41 {
-        return CutMain::BadTrailer;
+}
+
+// The main body of a sheet, by its trailer.
+pub fn cut_main(sheet: &[u8]) -> Result<Cut<'_>, CutError>
+    ensures is_cut { said result ≡ cut sheet.now }
+    ensures within { Within sheet.now result }
+{
+    if SHEET_LIMIT < sheet.len() {
+        return Err(CutError::SheetTooLong(sheet.len()));
     }
-    if sheet[end + 7] != 0x31 {
-        return CutMain::BadTrailer;
-    }
-    let distance = u32_at(sheet, end) as usize;
-    if end < distance {
-        return CutMain::BadTrailer;
-    }
-    let start = end - distance;
-    match u16_at(sheet, end + 4) {
-        1 => CutMain::Main(Edition::First, start, end),
-        2 => CutMain::Main(Edition::Second, start, end),
-        3 => CutMain::Main(Edition::Third, start, end),
-        _ => CutMain::BadTrailer,
-    }
+    let t = trailer_of(sheet, 0x41).ok_or(CutError::BadTrailer)?;
+    let edition = edition_of(t.code).ok_or(CutError::BadTrailer)?;
+    Ok(Cut {
+        edition,
+        start: t.start,
+        main: t.part,
+    })
 }
