@@ -2,28 +2,29 @@
 use mathlib.Core.Path.{◌≡◌, refl, sym, ap, ◌∙◌}
 use Prim.Native.Nat.{ℕ, zero, suc, ◌+◌, ◌≤◌, ◌<◌}
 use native.Mathlib.Omega.{arith}
-use mathlib.Core.Bool.{Bool, true, false, false≢true, ◌&&◌}
+use mathlib.Core.Bool.{Bool, true, false}
 use mathlib.Core.Option.{Option, none, some, none-ne-some}
 use mathlib.Core.List.{List, [], ◌∷◌}
 use lib.ListN.{length, get_or, drop, length-drop}
 use lib.Seq.{length-take-le}
 use lib.Dec.{leb, eqb}
-use borrow.Author.Tests.{le-leb, lt-leb, lt-ltb, le-ltb, eqb-true, eq-eqb}
+use borrow.Author.Tests.{le-leb, lt-leb, lt-ltb, le-ltb, eqb-true}
 use Rattle.layout.specs.Numbers.{u16_at}
 use Rattle.layout.specs.Answers.{CutShort, BadField}
 use Rattle.layout.specs.Read.{plain, in_book, Words, Terms, ahead, placed, stop, got, bad, if_whole, if_within, tested, first_zero, if_no_zero, read_u8, read_u16, read_bytes, read_flag, read_spelling, read_plain, read_word, read_text, read_string, read_label}
 use Rattle.layout.specs.Lengths.{string_length}
 use Rattle.layout.specs.Pack.{spelling}
 use Rattle.fields.specs.Runs.{part, nul_or, first_nul}
-use Rattle.positions.specs.declared.Scan.TheVariants as scan
 use Rattle.positions.specs.declared.Fault.TheVariants as fault
-use Rattle.positions.specs.Scanned.{fault_of, scanned}
-use Rattle.positions.specs.declared.Scan.{Scan}
+use Rattle.positions.specs.Scanned.{fault_of, stops_at, scanned}
+use Rattle.std.specs.Prelude.{Result, Ok, Some, None}
+use Rattle.positions.specs.declared.Spot.{Spot}
+use Rattle.positions.specs.declared.Stop.{Stop}
 use Rattle.editions.specs.Words.{words_by, words_if}
 use Rattle.editions.specs.Allowed.{terms_of}
 use Rattle.editions.specs.declared.Terms as code
 use Rattle.operands.specs.Operands.{string_size}
-use Rattle.operands.proofs.Scans.{ends, stops}
+use Rattle.operands.proofs.Scans.{ends, stops, from_spot}
 
 -- ---- numbers and runs: whole, or cut short at their first byte
 
@@ -199,40 +200,36 @@ module _ (k : Terms) (b : List ℕ) (at : ℕ) where
 
 -- as the code answers, which holds the zero byte's place in z
 module _ (b : List ℕ) (at pos n z : ℕ) (l : at + n ≤ length b) (f : z ≡ first_nul b at n) where
-  pub scan_nul : z < at + n → scan.Stops z fault.BadField ≡ scanned string_size pos (read_plain b n (placed at))
+  pub scan_nul : z < at + n → stops_at z fault.BadField ≡ scanned string_size pos (read_plain b n (placed at))
   unfolding fault_of
   scan_nul m = stops string_size pos (plain_nul b at n l (omega arith) ∙ ap (λ (x : ℕ). bad BadField (stop (placed x))) (sym f))
 
-  pub scan_text : at + n ≤ z → scan.Ends (at + n) (record { 0 = pos + (n + 1) }) ≡ scanned string_size pos (read_plain b n (placed at))
+  pub scan_text : {s : Spot} → at + n ≤ z → s.at ≡ at + n → s.pos.0 ≡ pos + (n + 1) → Ok s ≡ scanned string_size pos (read_plain b n (placed at))
   unfolding string_size string_length spelling
-  scan_text m = ends string_size pos (plain_in b at n l (omega arith)) (omega (arith, spelling_length b at n l))
+  scan_text m g k = ends string_size pos (plain_in b at n l (omega arith)) g (omega (arith, spelling_length b at n l))
 
 -- and the length of the word in n
 module _ (b : List ℕ) (ws : Words) (at pos i n : ℕ) (h : at + 2 ≤ length b) (e : i ≡ u16_at b at) where
-  pub scan_past : length ws ≤ i → scan.Stops at fault.BadField ≡ scanned string_size pos (read_word b ws (placed at))
+  pub scan_past : length ws ≤ i → stops_at at fault.BadField ≡ scanned string_size pos (read_word b ws (placed at))
   unfolding fault_of
   scan_past m = stops string_size pos (word_past b ws at h (omega arith))
 
-  pub scan_named : i < length ws → n ≡ length (get_or ws i []) → scan.Ends (at + 2) (record { 0 = pos + (n + 1) }) ≡ scanned string_size pos (read_word b ws (placed at))
+  pub scan_named : {s : Spot} → i < length ws → n ≡ length (get_or ws i []) → s.at ≡ at + 2 → s.pos.0 ≡ pos + (n + 1) → Ok s ≡ scanned string_size pos (read_word b ws (placed at))
   unfolding string_size string_length spelling
-  scan_named m k = ends string_size pos (word_in b ws at h (omega arith)) (ap (λ (x : ℕ). pos + (x + 1)) (k ∙ ap (λ (j : ℕ). length (get_or ws j [])) e))
+  scan_named m k f g = ends string_size pos (word_in b ws at h (omega arith)) f (g ∙ ap (λ (x : ℕ). pos + (x + 1)) (k ∙ ap (λ (j : ℕ). length (get_or ws j [])) e))
 
--- as the code chooses, which holds the length in n and gives r
-module _ (b : List ℕ) (at pos n : ℕ) (t : code.Terms) (e index : List ℕ) (r : Scan) (h : at + 2 ≤ length b) (k : n ≡ u16_at b at) where
-  pub as_word : (t.names_words && eqb n 65535) ≡ true → r ≡ scanned string_size pos (read_word b (words_by e index t.word_count) (placed (at + 2)))
+-- as the code chooses, which holds the length in n, goes on at the spot p and gives r
+module _ (b : List ℕ) (at pos n : ℕ) (t : code.Terms) (e index : List ℕ) {r : Result Spot Stop} (p : Spot) (h : at + 2 ≤ length b) (k : n ≡ u16_at b at) (q : p.at ≡ at + 2) (w : p.pos.0 ≡ pos + 0) where
+  pub as_word : (count : ℕ) → t.word_count ≡ Some count → n ≡ 65535 → r ≡ scanned string_size p.pos.0 (read_word b (words_by e index count) (placed p.at))
       → r ≡ scanned string_size pos (read_string (terms_of t e index) b (placed at))
-  as_word g f = f ∙ ap (scanned string_size pos) (sym (go t.names_words (eqb n 65535) refl refl g))
-    where
-      go : (x y : Bool) → t.names_words ≡ x → eqb n 65535 ≡ y → (x && y) ≡ true → read_string (terms_of t e index) b (placed at) ≡ read_word b (words_by e index t.word_count) (placed (at + 2))
-      go true true i j l = string_word (terms_of t e index) b at (words_by e index t.word_count) h (unfold words_if in rw i) (sym k ∙ eqb-true _ _ j)
-      go true false i j l = cc
-      go false y i j l = cc
+  unfolding words_if
+  as_word count g f i =
+      from_spot string_size (read_word b (words_by e index count)) q (omega (arith, w)) i
+      ∙ ap (scanned string_size pos) (sym (string_word (terms_of t e index) b at (words_by e index count) h (rw g) (sym k ∙ f)))
 
-  pub as_plain : (t.names_words && eqb n 65535) ≡ false → r ≡ scanned string_size pos (read_plain b n (placed (at + 2)))
+  pub as_plain : (n ≡ 65535 → t.word_count ≡ None) → r ≡ scanned string_size p.pos.0 (read_plain b n (placed p.at))
       → r ≡ scanned string_size pos (read_string (terms_of t e index) b (placed at))
-  as_plain g f = f ∙ ap (scanned string_size pos) (ap (λ (x : ℕ). read_plain b x (placed (at + 2))) k ∙ sym (string_plain (terms_of t e index) b at h (go t.names_words (eqb n 65535) refl refl g)))
-    where
-      go : (x y : Bool) → t.names_words ≡ x → eqb n 65535 ≡ y → (x && y) ≡ false → u16_at b at ≡ 65535 → words_if t.names_words (words_by e index t.word_count) ≡ none
-      go true true i j l z = cc
-      go true false i j l z = absurd (false≢true (sym j ∙ eq-eqb _ _ (k ∙ z)))
-      go false y i j l z = unfold words_if in rw i
+  unfolding words_if
+  as_plain g i =
+      from_spot string_size (read_plain b n) q (omega (arith, w)) i
+      ∙ ap (scanned string_size pos) (ap (λ (x : ℕ). read_plain b x (placed (at + 2))) k ∙ sym (string_plain (terms_of t e index) b at h (λ f. rw (g (k ∙ f)))))

@@ -1,16 +1,19 @@
+use Rattle.std.proofs.Common.{arith, ◌∙◌}
 use Rattle.positions.specs.Scanned.{fault_of}
 use Rattle.operands.proofs.Reading as reading
-use Rattle.operands.proofs.Scans.{ends, stops}
-use native.Mathlib.Omega.{arith}
+use Rattle.operands.proofs.Scans.{ends, cut, stops}
 use Rattle.operands.proofs.scan_flag.Goals as goal
 
-pub returns-then-b-at : goal.returns-then-b-at
-unfolding fault_of
-returns-then-b-at c = stops _ _ (reading.flag_out _ _ (omega arith))
+pub returns-in_err-read_u8 : goal.returns-in_err-read_u8
+returns-in_err-read_u8 c = cut _ _ _ _ _ c.from_residual.ensures.1 c.in_err-read_u8.ensures.err (reading.flag_out _ _)
 
-pub returns-then-b-at-gt1 : goal.returns-then-b-at-gt1
+pub returns-then-branch-gt1 : goal.returns-then-branch-gt1
 unfolding fault_of
-returns-then-b-at-gt1 c = stops _ _ (reading.flag_big _ _ (omega arith) (omega arith))
+returns-then-branch-gt1 c =
+    let n = c.in_ok-read_u8.ensures.ok in
+    c.stops.ensures ∙ stops _ _ (reading.flag_big _ _ n.0 (omega (arith, n.1)))
 
 pub returns : goal.returns
-returns c = ends _ _ (reading.flag_in _ _ (omega arith) (omega arith)) (omega arith)
+returns c =
+    let n = c.in_ok-read_u8.ensures.ok in
+    ends _ _ (reading.flag_in _ _ n.0 (omega (arith, n.1))) c.after.ensures.0 c.after.ensures.1

@@ -1,17 +1,13 @@
--- `operands::scan_plain` meets its contract. Assumes nothing.
-use native.Mathlib.Omega.{arith}
-use Rattle.positions.specs.Scanned.{fault_of}
+use Rattle.std.proofs.Common.{arith, ◌∙◌}
 use Rattle.operands.proofs.Reading as reading
-use Rattle.operands.proofs.Scans.{stops}
+use Rattle.operands.proofs.Scans.{cut}
 use Rattle.operands.proofs.scan_plain.Goals as goal
 
-pub returns-then-b-at : goal.returns-then-b-at
-unfolding fault_of
-returns-then-b-at c = stops _ _ (reading.plain_out _ _ _ (omega arith))
+pub returns-in_err-whole : goal.returns-in_err-whole
+returns-in_err-whole c = cut _ _ _ _ _ c.from_residual.ensures.1 c.in_err-whole.ensures.err (reading.plain_out _ _ _)
 
-pub returns-then-z-at : goal.returns-then-z-at
-returns-then-z-at c = reading.scan_nul _ _ _ _ _ (omega arith) c.first_nul-z.ensures c.if-z-at.true
+pub returns-then-z-from : goal.returns-then-z-from
+returns-then-z-from c = c.stops.ensures ∙ reading.scan_nul _ _ _ _ _ c.in_ok-whole.ensures.ok c.first_nul-z.ensures c.if-z-from.true
 
 pub returns : goal.returns
-returns c =
-    rw c.string_len.ensures (reading.scan_text _ _ _ _ _ (omega arith) c.first_nul-z.ensures c.if-z-at.false)
+returns c = reading.scan_text _ _ _ _ _ c.in_ok-whole.ensures.ok c.first_nul-z.ensures c.if-z-from.false c.after.ensures.0 (omega arith)

@@ -1,19 +1,19 @@
--- `operands::scan_string` meets its contract: a word's number, or a string's bytes. Assumes nothing.
-use mathlib.Core.Path.{sym, ◌∙◌}
-use native.Mathlib.Omega.{arith}
-use Rattle.positions.specs.Scanned.{fault_of}
 use Rattle.operands.proofs.Reading as reading
-use Rattle.operands.proofs.Scans.{stops}
+use Rattle.operands.proofs.Scans.{cut}
 use Rattle.operands.proofs.scan_string.Goals as goal
+use Rattle.operands.proofs.scan_string.Goals.{in_default-via-in-Some+else-n-eq65535, in_default-via-in_default}
 
-pub returns-then-b-at-lt2 : goal.returns-then-b-at-lt2
-unfolding fault_of
-returns-then-b-at-lt2 c = stops _ _ (reading.string_out _ _ _ (omega arith))
+pub returns-in_err-n : goal.returns-in_err-n
+returns-in_err-n c = cut _ _ _ _ _ c.from_residual.ensures.1 c.in_err-n.ensures.err (reading.string_out _ _ _)
 
-pub returns-then-names_word : goal.returns-then-names_word
-returns-then-names_word c =
-    reading.as_word _ _ _ _ _ _ _ _ (omega arith) c.u16_at-n.ensures.0 (sym c.names_word.ensures ∙ c.if-names_word.true) c.scan_word.ensures
+pub returns-in-Some : goal.returns-in-Some
+returns-in-Some c =
+    let n = c.in_ok-n.ensures.ok in
+    reading.as_word _ _ _ _ _ _ _ _ n.0 n.1 c.after-p.ensures.0 c.after-p.ensures.1 _ c.in-Some.is c.if-n-eq65535.true c.scan_word.ensures
 
-pub returns : goal.returns
-returns c =
-    reading.as_plain _ _ _ _ _ _ _ _ (omega arith) c.u16_at-n.ensures.0 (sym c.names_word.ensures ∙ c.if-names_word.false) c.scan_plain.ensures
+pub returns-in_default : goal.returns-in_default
+returns-in_default c =
+    let n = c.in_ok-n.ensures.ok in
+    reading.as_plain _ _ _ _ _ _ _ _ n.0 n.1 c.after-p.ensures.0 c.after-p.ensures.1
+    (λ e. elim c.in_default.branch [ in_default-via-in-Some+else-n-eq65535 w ↦ absurd (w.if-n-eq65535.false e) | in_default-via-in_default w ↦ w.in_default.is ])
+    c.scan_plain.ensures
