@@ -4,8 +4,9 @@ use mathlib.Core.Bool.{Bool, true, false, false≢true, not, ◌&&◌}
 use mathlib.Core.Option.{Option, none, some}
 use Prim.Native.Nat.{ℕ, zero, suc, ◌+◌, ◌-◌, ◌%◌, ◌≤◌, ◌<◌}
 use native.Mathlib.Omega.{arith}
-use borrow.Author.Tests.{lt-ltb, le-ltb, ltb-true, ltb-false, le-leb, lt-leb}
+use borrow.Author.Tests.{lt-ltb, le-ltb, ltb-true, ltb-false, le-leb, lt-leb, ne_eqb}
 use lib.Dec.{ltb, leb, eqb}
+use Rattle.std.specs.Prelude.{nat_eq}
 use lib.IntN.{sub_ℕ}
 use Rattle.layout.specs.Numbers.{bits64}
 use Rattle.layout.specs.Write.{Position}
@@ -27,14 +28,10 @@ module _ (to after : ℕ) where
 
 -- ---- a slot's record
 
-pub slot_empty : (slot : ℕ) → slot ≡ 0 → false ≡ is_recorded (record_of slot)
+pub slot_recorded : (slot : ℕ) → not (nat_eq slot 0) ≡ is_recorded (record_of slot)
 unfolding is_recorded record_of
-slot_empty slot h = rw h
-
-pub slot_full : (slot : ℕ) → (slot ≡ 0 → ⊥) → true ≡ is_recorded (record_of slot)
-unfolding is_recorded record_of
-slot_full zero h = absurd (h refl)
-slot_full (suc n) h = refl
+slot_recorded zero = refl
+slot_recorded (suc n) = rw (ne_eqb (suc n) 0 (λ z. omega arith)) refl
 
 -- ---- a record's home
 

@@ -2,19 +2,22 @@
 use mathlib.Core.Path.{◌≡◌, refl, sym, ap, ◌∙◌}
 use mathlib.Core.Bool.{Bool, true, false}
 use mathlib.Core.List.{List, [], ◌∷◌}
-use mathlib.Core.Logic.{◌⊎◌, ⊎_elim}
+use mathlib.Core.Logic.{⊎_elim}
 use Prim.Native.Nat.{ℕ, zero, suc, min, ◌+◌, ◌-◌, ◌*◌, ◌/◌, ◌%◌, ◌≤◌, ◌<◌}
 use native.Mathlib.Nat.{eq-or-lt_of_le}
 use native.Mathlib.Omega.{arith}
-use native.Mathlib.Numerals.{sub-one}
-use borrow.Author.Tests.{le-ltb, lt-ltb, ltb-true, ltb-false, eq-eqb, ne_eqb}
-use lib.Dec.{ltb}
-use lib.ListN.{length, set, length-set}
+use borrow.Author.Tests.{le-ltb, lt-ltb, ltb-true, ltb-false, eq-eqb, ne_eqb, eqb-true, eqb-false}
+use lib.Dec.{ltb, eqb}
+use lib.ListN.{length, set, take, drop, length-set, length-take, length-drop}
+use Rattle.std.proofs.lemmas.List.{get_or-take, get_or-drop}
+use Rattle.std.specs.Prelude.{Option, Some, None}
+use Rattle.std.proofs.lemmas.Option.{none-some}
 use Rattle.layout.specs.Lists.{pick}
-use Rattle.layout.specs.Numbers.{u32_at}
+use Rattle.layout.specs.Numbers.{u16_at, u32_at}
 use Rattle.layout.specs.Tree.{ActionIndex, Entry, entry}
 use Rattle.layout.specs.Write.{Position, Event, label_at, event_if, labels_at}
-use Rattle.labels.specs.Table.{record_all, Tables, tables, recorded, entries_at, key, none_left, unless_under, due, Rising, end, next, Recordable, Recorded}
+use Rattle.labels.specs.declared.EntryNumber.{EntryNumber}
+use Rattle.labels.specs.Table.{record_all, Tables, tables, recorded, entries_at, entries_in, key, none_left, unless_under, due, entry_of, Rising, end, next, Recordable, Recorded}
 
 -- ---- one entry more
 
@@ -170,19 +173,40 @@ module _ {bound : ℕ} (b : bound < 65536) where
             let o : i.index ≡ j.index → ⊥ = λ z. omega (arith, due_label es from r c h) in
             rw (p, q, labels_other l j (rest from es) i s o, labels_other l j (rest (n + 1) es) i s o) (again c)
 
+-- ---- the entries of a part of a list are those at its place
+
+module _ (b : List ℕ) (at m : ℕ) where
+  u16_part : (p q : ℕ) → q ≡ at + p → p + 2 ≤ m → u16_at (take m (drop at b)) p ≡ u16_at b q
+  u16_part p q e h =
+      let next : at + (p + 1) ≡ at + p + 1 = omega arith in
+      rw (e, get_or-take m (drop at b) p 0 (omega arith), get_or-take m (drop at b) (p + 1) 0 (omega arith), get_or-drop at b p 0, get_or-drop at b (p + 1) 0, next) refl
+
+  entries_from : (n p q : ℕ) → q ≡ at + p → p + 4 * n ≤ m → entries_at (take m (drop at b)) n p ≡ entries_at b n q
+  unfolding entries_at
+  entries_from zero p q e h = refl
+  entries_from (suc n) p q e h =
+      let label = u16_part p q e (omega arith) in
+      let index = u16_part (p + 2) (q + 2) (omega arith) (omega arith) in
+      rw (label, index, entries_from n (p + 4) (q + 4) (omega arith) (omega arith)) refl
+
+pub entries_part : (b : List ℕ) (n at : ℕ) → at + 4 * n ≤ length b → entries_in (take (4 * n) (drop at b)) ≡ entries_at b n at
+entries_part b n at h =
+    let count : length (take (4 * n) (drop at b)) / 4 ≡ n = omega (arith, length-take (4 * n) (drop at b), length-drop at b) in
+    rw count (entries_from b at (4 * n) n 0 at (omega arith) (omega arith))
+
 -- ---- the loop that reads entries
 
 module _ (b : List ℕ) (n p from : ℕ) where
+  one_more : (m : ℕ) → due (entries_at b (suc m) p) from ≡ min (unless_under from (u32_at b p)) (due (entries_at b m (p + 4)) from)
+  unfolding due entries_at key
+  one_more m = refl
+
   -- a turn: e is read, x is what counts of it, and `less` is the lesser of x and the least so far
-  pub due_more : {e x less : ℕ} (least : ℕ) → 0 < n → e ≡ u32_at b p → x ≡ unless_under from e → less ≡ min x least
-      → min less (due (entries_at b (n - 1) (p + 4)) from) ≡ min least (due (entries_at b n p) from)
-  due_more {e} {x} {less} least h d f g =
-      let k : x ≡ unless_under from (u32_at b p) = f ∙ ap (unless_under from) d in
-      omega (arith, first n h)
-    where
-      first : (n : ℕ) → 0 < n → due (entries_at b n p) from ≡ min (unless_under from (u32_at b p)) (due (entries_at b (n - 1) (p + 4)) from)
-      first zero h = absurd (omega arith)
-      first (suc n) h = unfold due entries_at key in rw sub-one
+  pub due_more : {e x less m q : ℕ} (least : ℕ) → e ≡ u32_at b p → x ≡ unless_under from e → less ≡ min x least → n ≡ suc m → q ≡ p + 4
+      → min less (due (entries_at b m q) from) ≡ min least (due (entries_at b n p) from)
+  due_more {m = m} least d f g h k =
+      let counted = f ∙ ap (unless_under from) d in
+      rw (h, k) (omega (arith, counted, one_more m))
 
   -- no entry is left to read
   pub due_end : n ≤ 0 → due (entries_at b n p) from ≡ none_left
@@ -208,21 +232,54 @@ set_past [] l n h = refl
 set_past (x ∷ tab) zero n h = absurd (omega arith)
 set_past (x ∷ tab) (suc l) n h = ap (λ xs. x ∷ xs) (set_past tab l n (omega arith))
 
+-- ---- an entry, or none
+
+-- its number, or "no entry is left"
+unfoldable pub number_of : Option EntryNumber → ℕ
+number_of None = none_left
+number_of (Some e) = e.0
+
+pub none_is : (n : ℕ) → n ≡ none_left → None ≡ entry_of n
+unfolding entry_of pick
+none_is n h = rw (eq-eqb n none_left h)
+
+pub some_is : (k n : ℕ) → k ≡ n → (k ≡ none_left → ⊥) → Some (record { 0 = k }) ≡ entry_of n
+unfolding entry_of pick
+some_is k n e h = rw (← e, ne_eqb k none_left h) refl
+
+number_is : (n : ℕ) → number_of (entry_of n) ≡ n
+unfolding entry_of pick number_of
+number_is n = go (eqb n none_left) refl
+  where
+    go : (t : Bool) → eqb n none_left ≡ t → number_of (pick t None (Some (record { 0 = n }))) ≡ n
+    go true h = sym (eqb-true n none_left h)
+    go false h = refl
+
+some_less : {e : EntryNumber} (n : ℕ) → n ≤ none_left → Some e ≡ entry_of n → n < none_left
+unfolding entry_of pick
+some_less {e} n m h = go (eqb n none_left) refl
+  where
+    go : (t : Bool) → eqb n none_left ≡ t → n < none_left
+    go true f =
+        let z : ◌≡◌ {A = Option EntryNumber} (Some e) None = h ∙ rw f in
+        absurd (none-some e (sym z))
+    go false f = omega (arith, eqb-false n none_left f)
+
 -- ---- the loop that records
 
--- where it stands: n is due from `from` on, and what is left makes of the tables what all labels make of the old ones
-pub record Standing (es : List Entry) (first : ℕ) (i : ActionIndex) (s : Position) (old now : Tables) (n : ℕ) : Type 0 where
+-- where it stands: `next` is due from `from` on, and what is left makes of the tables what all labels make of the old ones
+pub record Standing (es : List Entry) (first : Option EntryNumber) (i : ActionIndex) (s : Position) (old now : Tables) (next : Option EntryNumber) : Type 0 where
   pub ready : Recordable es first i s old.positions
   pub from : ℕ
   pub low : 65536 * i.index ≤ from
   pub high : from ≤ 65536 * (i.index + 1)
   pub most : from ≤ none_left
-  pub is_due : n ≡ due es from
+  pub is_due : next ≡ entry_of (due es from)
   pub to_do : recorded (left i s from es) now ≡ recorded (labels_at es i s) old
   pub full : length now.positions ≡ length old.positions
   pub homes_full : length now.homes ≡ length old.homes
 
-module _ {es : List Entry} {first : ℕ} {i : ActionIndex} {s : Position} {old : Tables} where
+module _ {es : List Entry} {first : Option EntryNumber} {i : ActionIndex} {s : Position} {old : Tables} where
   -- before the first turn
   pub start : Recordable es first i s old.positions → Standing es first i s old old first
   start h =
@@ -238,54 +295,68 @@ module _ {es : List Entry} {first : ℕ} {i : ActionIndex} {s : Position} {old :
         homes_full = refl;
       }
 
-  module _ {now : Tables} {n : ℕ} (at : Standing es first i s old now n) where
-    -- where an entry is due, its number is less than "no entry is left"
-    some_due : (n ≡ none_left → ⊥) → n < none_left
-    some_due h = omega (arith, at.is_due, due_most es at.from)
-
-    -- the label of what is due has a slot
-    pub within : (n ≡ none_left → ⊥) → n % 65536 < length now.positions
-    within h = omega (arith, at.full, at.ready.slots.enough, due_label at.ready.slots.few es at.from at.ready.rising at.is_due (some_due h))
-
-    -- what is due after it is greater
-    pub rises : {m : ℕ} → (n ≡ none_left → ⊥) → m ≡ due es (n + 1) → n < m
-    rises h d = omega (arith, due_least es (n + 1) (omega (arith, some_due h)))
-
-    -- a turn: what is due has index i, and is recorded
-    pub more : {m : ℕ} → n / 65536 ≡ i.index → (n ≡ none_left → ⊥) → m ≡ due es (n + 1)
-        → Standing es first i s old (tables (set now.positions (n % 65536) (s.at + 1)) (set now.homes (n % 65536) s.home)) m
-    unfolding recorded record_all
-    more e h d =
-        let k : n < none_left = some_due h in
-        let first-left = left_due at.ready.slots.few i s es at.from n at.ready.rising at.most at.is_due k e in
-        record {
-          ready = at.ready;
-          from = n + 1;
-          low = omega arith;
-          high = omega arith;
-          most = omega arith;
-          is_due = d;
-          to_do = ap (λ xs. recorded xs now) (sym first-left) ∙ at.to_do;
-          full = length-set now.positions (n % 65536) (s.at + 1) ∙ at.full;
-          homes_full = length-set now.homes (n % 65536) s.home ∙ at.homes_full;
-        }
+  module _ {now : Tables} {next : Option EntryNumber} (at : Standing es first i s old now next) where
+    -- the number of the entry that is due
+    due_is : number_of next ≡ due es at.from
+    due_is = ap number_of at.is_due ∙ number_is (due es at.from)
 
     -- where what is due has a greater index, the tables are done
-    nothing_left : 65536 * (i.index + 1) ≤ n + 1 → now ≡ recorded (labels_at es i s) old
+    nothing_left : 65536 * (i.index + 1) ≤ number_of next + 1 → now ≡ recorded (labels_at es i s) old
     unfolding recorded record_all
     nothing_left h =
-        let none_left = left_none at.ready.slots.few i s es at.from at.ready.rising (omega (arith, at.is_due)) in
+        let none_left = left_none at.ready.slots.few i s es at.from at.ready.rising (omega (arith, due_is)) in
         ap (λ xs. recorded xs now) (sym none_left) ∙ at.to_do
 
     -- the loop ends where no entry is left
-    pub none_due : n ≡ none_left → Recorded es i s old now n
+    pub none_due : next ≡ None → Recorded es i s old now next
+    unfolding number_of
     none_due h =
         let g : ℕ = 65536 * (i.index + 1) in
-        record { table = nothing_left (omega (arith, at.ready.index_fits)); is_due = omega (arith, at.is_due, due_most es g, due_rises es at.from g at.high) }
+        let n : none_left ≡ due es at.from = sym (ap number_of h) ∙ due_is in
+        let m : due es at.from ≡ due es g = omega (arith, due_most es g, due_rises es at.from g at.high) in
+        record { table = nothing_left (omega (arith, at.ready.index_fits, n, due_is)); is_due = at.is_due ∙ ap entry_of m }
 
-    -- and where what is due has another index, which is greater
-    pub later_due : (n / 65536 ≡ i.index → ⊥) → Recorded es i s old now n
-    later_due h =
-        let g : ℕ = 65536 * (i.index + 1) in
-        let l : g ≤ n = omega (arith, at.low, at.is_due, due_least es at.from at.most) in
-        record { table = nothing_left (omega arith); is_due = at.is_due ∙ sym (due_same es at.from g at.high (omega (arith, at.is_due))) }
+    module _ {e : EntryNumber} (is : next ≡ Some e) where
+      entry_is : e.0 ≡ due es at.from
+      unfolding number_of
+      entry_is = sym (ap number_of is) ∙ due_is
+
+      -- its number is less than "no entry is left"
+      pub some_due : e.0 < none_left
+      some_due = omega (arith, entry_is, some_less (due es at.from) (due_most es at.from) (sym is ∙ at.is_due))
+
+      -- its label has a slot
+      pub within : e.0 % 65536 < length now.positions
+      within = omega (arith, at.full, at.ready.slots.enough, due_label at.ready.slots.few es at.from at.ready.rising entry_is some_due)
+
+      -- what is due after it is greater
+      pub rises : {later : Option EntryNumber} → later ≡ entry_of (due es (e.0 + 1)) → none_left - number_of later < none_left - number_of next
+      unfolding number_of
+      rises d = omega (arith, some_due, ap number_of is, ap number_of d, number_is (due es (e.0 + 1)), due_least es (e.0 + 1) (omega (arith, some_due)))
+
+      -- a turn: it has index i, and is recorded
+      pub more : {later : Option EntryNumber} → e.0 / 65536 ≡ i.index → later ≡ entry_of (due es (e.0 + 1))
+          → Standing es first i s old (tables (set now.positions (e.0 % 65536) (s.at + 1)) (set now.homes (e.0 % 65536) s.home)) later
+      unfolding recorded record_all
+      more h d =
+          let first-left = left_due at.ready.slots.few i s es at.from e.0 at.ready.rising at.most entry_is some_due h in
+          record {
+            ready = at.ready;
+            from = e.0 + 1;
+            low = omega arith;
+            high = omega arith;
+            most = omega (arith, some_due);
+            is_due = d;
+            to_do = ap (λ xs. recorded xs now) (sym first-left) ∙ at.to_do;
+            full = length-set now.positions (e.0 % 65536) (s.at + 1) ∙ at.full;
+            homes_full = length-set now.homes (e.0 % 65536) s.home ∙ at.homes_full;
+          }
+
+      -- the loop ends where it has another index, which is greater
+      pub later_due : (e.0 / 65536 ≡ i.index → ⊥) → Recorded es i s old now next
+      unfolding number_of
+      later_due h =
+          let g : ℕ = 65536 * (i.index + 1) in
+          let l : g ≤ e.0 = omega (arith, at.low, entry_is, due_least es at.from at.most) in
+          let m : due es g ≡ due es at.from = due_same es at.from g at.high (omega (arith, entry_is)) in
+          record { table = nothing_left (omega (arith, l, ap number_of is)); is_due = at.is_due ∙ ap entry_of (sym m) }

@@ -1,11 +1,16 @@
 -- The label table and a body's label entries, as the code holds them. Assumes nothing.
-use Rattle.std.specs.Prelude.{◌≡◌, ℕ, zero, suc, min, ◌+◌, ◌*◌, ◌≤◌, ◌<◌, Bool, true, false, ◌&&◌, List, [], ◌∷◌, length, get_or, set, ltb, eqb}
+use Rattle.std.specs.Prelude.{◌≡◌, ℕ, zero, suc, min, ◌+◌, ◌*◌, ◌/◌, ◌≤◌, ◌<◌, Bool, true, false, ◌&&◌, List, [], ◌∷◌, length, get_or, set, ltb, eqb, Some, None}
+use Rattle.std.specs.Prelude as code
 use Rattle.std.proofs.Math.Option.{Option, none, some}
 use Rattle.layout.specs.Lists.{pick}
 use Rattle.layout.specs.Numbers.{u16_at}
 use Rattle.layout.specs.Tree.{ActionIndex, Entry, entry}
 use Rattle.layout.specs.Read.{Terms}
 use Rattle.layout.specs.Write.{Position, position, Event, label_at, branch_at, payload_too_long, body_too_long, labels_at, lookup}
+use Rattle.positions.specs.declared.ActionIndex as index
+use Rattle.positions.specs.declared.BytePosition.{BytePosition}
+use Rattle.labels.specs.declared.Tables as lent
+use Rattle.labels.specs.declared.EntryNumber.{EntryNumber}
 
 -- ---- the table of positions
 
@@ -70,6 +75,10 @@ pub record Tables : Type 0 where
 abbrev pub tables : List ℕ → List ℕ → Tables
 tables tab homes = record { positions = tab; homes = homes }
 
+-- those that the code's struct lends
+abbrev pub held : lent.Tables → Tables
+held t = tables t.tab.now t.homes.now
+
 -- what the label records make of both
 unfoldable pub recorded : List Event → Tables → Tables
 recorded es t = tables (record_all slot_of es t.positions) (record_all home_of es t.homes)
@@ -107,6 +116,10 @@ unfoldable pub entries_at : List ℕ → ℕ → ℕ → List Entry
 entries_at b zero at = []
 entries_at b (suc n) at = entry (u16_at b at) (record { index = u16_at b (at + 2) }) ∷ entries_at b n (at + 4)
 
+-- all that these bytes hold
+abbrev pub entries_in : List ℕ → List Entry
+entries_in e = entries_at e (length e / 4) 0
+
 -- an entry as one number, by which the entries of a body are in the order of their recording
 unfoldable pub key : Entry → ℕ
 key (entry l i) = l + 65536 * i.index
@@ -124,6 +137,10 @@ unfoldable pub due : List Entry → ℕ → ℕ
 due [] from = none_left
 due (e ∷ es) from = min (unless_under from (key e)) (due es from)
 
+-- the entry with a number, unless it is "no entry is left"
+unfoldable pub entry_of : ℕ → code.Option EntryNumber
+entry_of n = pick (eqb n none_left) None (Some (record { 0 = n }))
+
 -- label numbers under a bound, strictly rising from `least` on
 pub data Rising (bound : ℕ) : ℕ → List Entry → Type 0 where
   end : {least : ℕ} → Rising bound least []
@@ -131,28 +148,28 @@ pub data Rising (bound : ℕ) : ℕ → List Entry → Type 0 where
 
 -- ---- what the code's two kinds of number stand for
 
-abbrev pub index_of : Rattle.positions.specs.declared.ActionIndex.ActionIndex → ActionIndex
+abbrev pub index_of : index.ActionIndex → ActionIndex
 index_of i = record { index = i.0 }
 
 -- a position, and where the function body that it lies in starts; of a label, whose number is not kept
-abbrev pub position_of : Rattle.positions.specs.declared.BytePosition.BytePosition → Rattle.positions.specs.declared.BytePosition.BytePosition → Position
+abbrev pub position_of : BytePosition → BytePosition → Position
 position_of p home = position p.0 home.0 0
 
 -- ---- the recording of the entries es with index i, at position s
 
 -- what it asks: `first` is the first entry due, and the table has a slot for each label that the terms allow
-pub record Recordable (es : List Entry) (first : ℕ) (i : ActionIndex) (s : Position) (tab : List ℕ) : Type 0 where
+pub record Recordable (es : List Entry) (first : code.Option EntryNumber) (i : ActionIndex) (s : Position) (tab : List ℕ) : Type 0 where
   pub terms : Terms
-  pub is_due : first ≡ due es (65536 * i.index)
+  pub is_due : first ≡ entry_of (due es (65536 * i.index))
   pub rising : Rising terms.label_bound 0 es
   pub slots : Slots terms tab
   pub index_fits : i.index < 65536
   pub position_fits : s.at < 9223372036854775808
 
 -- what it leaves in the tables, and `later`, the first entry due at the next action
-pub record Recorded (es : List Entry) (i : ActionIndex) (s : Position) (old new : Tables) (later : ℕ) : Type 0 where
+pub record Recorded (es : List Entry) (i : ActionIndex) (s : Position) (old new : Tables) (later : code.Option EntryNumber) : Type 0 where
   pub table : new ≡ recorded (labels_at es i s) old
-  pub is_due : later ≡ due es (65536 * (i.index + 1))
+  pub is_due : later ≡ entry_of (due es (65536 * (i.index + 1)))
 
 -- ---- a branch's distance
 

@@ -8,7 +8,6 @@ returns-then-slot-eq0 c = laws.distance_none _ _ c.if-slot-eq0.true
 
 pub returns-then-after-slot : goal.returns-then-after-slot
 returns-then-after-slot c =
-    let slot = c.shared_slice_known-1.given c.args.label in
     laws.distance_ahead _ _ (omega arith) c.if-after-slot.true
 
 pub returns : goal.returns
