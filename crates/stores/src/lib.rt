@@ -1,73 +1,113 @@
-// Numbers and runs of bytes, written into slices; every other byte keeps its value. Numbers are little-endian.
+// Values, written into slices as runs of bytes; every other byte keeps its value. Numbers are little-endian.
 #![tactic(auto)]
 
-ghost use Rattle.std.specs.Prelude.{◌≡◌, [], ◌∷◌, ◌+◌, ◌≤◌, length};
+ghost use Rattle.std.specs.Prelude.{◌≡◌, ℕ, List, [], ◌∷◌, ◌++◌, ◌+◌, ◌≤◌, length};
 ghost use Rattle.std.proofs.lemmas.List.Edits.{sets};
 ghost use Rattle.layout.specs.Numbers.{le16, le32, le64};
 ghost use Rattle.layout.specs.Payload.{zero_ended, double_bytes};
-ghost use Rattle.fields.specs.Runs.{part};
+
+// A value that is written as a run of bytes.
+pub trait Store {
+    ghost bytes: { Self → List ℕ };
+
+    // Its bytes from a place on. Answers the place after them.
+    fn store(self, out: &mut [u8], at: usize) -> usize
+        requires { at + length (bytes self) ≤ length out.old }
+        ensures end { result ≡ at + length (bytes self) }
+        ensures wrote { out.new ≡ sets out.old at (bytes self) };
+}
 
 // One byte.
-pub fn write_u8(out: &mut [u8], at: usize, v: u8)
-    requires { at + 1 ≤ length out.old }
-    ensures { out.new ≡ sets out.old at (v ∷ []) }
-{
-    out[at] = v;
+impl Store for u8 {
+    ghost bytes = { λ v. v ∷ [] };
+
+    fn store(self, out: &mut [u8], at: usize) -> usize {
+        out[at] = self;
+        at + 1
+    }
 }
 
 // The low sixteen bits of a number.
-pub fn write_u16(out: &mut [u8], at: usize, v: usize)
-    requires { at + 2 ≤ length out.old }
-    ensures { out.new ≡ sets out.old at (le16 v) }
-{
-    out[at] = (v % 256) as u8;
-    out[at + 1] = (v / 256 % 256) as u8;
+#[derive(Clone, Copy)]
+pub struct Low16(pub usize);
+
+impl Store for Low16 {
+    ghost bytes = { λ v. le16 v.0 };
+
+    fn store(self, out: &mut [u8], at: usize) -> usize {
+        let [low, high] = ((self.0 % 65536) as u16).to_le_bytes();
+        out[at] = low;
+        out[at + 1] = high;
+        at + 2
+    }
 }
 
-// A u32.
-pub fn write_u32(out: &mut [u8], at: usize, v: u32)
-    requires { at + 4 ≤ length out.old }
-    ensures { out.new ≡ sets out.old at (le32 v) }
-{
-    write_u16(out, at, (v % 65536) as usize);
-    write_u16(out, at + 2, (v / 65536) as usize);
+// One value, and the other behind it.
+impl<A: Store, B: Store> Store for (A, B) {
+    ghost bytes = { λ v. A.bytes v.0 ++ B.bytes v.1 };
+
+    fn store(self, out: &mut [u8], at: usize) -> usize {
+        let (first, second) = self;
+        let behind = first.store(out, at);
+        second.store(out, behind)
+    }
 }
 
-// A u64 that fills a slice of eight bytes.
-pub fn fill_u64(out: &mut [u8], v: u64)
-    requires { length out.old ≡ 8 }
-    ensures { out.new ≡ le64 v }
-{
-    write_u32(out, 0, (v % 4294967296) as u32);
-    write_u32(out, 4, (v / 4294967296) as u32);
+// A u32: its low half, then its high half.
+impl Store for u32 {
+    ghost bytes = { le32 };
+
+    fn store(self, out: &mut [u8], at: usize) -> usize {
+        let low = Low16((self % 65536) as usize);
+        let high = Low16((self / 65536) as usize);
+        (low, high).store(out, at)
+    }
+}
+
+// A u64: its low half, then its high half.
+impl Store for u64 {
+    ghost bytes = { le64 };
+
+    fn store(self, out: &mut [u8], at: usize) -> usize {
+        let low = (self % 4294967296) as u32;
+        let high = (self / 4294967296) as u32;
+        (low, high).store(out, at)
+    }
 }
 
 // A double's 64 bits, the high word first.
-pub fn write_f64_me(out: &mut [u8], at: usize, bits: u64)
-    requires { at + 8 ≤ length out.old }
-    ensures { out.new ≡ sets out.old at (double_bytes bits) }
-{
-    write_u32(out, at, (bits / 4294967296) as u32);
-    write_u32(out, at + 4, (bits % 4294967296) as u32);
+#[derive(Clone, Copy)]
+pub struct Double(pub u64);
+
+impl Store for Double {
+    ghost bytes = { λ v. double_bytes v.0 };
+
+    fn store(self, out: &mut [u8], at: usize) -> usize {
+        let high = (self.0 / 4294967296) as u32;
+        let low = (self.0 % 4294967296) as u32;
+        (high, low).store(out, at)
+    }
 }
 
-// n bytes of b from a place on.
-pub fn write_bytes(out: &mut [u8], at: usize, b: &[u8], from: usize, n: usize)
-    requires { (at + n ≤ length out.old) × (from + n ≤ length b.now) }
-    ensures { out.new ≡ sets out.old at (part b.now from n) }
-{
-    let mut i = 0;
-    while i < n {
-        out[at + i] = b[from + i];
-        i += 1;
+// The bytes of another slice.
+impl<'a> Store for &'a [u8] {
+    ghost bytes = { λ s. s.now };
+
+    fn store(self, out: &mut [u8], at: usize) -> usize {
+        let end = at + self.len();
+        out[at..end].copy_from_slice(self);
+        end
     }
 }
 
 // A string and its zero byte.
-pub fn write_string(out: &mut [u8], at: usize, b: &[u8], from: usize, n: usize)
-    requires { (at + n + 1 ≤ length out.old) × (from + n ≤ length b.now) }
-    ensures { out.new ≡ sets out.old at (zero_ended (part b.now from n)) }
-{
-    write_bytes(out, at, b, from, n);
-    write_u8(out, at + n, 0);
+#[derive(Clone, Copy)]
+pub struct ZeroEnded<'a>(pub &'a [u8]);
+
+impl<'a> Store for ZeroEnded<'a> {
+    ghost bytes = { λ s. zero_ended s.0.now };
+
+    fn store(self, out: &mut [u8], at: usize) -> usize {
+        (self.0, 0u8).store(out, at)
+    }
 }
