@@ -17,11 +17,12 @@ use Rattle.laws.specs.Begun.{OfFields, read}
 use Rattle.laws.proofs.Begun.{fields_next, u16_fields, entries_fields}
 use Rattle.labels.specs.Table.{entries_at, Rising}
 use Rattle.labels.proofs.Labels.{EntriesRead, entries_read}
-use Rattle.positions.specs.declared.BytePosition.{BytePosition}
-use Rattle.positions.specs.declared.Scan.{Scan}
-use Rattle.positions.specs.declared.Scan.TheVariants as scan
-use Rattle.positions.specs.declared.Fault.{Fault}
-use Rattle.positions.specs.Scanned.{fault_of, scanned}
+use Rattle.std.specs.Prelude.{Result, Ok, Err}
+use Rattle.std.specs.Result.{IsErrAnd}
+use Rattle.positions.specs.declared.Spot.{Spot}
+use Rattle.positions.specs.declared.Stop as code
+use Rattle.positions.specs.declared.Fault.TheVariants as fault
+use Rattle.positions.specs.Scanned.{fault_of, stops_at, scanned}
 use Rattle.operands.proofs.Scans.{ends, stops, scanned_as, ends_is, stops_then, number_as}
 use Rattle.operands.proofs.Reading.{u16_in, u16_out, label_out, label_big, label_low, label_in}
 use Rattle.front.specs.Front.{Front, read_front}
@@ -29,8 +30,8 @@ use Rattle.front.specs.Front.{Front, read_front}
 -- ---- the entries
 
 module _ (terms : Terms) (b : List ℕ) (n least p pos : ℕ) where
-  pub entries_end : n ≤ 0 → scan.Ends p (record { 0 = pos }) ≡ scanned (λ _. 0) pos (read_entries terms b n least (placed p))
-  entries_end h = ends (λ _. 0) pos (go n h) (omega arith)
+  pub entries_end : {s : Spot} → n ≤ 0 → s.at ≡ p → s.pos.0 ≡ pos → Ok s ≡ scanned (λ _. 0) pos (read_entries terms b n least (placed p))
+  entries_end h e f = ends (λ _. 0) pos (go n h) e (omega (arith, f))
     where
       go : (n : ℕ) → n ≤ 0 → read_entries terms b n least (placed p) ≡ got [] (placed p)
       go zero h = unfold read_entries in refl
@@ -49,54 +50,64 @@ module _ (terms : Terms) (b : List ℕ) (n least p pos : ℕ) where
       go (suc n) h = simp sub-one
 
   module _ (h : 0 < n) where
-    pub entries_cut : length b < p + 2 → scan.Stops p (fault_of CutShort) ≡ scanned (λ _. 0) pos (read_entries terms b n least (placed p))
-    entries_cut l = stops (λ _. 0) pos (rw (entries_step h, label_out terms b p least l))
+    pub entries_cut : length b < p + 2 → read_entries terms b n least (placed p) ≡ bad CutShort (stop (placed p))
+    entries_cut l = rw (entries_step h, label_out terms b p least l)
 
-    module _ (i : p + 2 ≤ length b) (m : ℕ) (e : m ≡ u16_at b p) where
-      pub entries_big : terms.label_bound ≤ m → scan.Stops p (fault_of BadField) ≡ scanned (λ _. 0) pos (read_entries terms b n least (placed p))
-      entries_big l = stops (λ _. 0) pos (rw (entries_step h, label_big terms b p least i (omega arith)))
+    module _ (m : ℕ) (i : (p + 2 ≤ length b) × (m ≡ u16_at b p) × (m < 65536)) where
+      pub entries_big : terms.label_bound ≤ m → stops_at p fault.BadField ≡ scanned (λ _. 0) pos (read_entries terms b n least (placed p))
+      unfolding fault_of
+      entries_big l = stops (λ _. 0) pos {g = BadField} {q = p} (rw (entries_step h, label_big terms b p least i.0 (omega (arith, i.1))))
 
-      module _ (l : m < terms.label_bound) where
-        pub entries_low : m < least → scan.Stops p (fault_of BadField) ≡ scanned (λ _. 0) pos (read_entries terms b n least (placed p))
-        entries_low k = stops (λ _. 0) pos (rw (entries_step h, label_low terms b p least i (omega arith) (omega arith)))
+      pub entries_low : m < least → stops_at p fault.BadField ≡ scanned (λ _. 0) pos (read_entries terms b n least (placed p))
+      unfolding fault_of
+      entries_low k = go (leb terms.label_bound m) refl
+        where
+          go : (t : Bool) → leb terms.label_bound m ≡ t → stops_at p fault.BadField ≡ scanned (λ _. 0) pos (read_entries terms b n least (placed p))
+          go true l = entries_big (leb-true _ _ l)
+          go false l =
+              let o = leb-false _ _ l in
+              stops (λ _. 0) pos {g = BadField} {q = p} (rw (entries_step h, label_low terms b p least i.0 (omega (arith, i.1, o)) (omega (arith, i.1))))
 
-        pub entries_half : least ≤ m → length b < p + 4 → scan.Stops (p + 2) (fault_of CutShort) ≡ scanned (λ _. 0) pos (read_entries terms b n least (placed p))
-        entries_half k o = stops (λ _. 0) pos (rw (entries_step h, label_in terms b p least i (omega arith) (omega arith), u16_out b (p + 2) (omega arith)))
+      module _ (l : m < terms.label_bound) (k : least ≤ m) where
+        pub entries_half : length b < p + 2 + 2 → read_entries terms b n least (placed p) ≡ bad CutShort (stop (placed (p + 2)))
+        entries_half o = rw (entries_step h, label_in terms b p least i.0 (omega (arith, i.1)) (omega (arith, i.1)), u16_out b (p + 2) o)
 
-        pub entries_more : least ≤ m → p + 4 ≤ length b
-            → scanned (λ _. 0) pos (read_entries terms b (n - 1) (m + 1) (placed (p + 4))) ≡ scanned (λ _. 0) pos (read_entries terms b n least (placed p))
-        entries_more k o =
-            let s : m + 1 ≡ suc (u16_at b p) = ap (λ x. x + 1) e ∙ add-one (u16_at b p) in
-            let f : p + 4 ≡ p + 2 + 2 = omega arith in
-            rw (s, f, entries_step h, label_in terms b p least i (omega arith) (omega arith), u16_in b (p + 2) (omega arith))
+        pub entries_more : (j q : ℕ) → p + 2 + 2 ≤ length b → j + 1 ≡ n → q ≡ p + 2 + 2
+            → scanned (λ _. 0) pos (read_entries terms b j (m + 1) (placed q)) ≡ scanned (λ _. 0) pos (read_entries terms b n least (placed p))
+        entries_more j q o e f =
+            let s : m + 1 ≡ suc (u16_at b p) = ap (λ x. x + 1) i.1 ∙ add-one (u16_at b p) in
+            let g : j ≡ n - 1 = omega arith in
+            rw (s, f, g, entries_step h, label_in terms b p least i.0 (omega (arith, i.1)) (omega (arith, i.1)), u16_in b (p + 2) o)
             (scanned_as (λ _. 0) pos (λ es. entry (u16_at b p) (record { index = u16_at b (p + 2) }) ∷ es) (λ _. 0) pos (read_entries terms b (n - 1) (suc (u16_at b p)) (placed (p + 2 + 2))) (λ es. refl))
 
 -- ---- the front
 
 module _ (terms : Terms) (b : List ℕ) (at pos : ℕ) where
-  pub front_cut : length b < at + 2 → scan.Stops at (fault_of CutShort) ≡ scanned (λ _. 0) pos (read_front terms b (placed at))
+  pub front_cut : length b < at + 2 → read_front terms b (placed at) ≡ bad CutShort (stop (placed at))
   unfolding read_front
-  front_cut h = stops (λ _. 0) pos (rw (u16_out b at h))
+  front_cut h = rw (u16_out b at h)
 
-  module _ (h : at + 2 ≤ length b) (n : ℕ) (e : n ≡ u16_at b at) (r : Scan) (s : r ≡ scanned (λ _. 0) pos (read_entries terms b n 0 (placed (at + 2)))) where
-    after : read_front terms b (placed at) ≡ chain (read_entries terms b n 0 (placed (at + 2))) (λ es q. chain (read_u16 b q) (λ m t. got (record { entries = es; count = m }) t))
+  module _ (n : ℕ) (h : (at + 2 ≤ length b) × (n ≡ u16_at b at) × (n < 65536)) (p : Spot) (i : (p.at ≡ at + 2) × (p.pos.0 ≡ pos + 0)) {r : Result Spot code.Stop} (s : r ≡ scanned (λ _. 0) p.pos.0 (read_entries terms b n 0 (placed p.at))) where
+    after : read_front terms b (placed at) ≡ chain (read_entries terms b n 0 (placed p.at)) (λ es q. chain (read_u16 b q) (λ m t. got (record { entries = es; count = m }) t))
     unfolding read_front
-    after = rw (u16_in b at h, ← e)
+    after = rw (u16_in b at h.0, ← h.1, ← i.0)
 
-    pub front_stops : (f : Fault) (q : ℕ) → r ≡ scan.Stops q f → scan.Stops q f ≡ scanned (λ _. 0) pos (read_front terms b (placed at))
-    front_stops f q k = rw after (stops_then (λ _. 0) pos (λ _. 0) pos (read_entries terms b n 0 (placed (at + 2))) (λ es q. chain (read_u16 b q) (λ m t. got (record { entries = es; count = m }) t)) s k)
+    pub front_stops : {e : code.Stop} {r' : Result Spot code.Stop} → r ≡ Err e → IsErrAnd r' (λ x. x ≡ e) → r' ≡ scanned (λ _. 0) pos (read_front terms b (placed at))
+    front_stops k g = rw after (stops_then (λ _. 0) pos (λ _. 0) p.pos.0 (read_entries terms b n 0 (placed p.at)) (λ es q. chain (read_u16 b q) (λ m t. got (record { entries = es; count = m }) t)) s k g)
 
-    pub front_place : (q : ℕ) (w : BytePosition) → r ≡ scan.Ends q w → q ≤ length b
-    front_place q w k = let z = ends_is (λ _. 0) pos (read_entries terms b n 0 (placed (at + 2))) s k in (entries_read terms b n (placed (at + 2)) z.0 (placed q) h z.1).1
+    pub front_place : {q : Spot} → r ≡ Ok q → q.at ≤ length b
+    front_place {q} k =
+        let z = ends_is (λ _. 0) p.pos.0 (read_entries terms b n 0 (placed p.at)) s k in
+        (entries_read terms b n (placed p.at) z.0 (placed q.at) (omega (arith, i.0, h.0)) z.1).1
 
-    pub front_ends : (q : ℕ) (w : BytePosition) (r' : Scan) → r ≡ scan.Ends q w → r' ≡ scanned (λ _. 0) w.0 (read_bytes b 2 (placed q)) → r' ≡ scanned (λ _. 0) pos (read_front terms b (placed at))
-    front_ends q w r' k g = let z = ends_is (λ _. 0) pos (read_entries terms b n 0 (placed (at + 2))) s k in go z.0 z.1 z.2
+    pub front_ends : {q : Spot} {r' : Result Spot code.Stop} → r ≡ Ok q → r' ≡ scanned (λ _. 0) q.pos.0 (read_bytes b 2 (placed q.at)) → r' ≡ scanned (λ _. 0) pos (read_front terms b (placed at))
+    front_ends {q} {r'} k g = let z = ends_is (λ _. 0) p.pos.0 (read_entries terms b n 0 (placed p.at)) s k in go z.0 z.1 z.2
       where
-        go : (es : List Entry) → read_entries terms b n 0 (placed (at + 2)) ≡ got es (placed q) → w.0 ≡ pos + 0 → r' ≡ scanned (λ _. 0) pos (read_front terms b (placed at))
+        go : (es : List Entry) → read_entries terms b n 0 (placed p.at) ≡ got es (placed q.at) → q.pos.0 ≡ p.pos.0 + 0 → r' ≡ scanned (λ _. 0) pos (read_front terms b (placed at))
         go es x y =
-            g ∙ count_as ∙ scanned_as (λ _. 0) pos (λ m. record { entries = es; count = m }) (λ _. 0) w.0 (read_u16 b (placed q)) (λ m. omega arith) ∙ sym (ap (scanned (λ _. 0) pos) (after ∙ rw x))
+            g ∙ count_as ∙ scanned_as (λ _. 0) pos (λ m. record { entries = es; count = m }) (λ _. 0) q.pos.0 (read_u16 b (placed q.at)) (λ m. omega (arith, i.1)) ∙ sym (ap (scanned (λ _. 0) pos) (after ∙ rw x))
           where
-            count_as : scanned (λ _. 0) w.0 (read_bytes b 2 (placed q)) ≡ scanned (λ _. 0) w.0 (read_u16 b (placed q))
+            count_as : scanned (λ _. 0) q.pos.0 (read_bytes b 2 (placed q.at)) ≡ scanned (λ _. 0) q.pos.0 (read_u16 b (placed q.at))
             count_as = unfold read_bytes read_u16 in number_as _ _ _ _ _ _
 
 -- a fault in a front is met before any action of its body is begun

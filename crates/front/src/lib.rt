@@ -8,50 +8,35 @@ ghost use Rattle.positions.specs.Scanned.{scanned};
 ghost use Rattle.editions.specs.Allowed.{bounded};
 ghost use Rattle.front.specs.Front.{read_front};
 
-use editions::Terms;
-use fields::u16_at;
-use operands::scan_bytes;
-use positions::{BytePosition, Fault, Scan};
+use editions::MainBody;
+use operands::{after, read_u16, scan_bytes, stops, whole};
+use positions::{Fault, Scan, Spot};
 
 // n label entries: label numbers in range and strictly rising; whatever words the terms allow, here and below.
-fn scan_entries(b: &[u8], terms: Terms, at: usize, n: usize, pos: BytePosition) -> Scan
-    requires { at ≤ length b.now }
-    ensures { (o : Option Words) → result ≡ scanned (λ _. 0) pos.0 (read_entries (bounded terms o) b.now n 0 (placed at)) }
+fn scan_entries(m: &MainBody<'_>, from: Spot, n: usize) -> Scan
+    requires { from.at ≤ length m.now.b.now }
+    ensures { (o : Option Words) → result ≡ scanned (λ _. 0) from.pos.0 (read_entries (bounded m.now.terms o) m.now.b.now n 0 (placed from.at)) }
 {
-    let mut left = n;
-    let mut p = at;
+    let mut at = from.at;
     let mut least = 0;
-    while 0 < left {
-        if b.len() - p < 2 {
-            return Scan::Stops(p, Fault::CutShort);
+    for _ in 0..n {
+        let label = read_u16(m, at)?;
+        if label < least || m.terms.label_bound <= label {
+            return stops(Fault::BadField, at);
         }
-        let label = u16_at(b, p);
-        if terms.label_bound as usize <= label {
-            return Scan::Stops(p, Fault::BadField);
-        }
-        if label < least {
-            return Scan::Stops(p, Fault::BadField);
-        }
-        if b.len() - p < 4 {
-            return Scan::Stops(p + 2, Fault::CutShort);
-        }
+        whole(m, at + 2, 2)?;
         least = label + 1;
-        p += 4;
-        left -= 1;
+        at += 4;
     }
-    Scan::Ends(p, pos)
+    Ok(Spot { at, ..from })
 }
 
 // A body's front: its label entries and its action count.
-pub fn scan_front(b: &[u8], terms: Terms, at: usize, pos: BytePosition) -> Scan
-    requires { at ≤ length b.now }
-    ensures { (o : Option Words) → result ≡ scanned (λ _. 0) pos.0 (read_front (bounded terms o) b.now (placed at)) }
+pub fn scan_front(m: &MainBody<'_>, from: Spot) -> Scan
+    requires { from.at ≤ length m.now.b.now }
+    ensures { (o : Option Words) → result ≡ scanned (λ _. 0) from.pos.0 (read_front (bounded m.now.terms o) m.now.b.now (placed from.at)) }
 {
-    if b.len() - at < 2 {
-        return Scan::Stops(at, Fault::CutShort);
-    }
-    match scan_entries(b, terms, at + 2, u16_at(b, at), pos) {
-        Scan::Stops(p, f) => Scan::Stops(p, f),
-        Scan::Ends(p, w) => scan_bytes(b, p, 2, w),
-    }
+    let n = read_u16(m, from.at)?;
+    let count = scan_entries(m, after(from, 2, 0), n)?;
+    scan_bytes(m, count, 2)
 }

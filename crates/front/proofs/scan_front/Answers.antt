@@ -1,18 +1,16 @@
-use Rattle.front.proofs.Fronts.{front_cut, front_stops, front_place, front_ends}
-use Rattle.positions.specs.Scanned.{fault_of}
-use native.Mathlib.Omega.{arith}
 use mathlib.Core.Option.{none}
+use Rattle.operands.proofs.Scans.{cut}
+use Rattle.front.proofs.Fronts.{front_cut, front_stops, front_place, front_ends}
 use Rattle.front.proofs.scan_front.Goals as goal
 
-pub returns-then-b-at-lt2 : goal.returns-then-b-at-lt2
-unfolding fault_of
-returns-then-b-at-lt2 c o = front_cut _ _ _ _ (omega arith)
+pub returns-in_err-n : goal.returns-in_err-n
+returns-in_err-n c o = cut _ _ _ _ _ c.from_residual.ensures.1 c.in_err-n.ensures.err (front_cut _ _ _ 0)
+
+pub returns-in_err-count : goal.returns-in_err-count
+returns-in_err-count c o = front_stops _ _ _ _ _ c.in_ok-n.ensures.ok _ c.after.ensures (c.scan_entries.ensures o) c.in_err-count.was c.from_residual-in_err-count.ensures.1
 
 pub scan_bytes-requires : goal.scan_bytes-requires
-scan_bytes-requires c = front_place _ _ _ _ (omega arith) _ c.u16_at.ensures.0 _ (c.scan_entries.ensures none) _ _ c.in-Ends.is
+scan_bytes-requires c = front_place _ _ _ _ _ c.in_ok-n.ensures.ok _ c.after.ensures (c.scan_entries.ensures none) c.in_ok-count.was
 
-pub returns-in-Stops : goal.returns-in-Stops
-returns-in-Stops c o = front_stops _ _ _ _ (omega arith) _ c.u16_at.ensures.0 _ (c.scan_entries.ensures o) _ _ c.in-Stops.is
-
-pub returns-in-Ends : goal.returns-in-Ends
-returns-in-Ends c o = front_ends _ _ _ _ (omega arith) _ c.u16_at.ensures.0 _ (c.scan_entries.ensures o) _ _ _ c.in-Ends.is c.scan_bytes.ensures
+pub returns : goal.returns
+returns c o = front_ends _ _ _ _ _ c.in_ok-n.ensures.ok _ c.after.ensures (c.scan_entries.ensures o) c.in_ok-count.was c.scan_bytes.ensures
