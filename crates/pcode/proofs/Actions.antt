@@ -14,8 +14,8 @@ use Rattle.layout.specs.Numbers.{u16_at}
 use Rattle.layout.specs.OpCode.{OpCode, SmallOpCode, small_byte, byte, small_op_codes, opcodes, opcode_of}
 use Rattle.layout.specs.Tree.{ActionOf, ActionsOf, body_count, catch_count}
 use Rattle.layout.specs.Read.{Text, Terms, Place, placed, Reader, is_shape, has_catch, has_register, has_finally, read_u8, read_u16, read_string, read_param, read_value, read_label, read_catch_target, read_catch, read_finally, read_try, read_fields, read_fields_if, read_action}
-use Rattle.editions.specs.Allowed.{terms_of}
-use Rattle.editions.specs.declared.Terms as code-terms
+use Rattle.editions.specs.Allowed.{read_by}
+use Rattle.editions.specs.declared.MainBody.{MainBody}
 use Rattle.pcode.specs.declared.Action.{Action}
 use Rattle.pcode.specs.declared.Action.TheVariants as code
 use Rattle.pcode.specs.Shown.{span_at, function_at, catch_at, after_catch, after_try, try_at, action_at, ShownTarget, nothing, variable, register, Shown, small, goto_frame, get_url, store_register, constant_pool, wait_for_frame, set_target, goto_label, wait_for_frame2, define_function2, try, with, push, jump, get_url2, define_function, if, goto_frame2, ActionReads, TakesAction}
@@ -32,35 +32,35 @@ three p = omega arith
 three' : (p : ℕ) → p + 1 + 2 ≡ p + 3
 three' p = omega arith
 
-module _ (t : code-terms.Terms) (e index b : List ℕ) where
+module _ (m : MainBody) where
   -- the place behind the bytes that the code looks at for an opcode
   abbrev pub taken : OpCode → ℕ → ℕ
   taken (OpCode.Small op) p = p
   taken OpCode.GotoFrame p = p + 2
-  taken OpCode.GetUrl p = (span_at t e index b (span_at t e index b p).next).next
+  taken OpCode.GetUrl p = (span_at m (span_at m p).next).next
   taken OpCode.StoreRegister p = p + 1
   taken OpCode.ConstantPool p = p + 2
   taken OpCode.WaitForFrame p = p + 3
-  taken OpCode.SetTarget p = (span_at t e index b p).next
-  taken OpCode.GotoLabel p = (span_at t e index b p).next
+  taken OpCode.SetTarget p = (span_at m p).next
+  taken OpCode.GotoLabel p = (span_at m p).next
   taken OpCode.WaitForFrame2 p = p + 1
-  taken OpCode.DefineFunction2 p = (function_at t e index b p).at
-  taken OpCode.Try p = after_try t e index b p
+  taken OpCode.DefineFunction2 p = (function_at m p).at
+  taken OpCode.Try p = after_try m p
   taken OpCode.With p = p
   taken OpCode.Push p = p + 2
   taken OpCode.Jump p = p + 2
   taken OpCode.GetUrl2 p = p + 3
-  taken OpCode.DefineFunction p = (function_at t e index b p).at
+  taken OpCode.DefineFunction p = (function_at m p).at
   taken OpCode.If p = p + 2
   taken OpCode.GotoFrame2 p = p + 3
 
-module _ (t : code-terms.Terms) (e index b : List ℕ) (p : ℕ) (l : p ≤ length b) where
+module _ (m : MainBody) (p : ℕ) (l : p ≤ length m.b.now) where
   -- the target that the code takes for a shape's bits shows the one that the definitions read
   target_shown : (shape : ℕ) (c r : Bool) → has_catch shape ≡ c → has_register shape ≡ r
-      → Gives (λ x q. ShownTarget b e shape (catch_at t e index b c r p) x × (q ≡ placed (after_catch t e index b c r p)) × (after_catch t e index b c r p ≤ length b)) (read_catch_target (terms_of t e index) b c r (placed p))
+      → Gives (λ x q. ShownTarget m.b.now m.words.now shape (catch_at m c r p) x × (q ≡ placed (after_catch m c r p)) × (after_catch m c r p ≤ length m.b.now)) (read_catch_target (read_by m) m.b.now c r (placed p))
   unfolding read_catch_target
-  target_shown shape true true g f = next _ (u8 b p) (λ m. gives (register g f, refl, m))
-  target_shown shape true false g f = next_text _ (string t e index b p) (λ x m. gives (variable g f m, refl, m.ends))
+  target_shown shape true true g f = next _ (u8 m.b.now p) (λ h. gives (register g f, refl, h))
+  target_shown shape true false g f = next_text _ (string m p) (λ x h. gives (variable g f h, refl, h.ends))
   target_shown shape false r g f = gives (nothing g, refl, l)
 
 -- the first of two tests that pass
@@ -68,56 +68,53 @@ and_left : (s t : Bool) → (s && t) ≡ true → s ≡ true
 and_left true t e = refl
 and_left false t e = e
 
-module _ (t : code-terms.Terms) (e index b : List ℕ) (inner : Reader (ActionsOf Text ℕ)) (p : ℕ) (l : p ≤ length b) where
-  abbrev terms : Terms
-  terms = terms_of t e index
-
-  -- r shows the action and the place behind it, and m lies within b
+module _ (m : MainBody) (inner : Reader (ActionsOf Text ℕ)) (p : ℕ) (l : p ≤ length m.b.now) where
+  -- r shows the action and the place behind it, and what is taken ends within the bytes
   abbrev Taken : Action → ℕ → ActionOf Text ℕ → Place → Type 0
-  Taken r m a q = Shown terms b e inner p r a q × (m ≤ length b)
+  Taken r end a q = Shown (read_by m) m.b.now m.words.now inner p r a q × (end ≤ length m.b.now)
 
   -- a label number
-  label : Gives (Exactly ((p + 2 ≤ length b) × (u16_at b p < terms.label_bound)) (u16_at b p) (placed (p + 2))) (read_label terms b 0 (placed p))
+  label : Gives (Exactly ((p + 2 ≤ length m.b.now) × (u16_at m.b.now p < m.terms.label_bound)) (u16_at m.b.now p) (placed (p + 2))) (read_label (read_by m) m.b.now 0 (placed p))
   unfolding read_label
-  label = weaker (passed b p (λ n. ltb n terms.label_bound && leb 0 n) (read_u16 b) (u16 b p)) (λ h. (h.0, ltb-true _ _ (and_left _ _ h.1)))
+  label = weaker (passed m.b.now p (λ n. ltb n m.terms.label_bound && leb 0 n) (read_u16 m.b.now) (u16 m.b.now p)) (λ h. (h.0, ltb-true _ _ (and_left _ _ h.1)))
 
   -- a Try, whose shape was read
-  try_shown : (shape : ℕ) → get_or b p 0 ≡ shape → p + 1 ≤ length b → is_shape shape ≡ true
-      → Gives (Taken (try_at t e index b p) (taken t e index b OpCode.Try p)) (read_try terms b inner shape (placed (p + 1)))
+  try_shown : (shape : ℕ) → get_or m.b.now p 0 ≡ shape → p + 1 ≤ length m.b.now → is_shape shape ≡ true
+      → Gives (Taken (try_at m p) (taken m OpCode.Try p)) (read_try (read_by m) m.b.now inner shape (placed (p + 1)))
   unfolding read_try
-  try_shown shape s m g =
-      then (target_shown t e index b (p + 1) m shape (has_catch shape) (has_register shape) refl refl)
-      (λ x q h. then (itself (inner q)) (λ a r i. then (also_behind (body_count a) (itself (read_catch terms b inner (has_catch shape) x r)))
-      (λ c o j. then (also_behind (body_count a + catch_count c) (itself (read_finally terms b inner (has_finally shape) o)))
+  try_shown shape s k g =
+      then (target_shown m (p + 1) k shape (has_catch shape) (has_register shape) refl refl)
+      (λ x q h. then (itself (inner q)) (λ a r i. then (also_behind (body_count a) (itself (read_catch (read_by m) m.b.now inner (has_catch shape) x r)))
+      (λ c o j. then (also_behind (body_count a + catch_count c) (itself (read_finally (read_by m) m.b.now inner (has_finally shape) o)))
       (λ f u k. gives (rw s (try g h.0 (ap inner (sym h.1) ∙ i) j k, h.2))))))
 
   -- what the code takes for an opcode shows the action that the definitions read
-  fields_shown : (op : OpCode) → Gives (Taken (action_at t e index b op p) (taken t e index b op p)) (read_fields terms b inner op (placed p))
+  fields_shown : (op : OpCode) → Gives (Taken (action_at m op p) (taken m op p)) (read_fields (read_by m) m.b.now inner op (placed p))
   unfolding read_fields
   fields_shown (OpCode.Small op) = gives (small refl, l)
-  fields_shown OpCode.GotoFrame = next _ (u16 b p) (λ m. gives (goto_frame, m))
-  fields_shown OpCode.GetUrl = next_text _ (string t e index b p) (λ x m. next_text _ (string t e index b (span_at t e index b p).next) (λ y n. gives (get_url m n, n.ends)))
-  fields_shown OpCode.StoreRegister = next _ (u8 b p) (λ m. gives (store_register, m))
-  fields_shown OpCode.ConstantPool = then (counted b p (read_string terms b)) (λ xs q m. gives (constant_pool m.1, m.0))
-  fields_shown OpCode.WaitForFrame = next _ (u16 b p) (λ m. next _ (u8 b (p + 2)) (λ n. gives (rw (three p) (wait_for_frame, omega arith))))
-  fields_shown OpCode.SetTarget = next_text _ (string t e index b p) (λ x m. gives (set_target m, m.ends))
-  fields_shown OpCode.GotoLabel = next_text _ (string t e index b p) (λ x m. gives (goto_label m, m.ends))
-  fields_shown OpCode.WaitForFrame2 = next _ (u8 b p) (λ m. gives (wait_for_frame2, m))
+  fields_shown OpCode.GotoFrame = next _ (u16 m.b.now p) (λ h. gives (goto_frame, h))
+  fields_shown OpCode.GetUrl = next_text _ (string m p) (λ x h. next_text _ (string m (span_at m p).next) (λ y i. gives (get_url h i, i.ends)))
+  fields_shown OpCode.StoreRegister = next _ (u8 m.b.now p) (λ h. gives (store_register, h))
+  fields_shown OpCode.ConstantPool = then (counted m.b.now p (read_string (read_by m) m.b.now)) (λ xs q h. gives (constant_pool h.1, h.0))
+  fields_shown OpCode.WaitForFrame = next _ (u16 m.b.now p) (λ h. next _ (u8 m.b.now (p + 2)) (λ i. gives (rw (three p) (wait_for_frame, omega arith))))
+  fields_shown OpCode.SetTarget = next_text _ (string m p) (λ x h. gives (set_target h, h.ends))
+  fields_shown OpCode.GotoLabel = next_text _ (string m p) (λ x h. gives (goto_label h, h.ends))
+  fields_shown OpCode.WaitForFrame2 = next _ (u8 m.b.now p) (λ h. gives (wait_for_frame2, h))
   fields_shown OpCode.DefineFunction2 =
-      next_text _ (string t e index b p) (λ x m. then (counted b (span_at t e index b p).next (read_param terms b)) (λ ps r n. next _ (u8 b r.at)
-      (λ o. next _ (passed b (r.at + 1) (λ f. ltb f 512) (read_u16 b) (u16 b (r.at + 1))) (λ h. then (itself (inner (placed (r.at + 1 + 2))))
-      (λ a q g. gives (define_function2 m n.1 (omega (arith, h.0)) (ltb-true _ _ h.1) (rw (three' r.at) at g), n.0))))))
-  fields_shown OpCode.Try = next _ (passed b p is_shape (read_u8 b) (u8 b p)) (λ m. try_shown (get_or b p 0) refl m.0 m.1)
+      next_text _ (string m p) (λ x h. then (counted m.b.now (span_at m p).next (read_param (read_by m) m.b.now)) (λ ps r i. next _ (u8 m.b.now r.at)
+      (λ o. next _ (passed m.b.now (r.at + 1) (λ f. ltb f 512) (read_u16 m.b.now) (u16 m.b.now (r.at + 1))) (λ j. then (itself (inner (placed (r.at + 1 + 2))))
+      (λ a q g. gives (define_function2 h i.1 (omega (arith, j.0)) (ltb-true _ _ j.1) (rw (three' r.at) at g), i.0))))))
+  fields_shown OpCode.Try = next _ (passed m.b.now p is_shape (read_u8 m.b.now) (u8 m.b.now p)) (λ h. try_shown (get_or m.b.now p 0) refl h.0 h.1)
   fields_shown OpCode.With = then (itself (inner (placed p))) (λ x q e. gives (with e, l))
-  fields_shown OpCode.Push = then (counted b p (read_value terms b)) (λ xs q m. gives (push m.1, m.0))
-  fields_shown OpCode.Jump = next _ label (λ m. gives (jump m.1, m.0))
+  fields_shown OpCode.Push = then (counted m.b.now p (read_value (read_by m) m.b.now)) (λ xs q h. gives (push h.1, h.0))
+  fields_shown OpCode.Jump = next _ label (λ h. gives (jump h.1, h.0))
   fields_shown OpCode.GetUrl2 =
-      next _ (flag b p) (λ m. next _ (flag b (p + 1)) (λ n. next _ (u8 b (p + 1 + 1)) (λ o. gives (rw (two p, three p) (get_url2 m.1 n.1, omega arith)))))
+      next _ (flag m.b.now p) (λ h. next _ (flag m.b.now (p + 1)) (λ i. next _ (u8 m.b.now (p + 1 + 1)) (λ j. gives (rw (two p, three p) (get_url2 h.1 i.1, omega arith)))))
   fields_shown OpCode.DefineFunction =
-      next_text _ (string t e index b p) (λ x m. then (counted b (span_at t e index b p).next (read_string terms b)) (λ ps r n. then (itself (inner r))
-      (λ a q g. gives (define_function m n.1 g, n.0))))
-  fields_shown OpCode.If = next _ label (λ m. gives (if m.1, m.0))
-  fields_shown OpCode.GotoFrame2 = next _ (u16 b p) (λ m. next _ (flag b (p + 2)) (λ n. gives (rw (three p) (goto_frame2 n.1, omega (arith, n.0)))))
+      next_text _ (string m p) (λ x h. then (counted m.b.now (span_at m p).next (read_string (read_by m) m.b.now)) (λ ps r i. then (itself (inner r))
+      (λ a q g. gives (define_function h i.1 g, i.0))))
+  fields_shown OpCode.If = next _ label (λ h. gives (if h.1, h.0))
+  fields_shown OpCode.GotoFrame2 = next _ (u16 m.b.now p) (λ h. next _ (flag m.b.now (p + 2)) (λ i. gives (rw (three p) (goto_frame2 i.1, omega (arith, i.0)))))
 
 -- ---- by the opcode's byte
 
@@ -163,26 +160,26 @@ arm_listed is_if = refl
 arm_listed is_goto_frame2 = refl
 
 -- the same by the byte that stands at p
-action_taken : (t : code-terms.Terms) (e index b : List ℕ) (p : ℕ) {n : ℕ} {op : OpCode} → Arm n op → get_or b p 0 ≡ n → (inner : Reader (ActionsOf Text ℕ))
-    → Gives (λ a q. Shown (terms_of t e index) b e inner (p + 1) (action_at t e index b op (p + 1)) a q × (taken t e index b op (p + 1) ≤ length b)) (read_action (terms_of t e index) b inner (placed p))
+action_taken : (m : MainBody) (p : ℕ) {n : ℕ} {op : OpCode} → Arm n op → get_or m.b.now p 0 ≡ n → (inner : Reader (ActionsOf Text ℕ))
+    → Gives (λ a q. Shown (read_by m) m.b.now m.words.now inner (p + 1) (action_at m op (p + 1)) a q × (taken m op (p + 1) ≤ length m.b.now)) (read_action (read_by m) m.b.now inner (placed p))
 unfolding read_action read_fields_if
-action_taken t e index b p {op = op} arm h inner = next _ (u8 b p) (λ l. rw (h, arm_listed arm) (fields_shown t e index b inner (p + 1) l op))
+action_taken m p {op = op} arm h inner = next _ (u8 m.b.now p) (λ l. rw (h, arm_listed arm) (fields_shown m inner (p + 1) l op))
 
-module _ (t : code-terms.Terms) (e index : List ℕ) {b : List ℕ} {p n : ℕ} {op : OpCode} where
-  pub action_shown : Arm n op → get_or b p 0 ≡ n → TakesAction t e index b p (action_at t e index b op (p + 1))
+module _ {m : MainBody} {p n : ℕ} {op : OpCode} where
+  pub action_shown : Arm n op → get_or m.b.now p 0 ≡ n → TakesAction m p (action_at m op (p + 1))
   action_shown arm h = record {
-    is = λ o g. ap (λ x. action_at t e index b x (p + 1)) (found_once (ap opcode_of h ∙ arm_listed arm) g);
-    shows = record { shows = λ inner a q r. (given (action_taken t e index b p arm h inner) r).0 };
+    is = λ o g. ap (λ x. action_at m x (p + 1)) (found_once (ap opcode_of h ∙ arm_listed arm) g);
+    shows = record { shows = λ inner a q r. (given (action_taken m p arm h inner) r).0 };
   }
 
   -- what it takes lies within b
-  pub action_room : Arm n op → get_or b p 0 ≡ n → ActionReads (terms_of t e index) b p → taken t e index b op (p + 1) ≤ length b
-  action_room arm h reads = (given (action_taken t e index b p arm h reads.inner) reads.reads).1
+  pub action_room : Arm n op → get_or m.b.now p 0 ≡ n → ActionReads m p → taken m op (p + 1) ≤ length m.b.now
+  action_room arm h reads = (given (action_taken m p arm h reads.inner) reads.reads).1
 
 -- there is an opcode at p
-pub opcode_room : {terms : Terms} {b : List ℕ} {p : ℕ} → ActionReads terms b p → p + 1 ≤ length b
+pub opcode_room : {m : MainBody} {p : ℕ} → ActionReads m p → p + 1 ≤ length m.b.now
 unfolding read_action
-opcode_room {b = b} {p = p} reads = given (first _ (u8 b p)) reads.reads
+opcode_room {m} {p} reads = given (first _ (u8 m.b.now p)) reads.reads
 
 -- it is listed
 opcode_if : (terms : Terms) (b : List ℕ) (inner : Reader (ActionsOf Text ℕ)) (o : Option OpCode) (q r : Place)
@@ -192,12 +189,12 @@ opcode_if terms b inner (some op) q r = anyway _ (found op refl)
 opcode_if terms b inner none q r = refuses
 
 -- so there is just one result that shows the action at p
-pub same_action : {t : code-terms.Terms} {e index b : List ℕ} {p : ℕ} {r s : Action} → ActionReads (terms_of t e index) b p → TakesAction t e index b p r → TakesAction t e index b p s → r ≡ s
+pub same_action : {m : MainBody} {p : ℕ} {r s : Action} → ActionReads m p → TakesAction m p r → TakesAction m p s → r ≡ s
 unfolding read_action
-same_action {t} {e} {index} {b} {p} {r} {s} reads h j =
-    go (given (next _ (u8 b p) (λ l. opcode_if (terms_of t e index) b reads.inner (opcode_of (get_or b p 0)) _ _)) reads.reads)
+same_action {m} {p} {r} {s} reads h j =
+    go (given (next _ (u8 m.b.now p) (λ l. opcode_if (read_by m) m.b.now reads.inner (opcode_of (get_or m.b.now p 0)) _ _)) reads.reads)
   where
-    go : Found (opcode_of (get_or b p 0)) → r ≡ s
+    go : Found (opcode_of (get_or m.b.now p 0)) → r ≡ s
     go (found op g) = h.is op g ∙ sym (j.is op g)
 
 -- ---- every other opcode
@@ -236,8 +233,8 @@ small_op : {n : ℕ} → NoneOf field_bytes n → (op : OpCode) → opcode_of n 
 small_op {n} h op e = small_byte_lem h op (unfold opcode_of in first_with_lem byte n opcodes op e)
 
 -- it is all that the code takes
-small_is : (t : code-terms.Terms) (e index b : List ℕ) (p : ℕ) {n : ℕ} {op : OpCode} → IsSmall n op → code.Small n ≡ action_at t e index b op p
-small_is t e index b p (is_small g) = ap (λ m. code.Small m) (sym g)
+small_is : (m : MainBody) (p : ℕ) {n : ℕ} {op : OpCode} → IsSmall n op → code.Small n ≡ action_at m op p
+small_is m p (is_small g) = ap (λ n. code.Small n) (sym g)
 
 small_shown : (terms : Terms) (b e : List ℕ) (inner : Reader (ActionsOf Text ℕ)) (p n : ℕ) (o : Option OpCode) (q : Place) → ((op : OpCode) → o ≡ some op → IsSmall n op)
     → Gives (Shown terms b e inner p (code.Small n)) (read_fields_if terms b inner o q (placed p))
@@ -249,9 +246,9 @@ small_shown terms b e inner p n (some op) q h = go (h op refl)
 small_shown terms b e inner p n none q h = refuses
 
 -- the same by the byte that stands at p
-pub other_shown : {t : code-terms.Terms} {e index b : List ℕ} {p : ℕ} → NoneOf field_bytes (get_or b p 0) → TakesAction t e index b p (code.Small (get_or b p 0))
+pub other_shown : {m : MainBody} {p : ℕ} → NoneOf field_bytes (get_or m.b.now p 0) → TakesAction m p (code.Small (get_or m.b.now p 0))
 unfolding read_action
-other_shown {t} {e} {index} {b} {p} h = record {
-  is = λ op g. small_is t e index b (p + 1) (small_op h op g);
-  shows = record { shows = λ inner a q r. given (next _ (u8 b p) (λ l. small_shown (terms_of t e index) b e inner (p + 1) (get_or b p 0) (opcode_of (get_or b p 0)) _ (small_op h))) r };
+other_shown {m} {p} h = record {
+  is = λ op g. small_is m (p + 1) (small_op h op g);
+  shows = record { shows = λ inner a q r. given (next _ (u8 m.b.now p) (λ l. small_shown (read_by m) m.b.now m.words.now inner (p + 1) (get_or m.b.now p 0) (opcode_of (get_or m.b.now p 0)) _ (small_op h))) r };
 }

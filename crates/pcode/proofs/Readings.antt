@@ -3,25 +3,25 @@
 use mathlib.Core.Path.{◌≡◌, refl, sym, subst, ◌∙◌}
 use Prim.Native.Nat.{ℕ, ◌+◌, ◌≤◌, ◌<◌}
 use native.Mathlib.Omega.{arith}
-use mathlib.Core.Bool.{Bool, true, false, ◌&&◌}
+use mathlib.Core.Bool.{Bool, true, false}
 use mathlib.Core.Option.{Option, none, some}
 use mathlib.Core.List.{List}
 use lib.ListN.{length, get_or}
 use lib.Dec.{leb, ltb, eqb}
 use borrow.Author.Tests.{leb-true, ltb-true}
-use Rattle.layout.specs.Lists.{pick}
 use Rattle.layout.specs.Numbers.{u16_at, u32_at, u64_at}
 use Rattle.layout.specs.Answers.{Fault}
 use Rattle.layout.specs.Pack as definition
 use Rattle.layout.specs.Read.{Place, placed, Stop, Read, got, bad, Reader, chain, more_begun, if_whole, if_within, tested, repeat, first_zero, if_no_zero, read_u8, read_u16, read_u32, read_u64, read_bytes, read_flag, read_spelling, read_plain, read_word, read_text, read_counted, read_string}
 use Rattle.fields.specs.Runs.{part}
 use Rattle.editions.specs.Words.{words_by, words_if}
-use Rattle.editions.specs.Allowed.{terms_of}
-use Rattle.editions.specs.declared.Terms as code-terms
+use Rattle.editions.specs.Allowed.{read_by}
+use Rattle.editions.specs.declared.MainBody.{MainBody}
 use Rattle.editions.proofs.Listed.{length_words, word_listed}
 use Rattle.words.specs.Found.{found_at}
 use Rattle.words.proofs.Places.{found_at_lem}
-use Rattle.pcode.specs.Shown.{book_span, plain_span, span_at, IsText}
+use Rattle.std.specs.Prelude as code
+use Rattle.pcode.specs.Shown.{book_span, plain_span, span_behind, span_at, IsText}
 
 -- a reading refuses, or what it gives has the property
 pub data Gives {A : Type 0} (P : A → Place → Type 0) : Read A → Type 0 where
@@ -144,49 +144,44 @@ module _ (b : List ℕ) (p : ℕ) where
   unfolding read_spelling read_bytes
   spelling n = next _ (whole (leb (p + n) (length b)) _ (leb-true _ _)) (λ l. no_zero _ (first_zero 0 (part b p n)) l)
 
-module _ (t : code-terms.Terms) (e index b : List ℕ) (p : ℕ) where
-  -- the span at p, by the code's test
-  pub span_word : (t.names_words && eqb (u16_at b p) 65535) ≡ true
-      → span_at t e index b p ≡ book_span (found_at e index t.word_count (u16_at b (p + 2))) (p + 2 + 2)
-  unfolding span_at pick
-  span_word h = rw h
-
-  pub span_plain : (t.names_words && eqb (u16_at b p) 65535) ≡ false → span_at t e index b p ≡ plain_span (p + 2) (u16_at b p)
-  unfolding span_at pick
-  span_plain h = rw h
-
+module _ (m : MainBody) (p : ℕ) where
   -- a word's bytes stand where it is found
-  word : Gives (Behind (IsText b e (book_span (found_at e index t.word_count (u16_at b (p + 2))) (p + 2 + 2))) (placed (p + 2 + 2))) (read_word b (words_by e index t.word_count) (placed (p + 2)))
+  word : (count : ℕ) → Gives (Behind (IsText m.b.now m.words.now (book_span (found_at m.words.now m.index.now count (u16_at m.b.now p)) (p + 2))) (placed (p + 2))) (read_word m.b.now (words_by m.words.now m.index.now count) (placed p))
   unfolding read_word definition.spelling
-  word =
-      next _ (passed b (p + 2) (λ i. ltb i (length (words_by e index t.word_count))) (read_u16 b) (u16 b (p + 2))) (λ l.
-      let f = found_at_lem e index t.word_count (u16_at b (p + 2)) in
-      let n : u16_at b (p + 2) < t.word_count = rw (length_words e index t.word_count) at (ltb-true (u16_at b (p + 2)) (length (words_by e index t.word_count)) l.1) in
-      gives (behind_it (record { within = f.0; is = word_listed e index t.word_count (u16_at b (p + 2)) n ∙ sym f.1; ends = l.0 })))
+  word count =
+      next _ (passed m.b.now p (λ i. ltb i (length (words_by m.words.now m.index.now count))) (read_u16 m.b.now) (u16 m.b.now p)) (λ l.
+      let f = found_at_lem m.words.now m.index.now count (u16_at m.b.now p) in
+      let n : u16_at m.b.now p < count = rw (length_words m.words.now m.index.now count) at (ltb-true (u16_at m.b.now p) (length (words_by m.words.now m.index.now count)) l.1) in
+      gives (behind_it (record { within = f.0; is = word_listed m.words.now m.index.now count (u16_at m.b.now p) n ∙ sym f.1; ends = l.0 })))
 
   -- a plain string's behind its length
-  bytes : Gives (Behind (IsText b e (plain_span (p + 2) (u16_at b p))) (placed (p + 2 + u16_at b p))) (read_plain b (u16_at b p) (placed (p + 2)))
+  bytes : (n : ℕ) → Gives (Behind (IsText m.b.now m.words.now (plain_span p n)) (placed (p + n))) (read_plain m.b.now n (placed p))
   unfolding read_plain definition.spelling
-  bytes = next _ (spelling b (p + 2) (u16_at b p)) (λ m. gives (behind_it (record { within = m; is = refl; ends = m })))
+  bytes n = next _ (spelling m.b.now p n) (λ h. gives (behind_it (record { within = h; is = refl; ends = h })))
 
+  -- the span behind a length is the string read there
+  behind_length : (count : code.Option ℕ) (t : Bool) (n : ℕ)
+      → Gives (Behind (IsText m.b.now m.words.now (span_behind m count t p n)) (placed (span_behind m count t p n).next)) (read_text m.b.now (words_if count m.words.now m.index.now) t n (placed p))
+  unfolding read_text words_if
+  behind_length (code.Some count) true n = word count
+  behind_length (code.Some count) false n = bytes n
+  behind_length code.None t n = bytes n
+
+module _ (m : MainBody) (p : ℕ) where
   -- a string, whose bytes are those of the span at p
-  pub string : Gives (Behind (IsText b e (span_at t e index b p)) (placed (span_at t e index b p).next)) (read_string (terms_of t e index) b (placed p))
-  unfolding read_string read_text words_if
-  string = next _ (u16 b p) (λ l. go t.names_words (eqb (u16_at b p) 65535) refl refl)
-    where
-      go : (x y : Bool) → t.names_words ≡ x → eqb (u16_at b p) 65535 ≡ y
-          → Gives (Behind (IsText b e (span_at t e index b p)) (placed (span_at t e index b p).next)) (read_text b (words_if t.names_words (words_by e index t.word_count)) (eqb (u16_at b p) 65535) (u16_at b p) (placed (p + 2)))
-      go true true i j = let h : (t.names_words && eqb (u16_at b p) 65535) ≡ true = rw (i, j) in rw (span_word h, i, j) word
-      go true false i j = let h : (t.names_words && eqb (u16_at b p) 65535) ≡ false = rw (i, j) in rw (span_plain h, i, j) bytes
-      go false y i j = let h : (t.names_words && eqb (u16_at b p) 65535) ≡ false = rw i in rw (span_plain h, i) bytes
+  pub string : Gives (Behind (IsText m.b.now m.words.now (span_at m p)) (placed (span_at m p).next)) (read_string (read_by m) m.b.now (placed p))
+  unfolding read_string span_at
+  string = next _ (u16 m.b.now p) (λ l. behind_length m (p + 2) m.terms.word_count (eqb (u16_at m.b.now p) 65535) (u16_at m.b.now p))
 
   -- the length stands before the end
-  pub span_least : p + 2 ≤ (span_at t e index b p).next
-  span_least = go (t.names_words && eqb (u16_at b p) 65535) refl
+  pub span_least : p + 2 ≤ (span_at m p).next
+  unfolding span_at
+  span_least = go m.terms.word_count (eqb (u16_at m.b.now p) 65535)
     where
-      go : (x : Bool) → (t.names_words && eqb (u16_at b p) 65535) ≡ x → p + 2 ≤ (span_at t e index b p).next
-      go true h = rw (span_word h) (omega arith)
-      go false h = rw (span_plain h) (omega arith)
+      go : (count : code.Option ℕ) (t : Bool) → p + 2 ≤ (span_behind m count t (p + 2) (u16_at m.b.now p)).next
+      go (code.Some count) true = omega arith
+      go (code.Some count) false = omega arith
+      go code.None t = omega arith
 
 -- what is given behind n actions is given
 pub got_behind : {A : Type 0} {m : Read A} {a : A} {q : Place} (n : ℕ) → more_begun n m ≡ got a q → m ≡ got a q

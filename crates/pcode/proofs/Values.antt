@@ -9,8 +9,8 @@ use Rattle.layout.proofs.Lists.{first_with_lem}
 use Rattle.layout.specs.PushKind.{PushKind, kind_byte, push_kinds, kind_of}
 use Rattle.layout.specs.Tree.{PushValueOf}
 use Rattle.layout.specs.Read.{Text, Terms, Place, placed, read_value_of, read_value_if, read_value}
-use Rattle.editions.specs.Allowed.{terms_of}
-use Rattle.editions.specs.declared.Terms as code-terms
+use Rattle.editions.specs.Allowed.{read_by}
+use Rattle.editions.specs.declared.MainBody.{MainBody}
 use Rattle.pcode.specs.declared.PushAt.{PushAt}
 use Rattle.pcode.specs.Shown.{value_at, ShownValue, string, null, undefined, register, boolean, float, integer, constant, ValueReads, TakesValue}
 use Rattle.pcode.proofs.Readings as reading
@@ -21,18 +21,18 @@ use Rattle.pcode.proofs.Readings.{Gives, gives, refuses, given, next, next_text,
 abbrev Pushed : List ℕ → List ℕ → PushAt → PushValueOf Text → Place → Type 0
 Pushed b e r x q = ShownValue b e r.value x × (q ≡ placed r.next) × (r.next ≤ length b)
 
-module _ (t : code-terms.Terms) (e index b : List ℕ) (p : ℕ) (l : p ≤ length b) where
+module _ (m : MainBody) (p : ℕ) (l : p ≤ length m.b.now) where
   -- what the code takes for a kind shows the value that the definitions read
-  kind_shown : (k : PushKind) → Gives (Pushed b e (value_at t e index b k p)) (read_value_of (terms_of t e index) b k (placed p))
+  kind_shown : (k : PushKind) → Gives (Pushed m.b.now m.words.now (value_at m k p)) (read_value_of (read_by m) m.b.now k (placed p))
   unfolding read_value_of
-  kind_shown PushKind.String = next_text _ (reading.string t e index b p) (λ x m. gives (string m, refl, m.ends))
+  kind_shown PushKind.String = next_text _ (reading.string m p) (λ x h. gives (string h, refl, h.ends))
   kind_shown PushKind.Null = gives (null, refl, l)
   kind_shown PushKind.Undefined = gives (undefined, refl, l)
-  kind_shown PushKind.Register = next _ (u8 b p) (λ m. gives (register, refl, m))
-  kind_shown PushKind.Boolean = next _ (reading.flag b p) (λ m. gives (boolean m.1, refl, m.0))
-  kind_shown PushKind.Float = next _ (reading.u64 b p) (λ m. gives (float, refl, m))
-  kind_shown PushKind.Integer = next _ (reading.u32 b p) (λ m. gives (integer, refl, m))
-  kind_shown PushKind.Constant = next _ (reading.u16 b p) (λ m. gives (constant, refl, m))
+  kind_shown PushKind.Register = next _ (u8 m.b.now p) (λ h. gives (register, refl, h))
+  kind_shown PushKind.Boolean = next _ (reading.flag m.b.now p) (λ h. gives (boolean h.1, refl, h.0))
+  kind_shown PushKind.Float = next _ (reading.u64 m.b.now p) (λ h. gives (float, refl, h))
+  kind_shown PushKind.Integer = next _ (reading.u32 m.b.now p) (λ h. gives (integer, refl, h))
+  kind_shown PushKind.Constant = next _ (reading.u16 m.b.now p) (λ h. gives (constant, refl, h))
 
 -- the kinds, each by its byte, as a match on the byte has them
 pub data KindArm : ℕ → PushKind → Type 0 where
@@ -58,26 +58,26 @@ kind_listed is_integer = refl
 kind_listed is_constant = refl
 
 -- what the code takes for the kind that stands at p shows the value there, and the place after it
-pushed : (t : code-terms.Terms) (e index b : List ℕ) (p : ℕ) {n : ℕ} {k : PushKind} → KindArm n k → get_or b p 0 ≡ n
-    → Gives (Pushed b e (value_at t e index b k (p + 1))) (read_value (terms_of t e index) b (placed p))
+pushed : (m : MainBody) (p : ℕ) {n : ℕ} {k : PushKind} → KindArm n k → get_or m.b.now p 0 ≡ n
+    → Gives (Pushed m.b.now m.words.now (value_at m k (p + 1))) (read_value (read_by m) m.b.now (placed p))
 unfolding read_value read_value_if
-pushed t e index b p {k = k} arm h = next _ (u8 b p) (λ l. rw (h, kind_listed arm) (kind_shown t e index b (p + 1) l k))
+pushed m p {k = k} arm h = next _ (u8 m.b.now p) (λ l. rw (h, kind_listed arm) (kind_shown m (p + 1) l k))
 
-module _ (t : code-terms.Terms) (e index : List ℕ) {b : List ℕ} {p n : ℕ} {k : PushKind} where
-  pub value_shown : KindArm n k → get_or b p 0 ≡ n → TakesValue t e index b p (value_at t e index b k (p + 1))
+module _ {m : MainBody} {p n : ℕ} {k : PushKind} where
+  pub value_shown : KindArm n k → get_or m.b.now p 0 ≡ n → TakesValue m p (value_at m k (p + 1))
   value_shown arm h = record {
-    is = λ kind g. ap (λ k. value_at t e index b k (p + 1)) (found_once (ap kind_of h ∙ kind_listed arm) g);
-    shows = record { shows = λ x q r. let g = given (pushed t e index b p arm h) r in (g.0, g.1) };
+    is = λ kind g. ap (λ k. value_at m k (p + 1)) (found_once (ap kind_of h ∙ kind_listed arm) g);
+    shows = record { shows = λ x q r. let g = given (pushed m p arm h) r in (g.0, g.1) };
   }
 
   -- it ends within b
-  pub value_room : KindArm n k → get_or b p 0 ≡ n → ValueReads (terms_of t e index) b p → (value_at t e index b k (p + 1)).next ≤ length b
-  value_room arm h reads = (given (pushed t e index b p arm h) reads.reads).2
+  pub value_room : KindArm n k → get_or m.b.now p 0 ≡ n → ValueReads m p → (value_at m k (p + 1)).next ≤ length m.b.now
+  value_room arm h reads = (given (pushed m p arm h) reads.reads).2
 
 -- there is a kind at p
-pub kind_room : {terms : Terms} {b : List ℕ} {p : ℕ} → ValueReads terms b p → p + 1 ≤ length b
+pub kind_room : {m : MainBody} {p : ℕ} → ValueReads m p → p + 1 ≤ length m.b.now
 unfolding read_value
-kind_room {b = b} {p = p} reads = given (first _ (u8 b p)) reads.reads
+kind_room {m} {p} reads = given (first _ (u8 m.b.now p)) reads.reads
 
 -- where a value reads, a kind stands
 kind_if : (terms : Terms) (b : List ℕ) (o : Option PushKind) (q r : Place) → Gives (λ a s. Found o) (read_value_if terms b o q r)
@@ -85,15 +85,15 @@ unfolding read_value_if
 kind_if terms b (some kind) q r = anyway _ (found kind refl)
 kind_if terms b none q r = refuses
 
-kind_at : {terms : Terms} {b : List ℕ} {p : ℕ} → ValueReads terms b p → Found (kind_of (get_or b p 0))
+kind_at : {m : MainBody} {p : ℕ} → ValueReads m p → Found (kind_of (get_or m.b.now p 0))
 unfolding read_value
-kind_at {terms} {b} {p} reads = given (next _ (u8 b p) (λ l. kind_if terms b (kind_of (get_or b p 0)) _ _)) reads.reads
+kind_at {m} {p} reads = given (next _ (u8 m.b.now p) (λ l. kind_if (read_by m) m.b.now (kind_of (get_or m.b.now p 0)) _ _)) reads.reads
 
 -- so there is just one result that shows it
-pub same_value : {t : code-terms.Terms} {e index b : List ℕ} {p : ℕ} {r s : PushAt} → ValueReads (terms_of t e index) b p → TakesValue t e index b p r → TakesValue t e index b p s → r ≡ s
-same_value {b = b} {p = p} {r = r} {s = s} reads h j = go (kind_at reads)
+pub same_value : {m : MainBody} {p : ℕ} {r s : PushAt} → ValueReads m p → TakesValue m p r → TakesValue m p s → r ≡ s
+same_value {m} {p} {r} {s} reads h j = go (kind_at reads)
   where
-    go : Found (kind_of (get_or b p 0)) → r ≡ s
+    go : Found (kind_of (get_or m.b.now p 0)) → r ≡ s
     go (found kind e) = h.is kind e ∙ sym (j.is kind e)
 
 -- ---- the last kind
@@ -115,8 +115,8 @@ last_kind PushKind.Integer e h = absurd (barred other_kinds h e refl)
 last_kind PushKind.Constant e h = sym e
 
 -- the kind at p is a constant's if it is no other
-pub constant_kind : {terms : Terms} {b : List ℕ} {p : ℕ} → ValueReads terms b p → NoneOf other_kinds (get_or b p 0) → get_or b p 0 ≡ 8
-constant_kind {b = b} {p = p} reads h = go (kind_at reads)
+pub constant_kind : {m : MainBody} {p : ℕ} → ValueReads m p → NoneOf other_kinds (get_or m.b.now p 0) → get_or m.b.now p 0 ≡ 8
+constant_kind {m} {p} reads h = go (kind_at reads)
   where
-    go : Found (kind_of (get_or b p 0)) → get_or b p 0 ≡ 8
-    go (found kind e) = last_kind kind (unfold kind_of in first_with_lem kind_byte (get_or b p 0) push_kinds kind e) h
+    go : Found (kind_of (get_or m.b.now p 0)) → get_or m.b.now p 0 ≡ 8
+    go (found kind e) = last_kind kind (unfold kind_of in first_with_lem kind_byte (get_or m.b.now p 0) push_kinds kind e) h

@@ -1,9 +1,7 @@
--- What the code's cases show of the action and the push value that the definitions read at a place of the main body b, where e are
--- the bytes of a book's entries, and index holds places in them.
--- Assumes nothing.
-use Rattle.std.specs.Prelude.{◌≡◌, ℕ, ◌+◌, ◌≤◌, ◌<◌, Bool, true, false, ◌&&◌, cond, List, length, get_or, eqb}
+-- What the code's cases show of the action and the push value that the definitions read at a place of a main body, whose bytes are b,
+-- and e are the bytes of a book's entries. Assumes nothing.
+use Rattle.std.specs.Prelude.{◌≡◌, ℕ, ◌+◌, ◌≤◌, ◌<◌, Bool, true, false, cond, List, length, get_or, eqb, Option, Some, None}
 use Rattle.std.proofs.Math.Option.{some}
-use Rattle.layout.specs.Lists.{pick}
 use Rattle.layout.specs.Numbers.{u16_at, u32_at, u64_at}
 use Rattle.layout.specs.OpCode.{OpCode, SmallOpCode, small_byte, opcode_of}
 use Rattle.layout.specs.PushKind.{PushKind, kind_of}
@@ -11,8 +9,8 @@ use Rattle.layout.specs.Tree.{PushValueOf, String, Null, Undefined, Register, Bo
 use Rattle.layout.specs.Read.{Text, Terms, Place, placed, got, Reader, repeat, has_catch, has_finally, has_register, is_shape, read_string, read_value, read_param, read_catch, read_finally, read_action}
 use Rattle.layout.specs.Pack.{spelling}
 use Rattle.fields.specs.Runs.{part}
-use Rattle.editions.specs.Allowed.{terms_of}
-use Rattle.editions.specs.declared.Terms as code-terms
+use Rattle.editions.specs.Allowed.{read_by}
+use Rattle.editions.specs.declared.MainBody.{MainBody}
 use Rattle.words.specs.declared.Word.{Word}
 use Rattle.words.specs.Found.{found_at}
 use Rattle.pcode.specs.declared.Span.{Span}
@@ -43,14 +41,21 @@ book_span w q = record { from_book = true; at = w.at; len = w.len; next = q }
 abbrev pub plain_span : ℕ → ℕ → Span
 plain_span p n = record { from_book = false; at = p; len = n; next = p + n }
 
-module _ (t : code-terms.Terms) (e index b : List ℕ) where
+module _ (m : MainBody) where
+  -- a string's span behind its length n, where there may be so many words: behind the length 65,535 a word's number stands at p, and
+  -- else so many bytes
+  abbrev pub span_behind : Option ℕ → Bool → ℕ → ℕ → Span
+  span_behind (Some count) true p n = book_span (found_at m.words.now m.index.now count (u16_at m.b.now p)) (p + 2)
+  span_behind (Some count) false p n = plain_span p n
+  span_behind None word p n = plain_span p n
+
   -- the string at p: a word, by its number behind the length 65,535, or the bytes behind its length
   unfoldable pub span_at : ℕ → Span
-  span_at p = pick (t.names_words && eqb (u16_at b p) 65535) (book_span (found_at e index t.word_count (u16_at b (p + 2))) (p + 2 + 2)) (plain_span (p + 2) (u16_at b p))
+  span_at p = span_behind m.terms.word_count (eqb (u16_at m.b.now p) 65535) (p + 2) (u16_at m.b.now p)
 
   -- a name at p, the count of parameters behind it, and the first one's place
   abbrev pub function_at : ℕ → Function
-  function_at p = record { name = span_at p; count = u16_at b (span_at p).next; at = (span_at p).next + 2 }
+  function_at p = record { name = span_at p; count = u16_at m.b.now (span_at p).next; at = (span_at p).next + 2 }
 
 -- a span shows the string of its bytes, all of which stand in b or in e, and ends within b
 pub record IsText (b e : List ℕ) (s : Span) (t : Text) : Type 0 where
@@ -64,17 +69,17 @@ pub record IsText (b e : List ℕ) (s : Span) (t : Text) : Type 0 where
 abbrev pub push_at : PushValue → ℕ → PushAt
 push_at x q = record { value = x; next = q }
 
-module _ (t : code-terms.Terms) (e index b : List ℕ) where
+module _ (m : MainBody) where
   -- what stands at p behind a kind, and the place after it
   abbrev pub value_at : PushKind → ℕ → PushAt
-  value_at PushKind.String p = push_at (value.String (span_at t e index b p)) (span_at t e index b p).next
+  value_at PushKind.String p = push_at (value.String (span_at m p)) (span_at m p).next
   value_at PushKind.Null p = push_at value.Null p
   value_at PushKind.Undefined p = push_at value.Undefined p
-  value_at PushKind.Register p = push_at (value.Register (get_or b p 0)) (p + 1)
-  value_at PushKind.Boolean p = push_at (value.Boolean (get_or b p 0)) (p + 1)
-  value_at PushKind.Float p = push_at (value.Float (u64_at b p)) (p + 8)
-  value_at PushKind.Integer p = push_at (value.Integer (u32_at b p)) (p + 4)
-  value_at PushKind.Constant p = push_at (value.Constant (u16_at b p)) (p + 2)
+  value_at PushKind.Register p = push_at (value.Register (get_or m.b.now p 0)) (p + 1)
+  value_at PushKind.Boolean p = push_at (value.Boolean (get_or m.b.now p 0)) (p + 1)
+  value_at PushKind.Float p = push_at (value.Float (u64_at m.b.now p)) (p + 8)
+  value_at PushKind.Integer p = push_at (value.Integer (u32_at m.b.now p)) (p + 4)
+  value_at PushKind.Constant p = push_at (value.Constant (u16_at m.b.now p)) (p + 2)
 
 -- a case of the code, and the push value that it shows
 pub data ShownValue (b e : List ℕ) : PushValue → PushValueOf Text → Type 0 where
@@ -96,76 +101,76 @@ pub data ShownValue (b e : List ℕ) : PushValue → PushValueOf Text → Type 0
   constant : {i : ℕ} → ShownValue b e (value.Constant i) (Constant i)
 
 -- the definitions read a push value at p
-pub record ValueReads (terms : Terms) (b : List ℕ) (p : ℕ) : Type 0 where
+pub record ValueReads (m : MainBody) (p : ℕ) : Type 0 where
   pub value : PushValueOf Text
   pub next : Place
-  pub reads : read_value terms b (placed p) ≡ got value next
+  pub reads : read_value (read_by m) m.b.now (placed p) ≡ got value next
 
 -- r shows the push value that the definitions read at p, and holds the place after it
-pub record ShowsValue (terms : Terms) (b e : List ℕ) (p : ℕ) (r : PushAt) : Type 0 where
-  pub shows : (x : PushValueOf Text) (q : Place) → read_value terms b (placed p) ≡ got x q → ShownValue b e r.value x × (q ≡ placed r.next)
+pub record ShowsValue (m : MainBody) (p : ℕ) (r : PushAt) : Type 0 where
+  pub shows : (x : PushValueOf Text) (q : Place) → read_value (read_by m) m.b.now (placed p) ≡ got x q → ShownValue m.b.now m.words.now r.value x × (q ≡ placed r.next)
 
 -- r is what stands behind the kind at p, and shows what is read there by the code's terms
-pub record TakesValue (t : code-terms.Terms) (e index b : List ℕ) (p : ℕ) (r : PushAt) : Type 0 where
-  pub is : (kind : PushKind) → kind_of (get_or b p 0) ≡ some kind → r ≡ value_at t e index b kind (p + 1)
-  pub shows : ShowsValue (terms_of t e index) b e p r
+pub record TakesValue (m : MainBody) (p : ℕ) (r : PushAt) : Type 0 where
+  pub is : (kind : PushKind) → kind_of (get_or m.b.now p 0) ≡ some kind → r ≡ value_at m kind (p + 1)
+  pub shows : ShowsValue m p r
 
 -- ---- actions
 
-module _ (t : code-terms.Terms) (e index b : List ℕ) where
+module _ (m : MainBody) where
   -- a Try's catch target at p, for a Try that has a catch or not, and a register or not
-  abbrev pub catch_at : Bool → Bool → ℕ → CatchTarget
-  catch_at true true p = target.Register (get_or b p 0)
-  catch_at true false p = target.Variable (span_at t e index b p)
-  catch_at false r p = target.Nothing
+  abbrev pub catch_at : Bool → Bool → ℕ → Option CatchTarget
+  catch_at true true p = Some (target.Register (get_or m.b.now p 0))
+  catch_at true false p = Some (target.Variable (span_at m p))
+  catch_at false r p = None
 
   -- the place after it
   abbrev pub after_catch : Bool → Bool → ℕ → ℕ
   after_catch true true p = p + 1
-  after_catch true false p = (span_at t e index b p).next
+  after_catch true false p = (span_at m p).next
   after_catch false r p = p
 
   -- the place after a Try's shape at p and its target
   abbrev pub after_try : ℕ → ℕ
-  after_try p = after_catch (has_catch (get_or b p 0)) (has_register (get_or b p 0)) (p + 1)
+  after_try p = after_catch (has_catch (get_or m.b.now p 0)) (has_register (get_or m.b.now p 0)) (p + 1)
 
   -- a Try's shape at p, its target and its first body's place
   abbrev pub try_at : ℕ → Action
-  try_at p = code.Try (get_or b p 0) (catch_at (has_catch (get_or b p 0)) (has_register (get_or b p 0)) (p + 1)) (after_try p)
+  try_at p = code.Try (get_or m.b.now p 0) (catch_at (has_catch (get_or m.b.now p 0)) (has_register (get_or m.b.now p 0)) (p + 1)) (after_try p)
 
   -- the two strings of a GetUrl
   abbrev pub get_url_at : ℕ → Action
-  get_url_at p = code.GetUrl (span_at t e index b p) (span_at t e index b (span_at t e index b p).next)
+  get_url_at p = code.GetUrl (span_at m p) (span_at m (span_at m p).next)
 
   -- what stands at p behind an opcode
   abbrev pub action_at : OpCode → ℕ → Action
   action_at (OpCode.Small op) p = code.Small (small_byte op)
-  action_at OpCode.GotoFrame p = code.GotoFrame (u16_at b p)
+  action_at OpCode.GotoFrame p = code.GotoFrame (u16_at m.b.now p)
   action_at OpCode.GetUrl p = get_url_at p
-  action_at OpCode.StoreRegister p = code.StoreRegister (get_or b p 0)
-  action_at OpCode.ConstantPool p = code.ConstantPool (u16_at b p) (p + 2)
-  action_at OpCode.WaitForFrame p = code.WaitForFrame (u16_at b p) (get_or b (p + 2) 0)
-  action_at OpCode.SetTarget p = code.SetTarget (span_at t e index b p)
-  action_at OpCode.GotoLabel p = code.GotoLabel (span_at t e index b p)
-  action_at OpCode.WaitForFrame2 p = code.WaitForFrame2 (get_or b p 0)
-  action_at OpCode.DefineFunction2 p = code.DefineFunction2 (function_at t e index b p)
+  action_at OpCode.StoreRegister p = code.StoreRegister (get_or m.b.now p 0)
+  action_at OpCode.ConstantPool p = code.ConstantPool (u16_at m.b.now p) (p + 2)
+  action_at OpCode.WaitForFrame p = code.WaitForFrame (u16_at m.b.now p) (get_or m.b.now (p + 2) 0)
+  action_at OpCode.SetTarget p = code.SetTarget (span_at m p)
+  action_at OpCode.GotoLabel p = code.GotoLabel (span_at m p)
+  action_at OpCode.WaitForFrame2 p = code.WaitForFrame2 (get_or m.b.now p 0)
+  action_at OpCode.DefineFunction2 p = code.DefineFunction2 (function_at m p)
   action_at OpCode.Try p = try_at p
   action_at OpCode.With p = code.With p
-  action_at OpCode.Push p = code.Push (u16_at b p) (p + 2)
-  action_at OpCode.Jump p = code.Jump (u16_at b p)
-  action_at OpCode.GetUrl2 p = code.GetUrl2 (get_or b p 0) (get_or b (p + 1) 0) (get_or b (p + 2) 0)
-  action_at OpCode.DefineFunction p = code.DefineFunction (function_at t e index b p)
-  action_at OpCode.If p = code.If (u16_at b p)
-  action_at OpCode.GotoFrame2 p = code.GotoFrame2 (u16_at b p) (get_or b (p + 2) 0)
+  action_at OpCode.Push p = code.Push (u16_at m.b.now p) (p + 2)
+  action_at OpCode.Jump p = code.Jump (u16_at m.b.now p)
+  action_at OpCode.GetUrl2 p = code.GetUrl2 (get_or m.b.now p 0) (get_or m.b.now (p + 1) 0) (get_or m.b.now (p + 2) 0)
+  action_at OpCode.DefineFunction p = code.DefineFunction (function_at m p)
+  action_at OpCode.If p = code.If (u16_at m.b.now p)
+  action_at OpCode.GotoFrame2 p = code.GotoFrame2 (u16_at m.b.now p) (get_or m.b.now (p + 2) 0)
 
 -- a case of the code, and the catch target that it shows in a Try of this shape
-pub data ShownTarget (b e : List ℕ) (shape : ℕ) : CatchTarget → CatchTargetOf Text → Type 0 where
+pub data ShownTarget (b e : List ℕ) (shape : ℕ) : Option CatchTarget → CatchTargetOf Text → Type 0 where
   -- no bytes: without a catch the target is not used
-  nothing : {t : CatchTargetOf Text} → has_catch shape ≡ false → ShownTarget b e shape target.Nothing t
+  nothing : {t : CatchTargetOf Text} → has_catch shape ≡ false → ShownTarget b e shape None t
   -- the string behind the shape
-  variable : {s : Span} {t : Text} → has_catch shape ≡ true → has_register shape ≡ false → IsText b e s t → ShownTarget b e shape (target.Variable s) (Variable t)
+  variable : {s : Span} {t : Text} → has_catch shape ≡ true → has_register shape ≡ false → IsText b e s t → ShownTarget b e shape (Some (target.Variable s)) (Variable t)
   -- the byte behind the shape
-  register : {r : ℕ} → has_catch shape ≡ true → has_register shape ≡ true → ShownTarget b e shape (target.Register r) (Register r)
+  register : {r : ℕ} → has_catch shape ≡ true → has_register shape ≡ true → ShownTarget b e shape (Some (target.Register r)) (Register r)
 
 -- A case of the code, and the action that it shows, with the place after that action. Its fields start at p, behind its
 -- opcode. A list is read from its first element's place on, and a body by `inner` from its place on
@@ -195,7 +200,7 @@ pub data Shown (terms : Terms) (b e : List ℕ) (inner : Reader (ActionsOf Text 
       → inner (placed (r.at + 3)) ≡ got a q
       → Shown terms b e inner p (code.DefineFunction2 f) (owner (DefineFunction2 x ps (get_or b r.at 0) (u16_at b (r.at + 1))) a) q
   -- the byte at p, the target that it asks for, and from i on the bodies
-  try : {shape i : ℕ} {t : CatchTarget} {x : CatchTargetOf Text} {a : ActionsOf Text ℕ} {c : CatchOf Text ℕ} {f : FinallyOf Text ℕ} {r s q : Place}
+  try : {shape i : ℕ} {t : Option CatchTarget} {x : CatchTargetOf Text} {a : ActionsOf Text ℕ} {c : CatchOf Text ℕ} {f : FinallyOf Text ℕ} {r s q : Place}
       → is_shape shape ≡ true → ShownTarget b e shape t x → inner (placed i) ≡ got a r → read_catch terms b inner (has_catch shape) x r ≡ got c s
       → read_finally terms b inner (has_finally shape) s ≡ got f q → Shown terms b e inner p (code.Try shape t i) (Try a c f) q
   -- the body at i
@@ -217,17 +222,17 @@ pub data Shown (terms : Terms) (b e : List ℕ) (inner : Reader (ActionsOf Text 
   goto_frame2 : {n k : ℕ} → k < 2 → Shown terms b e inner p (code.GotoFrame2 n k) (flat (GotoFrame2 n (eqb k 1))) (placed (p + 3))
 
 -- the definitions read an action at p, by some reader of bodies
-pub record ActionReads (terms : Terms) (b : List ℕ) (p : ℕ) : Type 0 where
+pub record ActionReads (m : MainBody) (p : ℕ) : Type 0 where
   pub inner : Reader (ActionsOf Text ℕ)
   pub action : ActionOf Text ℕ
   pub next : Place
-  pub reads : read_action terms b inner (placed p) ≡ got action next
+  pub reads : read_action (read_by m) m.b.now inner (placed p) ≡ got action next
 
 -- r shows the action that the definitions read at p, whatever the reader of bodies
-pub record ShowsAction (terms : Terms) (b e : List ℕ) (p : ℕ) (r : Action) : Type 0 where
-  pub shows : (inner : Reader (ActionsOf Text ℕ)) (a : ActionOf Text ℕ) (q : Place) → read_action terms b inner (placed p) ≡ got a q → Shown terms b e inner (p + 1) r a q
+pub record ShowsAction (m : MainBody) (p : ℕ) (r : Action) : Type 0 where
+  pub shows : (inner : Reader (ActionsOf Text ℕ)) (a : ActionOf Text ℕ) (q : Place) → read_action (read_by m) m.b.now inner (placed p) ≡ got a q → Shown (read_by m) m.b.now m.words.now inner (p + 1) r a q
 
 -- r is what stands behind the opcode at p, and shows what is read there by the code's terms
-pub record TakesAction (t : code-terms.Terms) (e index b : List ℕ) (p : ℕ) (r : Action) : Type 0 where
-  pub is : (op : OpCode) → opcode_of (get_or b p 0) ≡ some op → r ≡ action_at t e index b op (p + 1)
-  pub shows : ShowsAction (terms_of t e index) b e p r
+pub record TakesAction (m : MainBody) (p : ℕ) (r : Action) : Type 0 where
+  pub is : (op : OpCode) → opcode_of (get_or m.b.now p 0) ≡ some op → r ≡ action_at m op (p + 1)
+  pub shows : ShowsAction m p r

@@ -2,10 +2,9 @@
 #![tactic(auto)]
 
 ghost use Rattle.std.specs.Prelude.{◌≡◌, ◌+◌, ◌≤◌, length};
-ghost use Rattle.pcode.specs.Shown.{push_at, span_at, function_at, get_url_at, after_try, try_at, ValueReads, TakesValue, ActionReads, TakesAction};
-ghost use Rattle.editions.specs.Allowed.{terms_of};
+ghost use Rattle.pcode.specs.Shown.{span_at, function_at, get_url_at, after_try, try_at, ValueReads, TakesValue, ActionReads, TakesAction};
 
-use editions::{Terms, names_word};
+use editions::MainBody;
 use fields::{u16_at, u32_at, u64_at};
 use opcode::OpCode;
 use words::word_at;
@@ -22,7 +21,6 @@ pub struct Span {
 // A Try's catch target is a name or a register.
 #[derive(Clone, Copy)]
 pub enum CatchTarget {
-    Nothing,
     Variable(Span),
     Register(u8),
 }
@@ -68,7 +66,7 @@ pub enum Action {
     GotoLabel(Span),
     WaitForFrame2(u8),
     DefineFunction2(Function),
-    Try(u8, CatchTarget, usize),
+    Try(u8, Option<CatchTarget>, usize),
     With(usize),
     Push(usize, usize),
     Jump(usize),
@@ -79,128 +77,120 @@ pub enum Action {
 }
 
 // The string at a place: its bytes stand behind its length, or the number of a word does.
-pub fn span_at(b: &[u8], words: &[u8], index: &[u32], terms: Terms, at: usize) -> Span
-    requires { (span_at terms words.now index.now b.now at).next ≤ length b.now }
-    ensures { result ≡ span_at terms words.now index.now b.now at }
+#[tactic(auto, using(crate::proofs::Readings::span_least), unfolding(crate::specs::Shown::span_at))]
+pub fn span_at(m: &MainBody<'_>, at: usize) -> Span
+    requires { (span_at m.now at).next ≤ length m.now.b.now }
+    ensures { result ≡ span_at m.now at }
 {
-    let n = u16_at(b, at);
+    let n = u16_at(m.b, at);
     let p = at + 2;
-    if names_word(terms, n) {
-        let i = u16_at(b, p);
-        let word = word_at(words, index, terms.word_count as usize, i);
-        return Span {
-            from_book: true,
-            at: word.at,
-            len: word.len,
-            next: p + 2,
-        };
+    match m.terms.word_count {
+        Some(count) if n == 65535 => {
+            let word = word_at(m, count, u16_at(m.b, p));
+            Span {
+                from_book: true,
+                at: word.at,
+                len: word.len,
+                next: p + 2,
+            }
+        }
+        _ => Span {
+            from_book: false,
+            at: p,
+            len: n,
+            next: p + n,
+        },
     }
-    Span {
-        from_book: false,
-        at: p,
-        len: n,
-        next: p + n,
-    }
-}
-
-// A value and the place after it.
-fn pushed(value: PushValue, next: usize) -> PushAt
-    ensures { result ≡ push_at value next }
-{
-    PushAt { value, next }
 }
 
 // The pushed value at a place where one reads.
-pub fn push_value_at(b: &[u8], words: &[u8], index: &[u32], terms: Terms, at: usize) -> PushAt
-    requires { ValueReads (terms_of terms words.now index.now) b.now at }
-    ensures { TakesValue terms words.now index.now b.now at result }
+pub fn push_value_at(m: &MainBody<'_>, at: usize) -> PushAt
+    requires { ValueReads m.now at }
+    ensures { TakesValue m.now at result }
 {
     let p = at + 1;
-    match b[at] {
+    let (value, next) = match m.b[at] {
         0 => {
-            let string = span_at(b, words, index, terms, p);
-            pushed(PushValue::String(string), string.next)
+            let string = span_at(m, p);
+            (PushValue::String(string), string.next)
         }
-        2 => pushed(PushValue::Null, p),
-        3 => pushed(PushValue::Undefined, p),
-        4 => {
-            let register = b[p];
-            pushed(PushValue::Register(register), p + 1)
-        }
-        5 => {
-            let flag = b[p];
-            pushed(PushValue::Boolean(flag), p + 1)
-        }
-        6 => pushed(PushValue::Float(u64_at(b, p)), p + 8),
-        7 => pushed(PushValue::Integer(u32_at(b, p)), p + 4),
-        _ => pushed(PushValue::Constant(u16_at(b, p)), p + 2),
-    }
+        2 => (PushValue::Null, p),
+        3 => (PushValue::Undefined, p),
+        4 => (PushValue::Register(m.b[p]), p + 1),
+        5 => (PushValue::Boolean(m.b[p]), p + 1),
+        6 => (PushValue::Float(u64_at(m.b, p)), p + 8),
+        7 => (PushValue::Integer(u32_at(m.b, p)), p + 4),
+        _ => (PushValue::Constant(u16_at(m.b, p)), p + 2),
+    };
+    PushAt { value, next }
 }
 
 // A name at a place, and the parameters behind it.
-fn function_at(b: &[u8], words: &[u8], index: &[u32], terms: Terms, at: usize) -> Function
-    requires { (function_at terms words.now index.now b.now at).at ≤ length b.now }
-    ensures { result ≡ function_at terms words.now index.now b.now at }
+fn function_at(m: &MainBody<'_>, at: usize) -> Function
+    requires { (function_at m.now at).at ≤ length m.now.b.now }
+    ensures { result ≡ function_at m.now at }
 {
-    let name = span_at(b, words, index, terms, at);
+    let name = span_at(m, at);
     let p = name.next;
     Function {
         name,
-        count: u16_at(b, p),
+        count: u16_at(m.b, p),
         at: p + 2,
     }
 }
 
 // The two strings of a GetUrl.
-fn get_url_at(b: &[u8], words: &[u8], index: &[u32], terms: Terms, at: usize) -> Action
-    requires { (span_at terms words.now index.now b.now (span_at terms words.now index.now b.now at).next).next ≤ length b.now }
-    ensures { result ≡ get_url_at terms words.now index.now b.now at }
+#[tactic(auto, using(crate::proofs::Readings::span_least))]
+fn get_url_at(m: &MainBody<'_>, at: usize) -> Action
+    requires { (span_at m.now (span_at m.now at).next).next ≤ length m.now.b.now }
+    ensures { result ≡ get_url_at m.now at }
 {
-    let url = span_at(b, words, index, terms, at);
-    Action::GetUrl(url, span_at(b, words, index, terms, url.next))
+    let url = span_at(m, at);
+    Action::GetUrl(url, span_at(m, url.next))
 }
 
 // A Try's shape, its catch target and its first body's place.
-fn try_at(b: &[u8], words: &[u8], index: &[u32], terms: Terms, at: usize) -> Action
-    requires { after_try terms words.now index.now b.now at ≤ length b.now }
-    ensures { result ≡ try_at terms words.now index.now b.now at }
+#[tactic(auto, using(crate::proofs::Readings::span_least), unfolding(layout::specs::Read::has_catch, layout::specs::Read::has_register))]
+fn try_at(m: &MainBody<'_>, at: usize) -> Action
+    requires { after_try m.now at ≤ length m.now.b.now }
+    ensures { result ≡ try_at m.now at }
 {
-    let shape = b[at];
+    let shape = m.b[at];
     let p = at + 1;
     if shape % 2 == 0 {
-        return Action::Try(shape, CatchTarget::Nothing, p);
+        return Action::Try(shape, None, p);
     }
     if shape / 4 % 2 == 0 {
-        let name = span_at(b, words, index, terms, p);
-        return Action::Try(shape, CatchTarget::Variable(name), name.next);
+        let name = span_at(m, p);
+        return Action::Try(shape, Some(CatchTarget::Variable(name)), name.next);
     }
-    Action::Try(shape, CatchTarget::Register(b[p]), p + 1)
+    Action::Try(shape, Some(CatchTarget::Register(m.b[p])), p + 1)
 }
 
 // The action at a place where one reads.
-pub fn action_at(b: &[u8], words: &[u8], index: &[u32], terms: Terms, at: usize) -> Action
-    requires { ActionReads (terms_of terms words.now index.now) b.now at }
-    ensures { TakesAction terms words.now index.now b.now at result }
+pub fn action_at(m: &MainBody<'_>, at: usize) -> Action
+    requires { ActionReads m.now at }
+    ensures { TakesAction m.now at result }
 {
     let p = at + 1;
-    match b[at] {
-        OpCode::GOTO_FRAME => Action::GotoFrame(u16_at(b, p)),
-        OpCode::GET_URL => get_url_at(b, words, index, terms, p),
-        OpCode::STORE_REGISTER => Action::StoreRegister(b[p]),
-        OpCode::CONSTANT_POOL => Action::ConstantPool(u16_at(b, p), p + 2),
-        OpCode::WAIT_FOR_FRAME => Action::WaitForFrame(u16_at(b, p), b[p + 2]),
-        OpCode::SET_TARGET => Action::SetTarget(span_at(b, words, index, terms, p)),
-        OpCode::GOTO_LABEL => Action::GotoLabel(span_at(b, words, index, terms, p)),
-        OpCode::WAIT_FOR_FRAME2 => Action::WaitForFrame2(b[p]),
-        OpCode::DEFINE_FUNCTION2 => Action::DefineFunction2(function_at(b, words, index, terms, p)),
-        OpCode::TRY => try_at(b, words, index, terms, p),
+    match m.b[at] {
+        OpCode::GOTO_FRAME => Action::GotoFrame(u16_at(m.b, p)),
+        OpCode::GET_URL => get_url_at(m, p),
+        OpCode::STORE_REGISTER => Action::StoreRegister(m.b[p]),
+        OpCode::CONSTANT_POOL => Action::ConstantPool(u16_at(m.b, p), p + 2),
+        OpCode::WAIT_FOR_FRAME => Action::WaitForFrame(u16_at(m.b, p), m.b[p + 2]),
+        OpCode::SET_TARGET => Action::SetTarget(span_at(m, p)),
+        OpCode::GOTO_LABEL => Action::GotoLabel(span_at(m, p)),
+        OpCode::WAIT_FOR_FRAME2 => Action::WaitForFrame2(m.b[p]),
+        OpCode::DEFINE_FUNCTION2 => Action::DefineFunction2(function_at(m, p)),
+        OpCode::TRY => try_at(m, p),
         OpCode::WITH => Action::With(p),
-        OpCode::PUSH => Action::Push(u16_at(b, p), p + 2),
-        OpCode::JUMP => Action::Jump(u16_at(b, p)),
-        OpCode::GET_URL2 => Action::GetUrl2(b[p], b[p + 1], b[p + 2]),
-        OpCode::DEFINE_FUNCTION => Action::DefineFunction(function_at(b, words, index, terms, p)),
-        OpCode::IF => Action::If(u16_at(b, p)),
-        OpCode::GOTO_FRAME2 => Action::GotoFrame2(u16_at(b, p), b[p + 2]),
+        OpCode::PUSH => Action::Push(u16_at(m.b, p), p + 2),
+        OpCode::JUMP => Action::Jump(u16_at(m.b, p)),
+        OpCode::GET_URL2 => Action::GetUrl2(m.b[p], m.b[p + 1], m.b[p + 2]),
+        OpCode::DEFINE_FUNCTION => Action::DefineFunction(function_at(m, p)),
+        OpCode::IF => Action::If(u16_at(m.b, p)),
+        OpCode::GOTO_FRAME2 => Action::GotoFrame2(u16_at(m.b, p), m.b[p + 2]),
         op => Action::Small(op),
     }
 }

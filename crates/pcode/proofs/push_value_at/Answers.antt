@@ -6,62 +6,47 @@ use Rattle.pcode.proofs.push_value_at.Goals as goal
 pub overflow_add-p : goal.overflow_add-p
 overflow_add-p c = omega (arith, kind_room c.requires)
 
-pub bounds-b-at : goal.bounds-b-at
-bounds-b-at c = omega (arith, kind_room c.requires)
+pub bounds-m-at : goal.bounds-m-at
+bounds-m-at c = omega (arith, kind_room c.requires)
 
 pub span_at-string-requires : goal.span_at-string-requires
-span_at-string-requires c = omega (arith, value_room _ _ _ is_string c.in-0.is c.requires)
+span_at-string-requires c = omega (arith, value_room is_string c.in-0.is c.requires)
 
-pub bounds-b-p : goal.bounds-b-p
-bounds-b-p c = omega (arith, value_room _ _ _ is_register c.in-4.is c.requires)
+pub bounds-m-p : goal.bounds-m-p
+bounds-m-p c = omega (arith, value_room is_register c.in-4.is c.requires)
 
-pub overflow_add-p-in-4 : goal.overflow_add-p-in-4
-overflow_add-p-in-4 c = omega (arith, value_room _ _ _ is_register c.in-4.is c.requires)
-
-pub bounds-b-p-in-5 : goal.bounds-b-p-in-5
-bounds-b-p-in-5 c = omega (arith, value_room _ _ _ is_boolean c.in-5.is c.requires)
-
-pub overflow_add-p-in-5 : goal.overflow_add-p-in-5
-overflow_add-p-in-5 c = omega (arith, value_room _ _ _ is_boolean c.in-5.is c.requires)
+pub bounds-m-p-in-5 : goal.bounds-m-p-in-5
+bounds-m-p-in-5 c = omega (arith, value_room is_boolean c.in-5.is c.requires)
 
 pub u64_at-requires : goal.u64_at-requires
-u64_at-requires c = value_room _ _ _ is_float c.in-6.is c.requires
-
-pub overflow_add-p-in-6 : goal.overflow_add-p-in-6
-overflow_add-p-in-6 c = omega (arith, value_room _ _ _ is_float c.in-6.is c.requires)
+u64_at-requires c = value_room is_float c.in-6.is c.requires
 
 pub u32_at-requires : goal.u32_at-requires
-u32_at-requires c = value_room _ _ _ is_integer c.in-7.is c.requires
-
-pub overflow_add-p-in-7 : goal.overflow_add-p-in-7
-overflow_add-p-in-7 c = omega (arith, value_room _ _ _ is_integer c.in-7.is c.requires)
+u32_at-requires c = value_room is_integer c.in-7.is c.requires
 
 pub u16_at-requires : goal.u16_at-requires
-u16_at-requires c = value_room _ _ _ is_constant (constant_kind c.requires c.in_default.in_default-own.rest) c.requires
-
-pub overflow_add-p-in_default : goal.overflow_add-p-in_default
-overflow_add-p-in_default c = omega (arith, value_room _ _ _ is_constant (constant_kind c.requires c.in_default.in_default-own.rest) c.requires)
+u16_at-requires c = value_room is_constant (constant_kind c.requires c.in_default.in_default-own.rest) c.requires
 
 pub returns-in-0 : goal.returns-in-0
-returns-in-0 c = rw (c.pushed.ensures, c.span_at-string.ensures) (value_shown _ _ _ is_string c.in-0.is)
+returns-in-0 c = rw c.span_at-string.ensures (value_shown is_string c.in-0.is)
 
 pub returns-in-2 : goal.returns-in-2
-returns-in-2 c = rw c.pushed-in-2.ensures (value_shown _ _ _ is_null c.in-2.is)
+returns-in-2 c = value_shown is_null c.in-2.is
 
 pub returns-in-3 : goal.returns-in-3
-returns-in-3 c = rw c.pushed-in-3.ensures (value_shown _ _ _ is_undefined c.in-3.is)
+returns-in-3 c = value_shown is_undefined c.in-3.is
 
 pub returns-in-4 : goal.returns-in-4
-returns-in-4 c = rw c.pushed-in-4.ensures (value_shown _ _ _ is_register c.in-4.is)
+returns-in-4 c = value_shown is_register c.in-4.is
 
 pub returns-in-5 : goal.returns-in-5
-returns-in-5 c = rw c.pushed-in-5.ensures (value_shown _ _ _ is_boolean c.in-5.is)
+returns-in-5 c = value_shown is_boolean c.in-5.is
 
 pub returns-in-6 : goal.returns-in-6
-returns-in-6 c = rw (c.pushed-in-6.ensures, c.u64_at.ensures) (value_shown _ _ _ is_float c.in-6.is)
+returns-in-6 c = rw c.u64_at.ensures (value_shown is_float c.in-6.is)
 
 pub returns-in-7 : goal.returns-in-7
-returns-in-7 c = rw (c.pushed-in-7.ensures, c.u32_at.ensures) (value_shown _ _ _ is_integer c.in-7.is)
+returns-in-7 c = rw c.u32_at.ensures (value_shown is_integer c.in-7.is)
 
 pub returns-in_default : goal.returns-in_default
-returns-in_default c = rw (c.pushed-in_default.ensures, c.u16_at.ensures.0) (value_shown _ _ _ is_constant (constant_kind c.requires c.in_default.in_default-own.rest))
+returns-in_default c = rw c.u16_at.ensures.0 (value_shown is_constant (constant_kind c.requires c.in_default.in_default-own.rest))
