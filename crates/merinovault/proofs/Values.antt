@@ -13,9 +13,6 @@ use Rattle.layout.specs.Numbers.{le16, le32, le64, bits64, i64_bytes}
 use Rattle.layout.specs.Answers.{Answer, refusal_number, refusal_value, refusal_action, number, value, action, value_bytes}
 use Rattle.layout.specs.Answers as answers
 use Rattle.layout.specs.Step.{step}
-use Rattle.step.specs.Steps.{told}
-use Rattle.step.specs.declared.Stepped.{Stepped}
-use Rattle.step.specs.declared.Stepped.TheVariants as steps
 use Rattle.answer.proofs.Values.{natural_bits}
 use Rattle.merinovault.specs.Calls.{if_sixteen}
 
@@ -36,15 +33,6 @@ pub told_bytes : {A : Type 0} (done : A → ℤ) (a : Answer A) {bits k : ℕ} {
     → k < 18446744073709551616 → k ≡ action a → l ≡ value_bytes done a
 unfolding value_bytes i64_bytes
 told_bytes done a {k = k} e f g h i = e ∙ ap₂ ◌++◌ (ap le64 (f ∙ ap bits64 g)) (ap le64 (natural_bits k h ∙ ap (λ (n : ℕ). bits64 (pos n)) i))
-
-module _ (s : List ℕ) (r : Stepped) (e : told r ≡ step s) where
-  pub step_done : (n : ℕ) → r ≡ steps.Done n → step s ≡ answers.Done n
-  unfolding told
-  step_done n f = sym e ∙ rw f
-
-  pub step_unclean : (p : ℕ) → r ≡ steps.Unclean p → step s ≡ answers.Refused (answers.Unclean p)
-  unfolding told
-  step_unclean p f = sym e ∙ rw f
 
 module _ (s v l : List ℕ) (sixteen-long : length v ≡ 16) where
   module _ (n : ℕ) (d : step s ≡ answers.Done n) where

@@ -9,7 +9,7 @@ ghost use Rattle.merinovault.specs.Calls.{mode_by, PackCalled, StepCalled};
 
 use answer::{action_of, number_of, value_of};
 use judge::Mode;
-use step::Stepped;
+use step::Unclean;
 use stores::fill_u64;
 
 // Fills a value slice: the 64 bits of the value, then those of the action number.
@@ -53,12 +53,12 @@ pub fn merinovault_step(block: &[u8], value: &mut [u8]) -> u32
         return 11;
     }
     match step::step(block) {
-        Stepped::Done(n) => {
-            fill_value(value, n as u64, 0);
+        Ok(count) => {
+            fill_value(value, count as u64, 0);
             0
         }
-        Stepped::Unclean(p) => {
-            fill_value(value, p as u64, 0);
+        Err(Unclean { place }) => {
+            fill_value(value, place as u64, 0);
             13
         }
     }

@@ -12,51 +12,42 @@ use Rattle.layout.specs.Numbers.{u16_at}
 use Rattle.layout.specs.Step.{reach, onward, end_at, ended, step_from, step}
 use Rattle.layout.proofs.Stepping.{forward, from_out, from_cut, from_step}
 use Rattle.step.specs.Steps.{look_at, told}
-use Rattle.step.specs.declared.Look.{Look}
-use Rattle.step.specs.declared.Look.TheVariants.{Next, Cut}
-use Rattle.step.specs.declared.Stepped.TheVariants.{Done, Unclean}
+use Rattle.std.specs.Prelude.{Option, Some, None, Ok, Err}
 
 -- ---- how far a step goes
 
 module _ (s : List ℕ) (p : ℕ) where
-  pub is_small : get_or s p 0 < 128 → p < length s → Next (p + 1) ≡ look_at s p
+  pub is_small : get_or s p 0 < 128 → p < length s → Some (p + 1) ≡ look_at s p
   unfolding look_at pick reach
   is_small k l =
       let m : p + 1 ≤ length s = omega (arith, l) in
       rw (lt-ltb (get_or s p 0) 128 k, le-leb (p + 1) (length s) m)
 
   module _ (k : 128 ≤ get_or s p 0) where
-    pub is_cut : length s < p + (3 + u16_at s (p + 1)) → Cut ≡ look_at s p
+    pub is_cut : length s < p + (3 + u16_at s (p + 1)) → None ≡ look_at s p
     unfolding look_at pick reach
     is_cut l = rw (le-ltb (get_or s p 0) 128 k, lt-leb (p + (3 + u16_at s (p + 1))) (length s) l)
 
-    pub is_next : p + (3 + u16_at s (p + 1)) ≤ length s → Next (p + (3 + u16_at s (p + 1))) ≡ look_at s p
+    pub is_next : p + (3 + u16_at s (p + 1)) ≤ length s → Some (p + (3 + u16_at s (p + 1))) ≡ look_at s p
     unfolding look_at pick reach
     is_next l = rw (le-ltb (get_or s p 0) 128 k, le-leb (p + (3 + u16_at s (p + 1))) (length s) l)
 
   -- and the other way
-  module _ (l : Look) (e : l ≡ look_at s p) where
-    pub next_is : (q : ℕ) → l ≡ Next q → (q ≡ onward s p) × (onward s p ≤ length s)
-    unfolding look_at
-    next_is q f = go (leb (onward s p) (length s)) refl (sym f ∙ e)
-      where
-        go : (t : Bool) → leb (onward s p) (length s) ≡ t → Next q ≡ pick t (Next (onward s p)) Cut → (q ≡ onward s p) × (onward s p ≤ length s)
-        go true h g = (unfold pick in cc, leb-true (onward s p) (length s) h)
-        go false h g =
-            unfold pick in
-            let z : ◌≡◌ {A = ℕ} 0 1 = cc in
-            absurd (omega arith)
+  pub next_is : (q : ℕ) → Some q ≡ look_at s p → (q ≡ onward s p) × (onward s p ≤ length s)
+  unfolding look_at
+  next_is q e = go (leb (onward s p) (length s)) refl e
+    where
+      go : (t : Bool) → leb (onward s p) (length s) ≡ t → Some q ≡ pick t (Some (onward s p)) None → (q ≡ onward s p) × (onward s p ≤ length s)
+      go true h g = (unfold pick in cc, leb-true (onward s p) (length s) h)
+      go false h g = unfold pick in cc
 
-    pub cut_is : l ≡ Cut → length s < onward s p
-    unfolding look_at
-    cut_is f = go (leb (onward s p) (length s)) refl (sym f ∙ e)
-      where
-        go : (t : Bool) → leb (onward s p) (length s) ≡ t → Cut ≡ pick t (Next (onward s p)) Cut → length s < onward s p
-        go false h g = leb-false (onward s p) (length s) h
-        go true h g =
-            unfold pick in
-            let z : ◌≡◌ {A = ℕ} 0 1 = cc in
-            absurd (omega arith)
+  pub cut_is : None ≡ look_at s p → length s < onward s p
+  unfolding look_at
+  cut_is e = go (leb (onward s p) (length s)) refl e
+    where
+      go : (t : Bool) → leb (onward s p) (length s) ≡ t → ◌≡◌ {A = Option ℕ} None (pick t (Some (onward s p)) None) → length s < onward s p
+      go false h g = leb-false (onward s p) (length s) h
+      go true h g = unfold pick in cc
 
 -- ---- the loop
 
@@ -71,27 +62,28 @@ unfolding step
 going_start s = record { inside = omega arith; counted = omega arith; same = refl }
 
 module _ (s : List ℕ) (p k : ℕ) (end : Bool) (g : Going s p k end) where
-  pub going_clean : length s ≤ p → end ≡ true → told (Done k) ≡ step s
+  pub going_clean : length s ≤ p → end ≡ true → told (Ok k) ≡ step s
   unfolding told ended
   going_clean h e = sym (from_out s p k end h ∙ ap (λ (t : Bool). ended t (length s) k) e) ∙ g.same
 
-  pub going_endless : length s ≤ p → end ≡ false → told (Unclean (length s)) ≡ step s
+  pub going_endless : length s ≤ p → end ≡ false → told (Err (record { place = length s })) ≡ step s
   unfolding told ended
   going_endless h e = sym (from_out s p k end h ∙ ap (λ (t : Bool). ended t (length s) k) e) ∙ g.same
 
-  module _ (h : p < length s) (l : Look) (e : l ≡ look_at s p) where
-    pub going_cut : l ≡ Cut → told (Unclean p) ≡ step s
+  module _ (h : p < length s) where
+    pub going_cut : None ≡ look_at s p → told (Err (record { place = p })) ≡ step s
     unfolding told
-    going_cut f = sym (from_cut s p k end h (cut_is s p l e f)) ∙ g.same
+    going_cut e = sym (from_cut s p k end h (cut_is s p e)) ∙ g.same
 
-    pub going_forward : (q : ℕ) → l ≡ Next q → p < q
-    going_forward q f = omega (arith, forward s p, (next_is s p l e q f).0)
+    module _ (q : ℕ) (e : Some q ≡ look_at s p) where
+      pub going_forward : p < q
+      going_forward = omega (arith, forward s p, (next_is s p q e).0)
 
-    pub going_on : (q : ℕ) (t : Bool) → l ≡ Next q → t ≡ end_at s p → Going s q (k + 1) t
-    going_on q t f i =
-        let n = next_is s p l e q f in
-        record {
-          inside = omega (arith, n.0, n.1);
-          counted = omega (arith, g.counted, going_forward q f);
-          same = rw (n.0, i) (sym (from_step s p k end h n.1) ∙ g.same);
-        }
+      pub going_on : Going s q (k + 1) (end_at s p)
+      going_on =
+          let n = next_is s p q e in
+          record {
+            inside = omega (arith, n.0, n.1);
+            counted = omega (arith, g.counted, going_forward);
+            same = rw n.0 (sym (from_step s p k end h n.1) ∙ g.same);
+          }

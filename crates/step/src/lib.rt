@@ -7,63 +7,49 @@ ghost use Rattle.step.specs.Steps.{look_at, told};
 
 use fields::u16_at;
 
-// How far the step at a place goes: to the place after it, or past the end.
+// Where a block is unclean: at an opcode whose step passes the end, or at the end, since the last step is no End.
 #[derive(Clone, Copy)]
-pub enum Look {
-    Next(usize),
-    Cut,
+pub struct Unclean {
+    pub place: usize,
 }
 
-// The number of steps made, or the place where the block is unclean.
-#[derive(Clone, Copy)]
-pub enum Stepped {
-    Done(usize),
-    Unclean(usize),
-}
-
-fn look_at(block: &[u8], at: usize) -> Look
+// The place that the step at a place goes to, or None where it passes the end.
+fn look_at(block: &[u8], at: usize) -> Option<usize>
     requires { at < length block.now }
     ensures { result ≡ look_at block.now at }
 {
     if block[at] < 0x80 {
-        return Look::Next(at + 1);
+        return Some(at + 1);
     }
     let left = block.len() - at;
     if left < 3 {
-        return Look::Cut;
+        return None;
     }
     let n = u16_at(block, at + 1);
     if left - 3 < n {
-        return Look::Cut;
+        return None;
     }
-    Look::Next(at + (3 + n))
+    Some(at + (3 + n))
 }
 
-// Steps from byte 0 to the last byte. `ended` says whether the last step was an End, which may stand in the middle too, with a
-// branch past it.
-pub fn step(block: &[u8]) -> Stepped
+// Steps from byte 0 to the last byte, and counts the steps. `ended` says whether the last step was an End, which may stand in the
+// middle too, with a branch past it.
+pub fn step(block: &[u8]) -> Result<usize, Unclean>
     ensures { told result ≡ step block.now }
 {
     let mut at = 0;
     let mut count = 0;
     let mut ended = false;
-    let answer = loop {
-        if block.len() <= at {
-            if ended {
-                break Stepped::Done(count);
-            }
-            break Stepped::Unclean(block.len());
-        }
-        match look_at(block, at) {
-            Look::Next(next) => {
-                ended = block[at] == 0;
-                at = next;
-                count += 1;
-            }
-            Look::Cut => {
-                break Stepped::Unclean(at);
-            }
-        }
-    };
-    answer
+    while at < block.len() {
+        let Some(next) = look_at(block, at) else {
+            return Err(Unclean { place: at });
+        };
+        ended = block[at] == 0;
+        at = next;
+        count += 1;
+    }
+    if ended {
+        return Ok(count);
+    }
+    Err(Unclean { place: block.len() })
 }

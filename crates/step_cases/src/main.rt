@@ -6,7 +6,7 @@ use fields::u32_at;
 use patterns::unroll_at;
 use std::io;
 use std::io::{BufWriter, Read, Write};
-use step::Stepped;
+use step::Unclean;
 
 fn write_line<W: Write>(out: &mut W, number: u64, value: usize) -> io::Result<()> {
     writeln!(out, "{number} {value}")
@@ -14,8 +14,8 @@ fn write_line<W: Write>(out: &mut W, number: u64, value: usize) -> io::Result<()
 
 fn answer<W: Write>(block: &[u8], out: &mut W) -> io::Result<()> {
     match step::step(block) {
-        Stepped::Done(n) => write_line(out, 0, n),
-        Stepped::Unclean(p) => write_line(out, 13, p),
+        Ok(count) => write_line(out, 0, count),
+        Err(Unclean { place }) => write_line(out, 13, place),
     }
 }
 

@@ -1,28 +1,23 @@
 -- `step` meets its contract: where the loop ends, and wherever it goes on, what is left to do answers what the whole does.
 -- Assumes nothing.
 use Rattle.step.proofs.Walks as walks
-use Prim.Native.Nat.{◌-◌}
 use native.Mathlib.Omega.{arith}
-use mathlib.Core.Path.{refl}
 use Rattle.step.proofs.step.Goals as goal
 
 pub loop-at-init : goal.loop-at-init
 loop-at-init c = walks.going_start _
 
-pub overflow_add-count : goal.overflow_add-count
-overflow_add-count c = let g = c.loop-at.invariant in omega (arith, g.inside, g.counted)
-
 pub loop-at-smaller : goal.loop-at-smaller
-loop-at-smaller c = omega (arith, walks.going_forward _ _ _ _ c.loop-at.invariant c.if-block-at.false _ c.look_at.ensures _ c.in-Next.is)
+loop-at-smaller c = omega (arith, walks.going_forward _ _ _ _ c.loop-at.invariant c.loop-at-test.true _ c.in-Some.ensures)
 
 pub loop-at-preserved : goal.loop-at-preserved
-loop-at-preserved c = walks.going_on _ _ _ _ c.loop-at.invariant c.if-block-at.false _ c.look_at.ensures _ _ c.in-Next.is refl
+loop-at-preserved c = walks.going_on _ _ _ _ c.loop-at.invariant c.loop-at-test.true _ c.in-Some.ensures
+
+pub returns-in_default : goal.returns-in_default
+returns-in_default c = walks.going_cut _ _ _ _ c.loop-at.invariant c.loop-at-test.true c.in_default.ensures
 
 pub returns-then-ended : goal.returns-then-ended
-returns-then-ended c = walks.going_clean _ _ _ _ c.loop-at.invariant c.if-block-at.true c.if-ended.true
+returns-then-ended c = walks.going_clean _ _ _ _ c.loop-at.invariant c.loop-at-test.false c.if-ended.true
 
-pub returns-else-ended : goal.returns-else-ended
-returns-else-ended c = walks.going_endless _ _ _ _ c.loop-at.invariant c.if-block-at.true c.if-ended.false
-
-pub returns-in-Cut : goal.returns-in-Cut
-returns-in-Cut c = walks.going_cut _ _ _ _ c.loop-at.invariant c.if-block-at.false _ c.look_at.ensures c.in-Cut.is
+pub returns : goal.returns
+returns c = walks.going_endless _ _ _ _ c.loop-at.invariant c.loop-at-test.false c.if-ended.false
