@@ -1,46 +1,32 @@
--- What the check of a book says to a caller. Assumes nothing.
-use mathlib.Core.Path.{◌≡◌, ◌∙◌}
-use Prim.Native.Nat.{ℕ, ◌-◌, ◌≤◌, ◌<◌}
-use native.Mathlib.Omega.{arith}
-use mathlib.Core.Option.{none, some}
-use mathlib.Core.List.{List}
-use lib.ListN.{length, take, drop}
-use Rattle.layout.specs.Book.{book_of}
-use Rattle.editions.specs.Words.{words_by}
-use Rattle.book.specs.Checks.{BookChecked, good, ill}
-use Rattle.book.specs.declared.CheckedBook.{CheckedBook}
-use Rattle.book.specs.declared.CheckedBook.TheVariants as checked
+-- A book, by its trailer. Assumes nothing.
+use Rattle.std.proofs.Common.{◌≡◌, ℕ, Bool, true, false, List, length, leb, Some, None, refl, ◌∙◌}
+use Rattle.std.proofs.Math.Option.{none}
+use Rattle.std.proofs.lemmas.Bool.{and_parts}
+use Rattle.layout.specs.Book.{words_in, book_distance, book_count, is_book_marked, book_if, book_at, book_if_trailer, book_of}
+use Rattle.cut.specs.Trailers.{is_trailed, Trailed}
+use Rattle.cut.specs.declared.Trailer.{Trailer}
+use Rattle.book.specs.Checks.{Indexed, filled, unfilled, Checked}
 
-module _ (book index : List ℕ) where
-  pub good_within : {c : CheckedBook} (start end count : ℕ) → BookChecked book index c → c ≡ checked.Good start end count → (start ≤ end) × (end ≤ length book)
-  good_within start end count (good {start = s} {end = e} a l n w) k =
-      let i : s ≡ start = cc in
-      let j : e ≡ end = cc in
-      (omega (arith, a, i, j), omega (arith, l, j))
-  good_within start end count (ill w) k =
-      let z : ◌≡◌ {A = ℕ} 0 1 = cc in
-      absurd (omega arith)
+module _ (s : List ℕ) where
+  pub untrailed : is_trailed 0x42 s ≡ false → book_of s ≡ none
+  unfolding is_trailed book_of book_if_trailer book_at book_if is_book_marked book_distance
+  untrailed h = go (leb 8 (length s)) refl
+    where
+      go : (room : Bool) → leb 8 (length s) ≡ room → book_of s ≡ none
+      go true e =
+          let f = rw e at h in
+          rw (e, f)
+      go false e = rw e
 
-  pub good_count : {c : CheckedBook} (start end count : ℕ) → BookChecked book index c → c ≡ checked.Good start end count → count < 65536
-  good_count start end count (good {count = n} a l m w) k =
-      let h : n ≡ count = cc in
-      omega (arith, m, h)
-  good_count start end count (ill w) k =
-      let z : ◌≡◌ {A = ℕ} 0 1 = cc in
-      absurd (omega arith)
+  module _ (t : Trailer) (k : Trailed 0x42 s t) (index : List ℕ) where
+    by_trailer : book_of s ≡ words_in t.part.now t.code
+    unfolding is_trailed book_of book_if_trailer book_at book_if is_book_marked book_distance book_count
+    by_trailer =
+        let two = and_parts (leb 8 (length s)) _ k.is_trailer in
+        rw (two.0, two.1, k.is_part, k.is_code)
 
-  pub good_words : {c : CheckedBook} (start end count : ℕ) → BookChecked book index c → c ≡ checked.Good start end count → book_of book ≡ some (words_by (take (end - start) (drop start book)) index count)
-  good_words start end count (good {start = s} {end = e} {count = n} a l m w) k =
-      let i : s ≡ start = cc in
-      let j : e ≡ end = cc in
-      let h : n ≡ count = cc in
-      w ∙ rw (i, j, h)
-  good_words start end count (ill w) k =
-      let z : ◌≡◌ {A = ℕ} 0 1 = cc in
-      absurd (omega arith)
+    pub ill_filled : Indexed t.part.now t.code index None → book_of s ≡ none
+    ill_filled (unfilled f) = by_trailer ∙ f
 
-  pub ill_book : {c : CheckedBook} → BookChecked book index c → c ≡ checked.Bad → book_of book ≡ none
-  ill_book (good a l n w) k =
-      let z : ◌≡◌ {A = ℕ} 0 1 = cc in
-      absurd (omega arith)
-  ill_book (ill w) k = w
+    pub well_filled : Indexed t.part.now t.code index (Some tt) → Checked s index (record { words = t.part; count = t.code })
+    well_filled (filled f) = record { is_part = k.is_part; short = k.code_fits; is_book = by_trailer ∙ f }

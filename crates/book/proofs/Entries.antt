@@ -6,6 +6,7 @@ use native.Mathlib.Omega.{arith}
 use mathlib.Core.List.{List, ◌∷◌, ◌++◌}
 use lib.ListN.{length, get_or}
 use borrow.Author.Tests.{le-leb, lt-ltb}
+use Rattle.std.specs.Prelude.{Some, None}
 use Rattle.layout.specs.Lists.{pick}
 use Rattle.layout.specs.Numbers.{u16_at}
 use Rattle.layout.specs.Read.{Words, Place, placed, Read, got, bad, Reader, chain, repeat}
@@ -21,7 +22,7 @@ fails_at e h = subst Fails (sym e) h
 -- ---- one entry, as the code answers, which holds the length in n
 
 module _ (e : List ℕ) (p : ℕ) where
-  pub entry_out : length e < p + 2 → Entered e p 0
+  pub entry_out : length e < p + 2 → Entered e p None
   unfolding read_entry
   entry_out h = nothing (rw (u16_out e p h) fails)
 
@@ -30,12 +31,12 @@ module _ (e : List ℕ) (p : ℕ) where
     unfolding length_at pick
     length_is = rw (le-leb (p + 2) (length e) h) (sym k)
 
-    pub entry_cut : length e < p + 2 + n → Entered e p 0
+    pub entry_cut : length e < p + 2 + n → Entered e p None
     unfolding read_entry
     entry_cut l = nothing (rw (u16_in e p h, ← k, spelling_out e (p + 2) n l) fails)
 
     module _ (l : p + 2 + n ≤ length e) where
-      pub entry_nul : first_nul e (p + 2) n < p + 2 + n → Entered e p 0
+      pub entry_nul : first_nul e (p + 2) n < p + 2 + n → Entered e p None
       unfolding read_entry
       entry_nul m = nothing (rw (u16_in e p h, ← k, spelling_nul e (p + 2) n l m) fails)
 
@@ -47,7 +48,7 @@ module _ (e : List ℕ) (p : ℕ) where
       unfolding read_entry
       entry_reads m = rw (u16_in e p h, ← k, spelling_in e (p + 2) n l m)
 
-      pub entry_in : n < 65536 → p + 2 + n ≤ first_nul e (p + 2) n → Entered e p (p + 2 + n)
+      pub entry_in : n < 65536 → p + 2 + n ≤ first_nul e (p + 2) n → Entered e p (Some (p + 2 + n))
       entry_in s m =
           entered (ap (λ (x : ℕ). p + 2 + x) (sym length_is)) l
           (entry_reads m ∙ ap (λ (x : List ℕ). got x (placed (p + 2 + n))) (sym (word_is s)))
@@ -88,16 +89,12 @@ module _ (e : List ℕ) where
 -- where so many entries are left, from place p on, of n from place `at` on
 pub record Going (e : List ℕ) (at n left p : ℕ) : Type 0 where
   pub inside : p ≤ length e
-  pub few : left ≤ n
-  pub moved : at + 2 * (n - left) ≤ p
+  pub moved : at ≤ p
   pub place : place_after e left p ≡ place_after e n at
   pub reads : (r : ℕ) → repeat (read_entry e) left (placed p) ≡ got (words_from e left p) (placed r) → repeat (read_entry e) n (placed at) ≡ got (words_from e n at) (placed r)
   pub fails : Fails (repeat (read_entry e) left (placed p)) → Fails (repeat (read_entry e) n (placed at))
 
 module _ (e : List ℕ) (at n : ℕ) where
-  pub going_start : at ≤ length e → Going e at n n at
-  going_start h = record { inside = h; few = omega arith; moved = omega arith; place = refl; reads = λ r f. f; fails = λ f. f }
-
   after_left : (left p q : ℕ) → 0 < left → q ≡ p + 2 + length_at e p → place_after e (left - 1) q ≡ place_after e left p
   unfolding place_after
   after_left zero p q h k = absurd (omega arith)
@@ -105,25 +102,22 @@ module _ (e : List ℕ) (at n : ℕ) where
       let z : suc left - 1 ≡ left = omega arith in
       rw (z, k)
 
-  pub going_next : {left p q : ℕ} → Going e at n left p → 0 < left → Entered e p q → 0 < q → Going e at n (left - 1) q
-  going_next {left} {p} {q} g h (entered k l f) z =
-      record {
+  pub going_next : {left p q : ℕ} (rest : ℕ) → rest ≡ left - 1 → Going e at n left p → 0 < left → Entered e p (Some q) → Going e at n rest q
+  going_next {left} {p} {q} rest m g h (entered k l f) =
+      rw m (record {
         inside = l;
-        few = omega (arith, g.few);
-        moved = omega (arith, g.moved, g.few, k);
+        moved = omega (arith, g.moved, k);
         place = after_left left p q h k ∙ g.place;
         reads = λ r x. g.reads r (all_one e left p q r h k f x);
         fails = λ x. g.fails (none_one e left p q h f x);
-      }
-  going_next g h (nothing f) z = absurd (omega arith)
+      })
 
-  pub going_fails : {left p q : ℕ} → Going e at n left p → 0 < left → Entered e p q → q ≡ 0 → EnteredAll e at n 0
-  going_fails {left} {p} {q} g h (entered k l f) z = absurd (omega arith)
-  going_fails {left} {p} g h (nothing f) z = nothing (g.fails (none_here e left p h f))
+  pub going_fails : {left p : ℕ} → Going e at n left p → 0 < left → Entered e p None → EnteredAll e at n None
+  going_fails {left} {p} g h (nothing f) = nothing (g.fails (none_here e left p h f))
 
-  pub going_done : {left p : ℕ} → Going e at n left p → left ≡ 0 → 0 < n → EnteredAll e at n p
-  going_done {left} {p} g z h =
-      entered {r = p} (omega (arith, g.moved, z)) g.inside (sym (rw z (unfold place_after in refl)) ∙ g.place) (g.reads p (rw z (unfold repeat words_from in refl)))
+  pub going_done : {left p : ℕ} → Going e at n left p → left ≡ 0 → EnteredAll e at n (Some p)
+  going_done {left} {p} g z =
+      entered {r = p} g.moved g.inside (sym (rw z (unfold place_after in refl)) ∙ g.place) (g.reads p (rw z (unfold repeat words_from in refl)))
 
 -- ---- some entries, and some more
 

@@ -1,15 +1,7 @@
 -- Laws of an index while it is made, from slot to slot. Assumes nothing.
-use mathlib.Core.Path.{◌≡◌, refl, ap, ◌∙◌}
-use Prim.Native.Nat.{ℕ, ◌+◌, ◌-◌, ◌*◌, ◌≤◌, ◌<◌}
-use native.Mathlib.Nat.{add-mul, mul-le-mul_right}
-use native.Mathlib.Omega.{arith}
-use mathlib.Core.Bool.{Bool, true, false}
-use mathlib.Core.Option.{none, some}
-use mathlib.Core.List.{List}
-use lib.ListN.{length, get_or, set, length-set}
-use lib.Seq.{get_or-set_same, get_or-set_other}
-use lib.Dec.{leb, ltb, eqb}
-use borrow.Author.Tests.{leb-true, leb-false, ltb-true, ltb-false, eqb-true, eqb-false}
+use Rattle.std.proofs.Common.{◌≡◌, ℕ, ◌+◌, ◌-◌, ◌*◌, ◌≤◌, ◌<◌, min, Bool, true, false, Option, Some, None, List, length, get_or, set, refl, ap, ◌∙◌, arith, add-mul, mul-le-mul_right, length-set, get_or-set_same, get_or-set_other, below_more, leb, eqb, leb-true, leb-false}
+use Rattle.std.proofs.Math.Option.{none, some}
+use Rattle.std.specs.Bool.{then_some}
 use Rattle.layout.specs.Lists.{pick}
 use Rattle.layout.specs.Read.{Words, placed, Read, got, bad, chain, repeat, if_nothing_left}
 use Rattle.layout.specs.Book.{read_entry, if_read, words_in}
@@ -37,14 +29,6 @@ few_slots slot count h k = one (leb count 4096) refl
     one : (t : Bool) → leb count 4096 ≡ t → slot < 4096
     one true e = omega (arith, leb-true count 4096 e, (rw e at h))
     one false e = two (leb count 8192) refl (rw e at h)
-
--- the lesser of two numbers that are not 0 is not
-pub some_left : (r m n : ℕ) → (r ≤ m) × (r ≤ n) × (r < m → r ≡ n) → 0 < m → 0 < n → 0 < r
-some_left r m n h k l = go (ltb r m) refl
-  where
-    go : (t : Bool) → ltb r m ≡ t → 0 < r
-    go true e = omega (arith, h.2 (ltb-true r m e), l)
-    go false e = omega (arith, ltb-false r m e, k)
 
 -- ---- what so many entries come to
 
@@ -76,9 +60,9 @@ pub record Indexing (e : List ℕ) (count i slot p : ℕ) (index : List ℕ) : T
   pub wide : 4096 ≤ length index
 
 module _ (e : List ℕ) (count : ℕ) where
-  pub indexing_start : (index : List ℕ) → 4096 ≤ length index → Indexing e count 0 0 0 index
-  indexing_start index h =
-      record {
+  pub indexing_start : (slot : ℕ) (index : List ℕ) → slot ≡ 0 → 4096 ≤ length index → Indexing e count 0 slot 0 index
+  indexing_start slot index z h =
+      rw z (record {
         inside = omega arith;
         few = omega arith;
         reach = omega arith;
@@ -87,69 +71,46 @@ module _ (e : List ℕ) (count : ℕ) where
         place = unfold place_after in refl;
         places = λ k l. absurd (omega arith);
         wide = h;
-      }
+      })
 
   module _ {i slot p : ℕ} {index : List ℕ} (g : Indexing e count i slot p index) (h : i < count) (small : count < 65536) where
-    pub slot_few : slot < 4096
-    slot_few = few_slots slot count (omega (arith, g.exact h, h)) small
-
     pub slot_within : slot < length index
-    slot_within = omega (arith, slot_few, g.wide)
+    slot_within = omega (arith, few_slots slot count (omega (arith, g.exact h, h)) small, g.wide)
 
     -- n words more, which fill the slot or are the last
-    module _ (n step : ℕ) (s : step ≡ step_of count) (a : n ≤ step) (b : n ≤ count - i) (c : n < step → n ≡ count - i) where
+    module _ (n step : ℕ) (s : step ≡ step_of count) (least : n ≡ min step (count - i)) where
       places_next : (k : ℕ) → k < slot + 1 → get_or (set index slot p) k 0 ≡ place_after e (k * step_of count) 0
-      places_next k l = go (eqb k slot) refl
-        where
-          go : (t : Bool) → eqb k slot ≡ t → get_or (set index slot p) k 0 ≡ place_after e (k * step_of count) 0
-          go true f =
-              let z : k ≡ slot = eqb-true k slot f in
-              rw z (get_or-set_same index slot p 0 slot_within ∙ g.place ∙ ap (λ (x : ℕ). place_after e x 0) (g.exact h))
-          go false f =
-              get_or-set_other index slot k p 0 (eqb-false k slot f) ∙ g.places k (omega (arith, l, eqb_less k slot l f))
-            where
-              eqb_less : (k slot : ℕ) → k < slot + 1 → eqb k slot ≡ false → k < slot
-              eqb_less k slot l f = part (ltb k slot) refl
-                where
-                  part : (t : Bool) → ltb k slot ≡ t → k < slot
-                  part true x = ltb-true k slot x
-                  part false x = absurd (eqb-false k slot f (omega (arith, l, ltb-false k slot x)))
+      places_next =
+          below_more (λ k. get_or (set index slot p) k 0 ≡ place_after e (k * step_of count) 0) slot
+          (λ k l. get_or-set_other index slot k p 0 (omega arith) ∙ g.places k l)
+          (get_or-set_same index slot p 0 slot_within ∙ g.place ∙ ap (λ (x : ℕ). place_after e x 0) (g.exact h))
 
-      pub indexing_next : {q : ℕ} → EnteredAll e p n q → 0 < q → Indexing e count (i + n) (slot + 1) q (set index slot p)
-      indexing_next {q} (entered x y w f) z =
+      pub indexing_next : {q : ℕ} (j t : ℕ) → j ≡ i + n → t ≡ slot + 1 → EnteredAll e p n (Some q) → Indexing e count j t q (set index slot p)
+      indexing_next {q} j t a b (entered x y w f) =
           let m : (slot + 1) * step_of count ≡ slot * step_of count + 1 * step_of count = add-mul slot 1 (step_of count) in
-          record {
+          rw (a, b) (record {
             inside = y;
-            few = omega (arith, b, h);
-            reach = omega (arith, m, g.exact h, a, s);
-            exact = λ l. omega (arith, m, g.exact h, a, b, s, full l);
+            few = omega (arith, h);
+            reach = omega (arith, m, g.exact h, s);
+            exact = λ l. omega (arith, m, g.exact h, s, l);
             reads = all_more e i n 0 p q g.reads g.place f;
             place = w ∙ ap (place_after e n) g.place ∙ after_more e i n 0;
             places = places_next;
             wide = simp length-set g.wide;
-          }
-        where
-          full : i + n < count → n ≡ step
-          full l = part (ltb n step) refl
-            where
-              part : (t : Bool) → ltb n step ≡ t → n ≡ step
-              part true v = absurd (omega (arith, c (ltb-true n step v), l, h))
-              part false v = omega (arith, ltb-false n step v, a)
-      indexing_next (nothing f) z = absurd (omega arith)
+          })
 
-      pub indexing_fails : {q : ℕ} (after : List ℕ) → EnteredAll e p n q → q ≡ 0 → Indexed e count after false
-      indexing_fails after (entered x y w f) z = absurd (omega arith)
-      indexing_fails after (nothing f) z =
+      pub indexing_fails : (after : List ℕ) → EnteredAll e p n None → Indexed e count after None
+      indexing_fails after (nothing f) =
           unfilled (none_in e count (all_fail (fails_longer e (i + n) (count - (i + n)) 0 (fails_more e i n 0 p g.reads f))))
         where
           all_fail : Fails (repeat (read_entry e) (i + n + (count - (i + n))) (placed 0)) → Fails (repeat (read_entry e) count (placed 0))
           all_fail v =
-              let m : i + n + (count - (i + n)) ≡ count = omega (arith, b, h) in
+              let m : i + n + (count - (i + n)) ≡ count = omega (arith, h) in
               rw m at v
 
   -- all words are passed
-  pub indexing_done : {i slot p : ℕ} {index : List ℕ} → Indexing e count i slot p index → count ≤ i → Indexed e count index (eqb p (length e))
-  indexing_done {i} {slot} {p} {index} g h = go (eqb p (length e)) refl
+  pub indexing_done : {i slot p : ℕ} {index : List ℕ} → Indexing e count i slot p index → count ≤ i → {r : Option (Unit {0})} → r ≡ then_some (eqb p (length e)) tt → Indexed e count index r
+  indexing_done {i} {slot} {p} {index} g h {r} k = rw k (go (eqb p (length e)) refl)
     where
       all : i ≡ count
       all = omega (arith, g.few, h)
@@ -163,6 +124,6 @@ module _ (e : List ℕ) (count : ℕ) where
               absurd (omega (arith, m, l, g.reach, all))
           part false v = leb-false slot k v
 
-      go : (t : Bool) → eqb p (length e) ≡ t → Indexed e count index t
+      go : (t : Bool) → eqb p (length e) ≡ t → Indexed e count index (then_some t tt)
       go true v = filled (all_in e count p (rw all at g.reads) v ∙ ap some (words_right e count index right))
       go false v = unfilled (left_in e count p (rw all at g.reads) v)

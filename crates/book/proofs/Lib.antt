@@ -1,4 +1,3 @@
 pub mod Entries
 pub mod Indexes
-pub mod Trailer
 pub mod Books

@@ -1,9 +1,7 @@
--- `book::after_entries` meets its contract: what is left, from where it stands, is read as all are. Assumes nothing.
+-- What is left, from where it stands, is read as all are.
+use Rattle.std.proofs.Common.{◌-◌}
 use Rattle.book.proofs.Entries.{Going}
 use Rattle.book.proofs.after_entries.Given as goal
 
-abbrev pub invariant-loop-left : goal.invariant-loop-left
-invariant-loop-left l = Going l.words l.at l.n l.left l.p
-
-abbrev pub decreases-loop-left : goal.decreases-loop-left
-decreases-loop-left l = l.left
+abbrev pub invariant-loop : goal.invariant-loop
+invariant-loop l = Going l.words l.at l.n (l.n - l.counter) l.p

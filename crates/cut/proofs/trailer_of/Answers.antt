@@ -15,8 +15,8 @@ returns-then-bytes-end c =
 
 pub returns-in_err-start : goal.returns-in_err-start
 returns-in_err-start c =
-    rw c.from_residual-in_err-start.ensures (too_far _ _ _ c.in_ok-end.ensures.0 c.in_ok-end.ensures.1 _ c.u32_at-distance.ensures (omega (arith, c.in_err-start.ensures)))
+    rw c.from_residual-in_err-start.ensures (too_far _ _ _ c.in_ok-end.ensures.0 c.in_ok-end.ensures.1 _ c.u32_at-distance.ensures (omega arith) (omega (arith, c.in_err-start.ensures)))
 
 pub returns : goal.returns
 returns c =
-    trailed _ _ _ c.in_ok-end.ensures.0 c.in_ok-end.ensures.1 _ c.u32_at-distance.ensures _ c.if-bytes-end.false c.if-bytes-end-ne49.false c.in_ok-start.ensures.0 c.in_ok-start.ensures.1 refl c.u16_at.ensures.0 c.u16_at.ensures.1
+    trailed _ _ _ c.in_ok-end.ensures.0 c.in_ok-end.ensures.1 _ c.u32_at-distance.ensures (omega arith) _ c.if-bytes-end.false c.if-bytes-end-ne49.false c.in_ok-start.ensures.0 c.in_ok-start.ensures.1 refl c.u16_at.ensures.0 c.u16_at.ensures.1
