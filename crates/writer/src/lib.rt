@@ -1,13 +1,13 @@
 // A writer that carries the lent output and the position it has reached.
 #![tactic(auto)]
 
-ghost use Rattle.std.specs.Prelude.{◌≡◌, [], ◌∷◌, ◌+◌, ◌-◌, ◌≤◌, length};
+ghost use Rattle.std.specs.Prelude.{◌≡◌, ◌∷◌, ◌+◌, ◌-◌, ◌≤◌, length};
 ghost use Rattle.std.proofs.lemmas.List.Edits.{sets};
 ghost use Rattle.layout.specs.Numbers.{le16};
 ghost use Rattle.writer.specs.Written.{appended, patched};
 
 use positions::BytePosition;
-use stores::{write_u8, write_u16};
+use stores::{Low16, Store};
 
 // The output, and the position reached in it: the part of source 000's ActionEncoder that owns its output.
 #[derive(Drop)]
@@ -16,84 +16,42 @@ pub struct Writer<'a> {
     pub at: BytePosition,
 }
 
-// A byte at a position, and the position after it.
-fn put_u8(out: &mut [u8], at: BytePosition, v: u8) -> BytePosition
-    requires { at.0 + 1 ≤ length out.old }
-    ensures { (result.0 ≡ at.0 + length (v ∷ [])) × (out.new ≡ sets out.old at.0 (v ∷ [])) }
-{
-    write_u8(out, at.0, v);
-    BytePosition(at.0 + 1)
-}
-
-// The low sixteen bits of a number at a position, and the position after them.
-fn put_u16(out: &mut [u8], at: BytePosition, v: usize) -> BytePosition
-    requires { at.0 + 2 ≤ length out.old }
-    ensures { (result.0 ≡ at.0 + length (le16 v)) × (out.new ≡ sets out.old at.0 (le16 v)) }
-{
-    write_u16(out, at.0, v);
-    BytePosition(at.0 + 2)
-}
-
-// The low sixteen bits of a number at an earlier position than the one reached, which is given back.
-fn put_u16_at(out: &mut [u8], at: BytePosition, earlier: BytePosition, v: usize) -> BytePosition
-    requires { earlier.0 + 2 ≤ length out.old }
-    ensures { (result.0 ≡ at.0) × (out.new ≡ sets out.old earlier.0 (le16 v)) }
-{
-    write_u16(out, earlier.0, v);
-    at
-}
-
-// A writer into an output, from a position on.
-pub fn writer_at<'a>(out: &'a mut [u8], at: BytePosition) -> Writer<'a>
-    ensures { (result.out ≡ out.entry) × (result.at ≡ at) }
-{
-    Writer { out: out, at: at }
-}
-
-// A byte is appended.
-pub fn append_u8<'a>(w: Writer<'a>, v: u8) -> Writer<'a>
-    requires { w.at.0 + 1 ≤ length w.out.now }
-    ensures { result ≡ appended w.entry (v ∷ []) }
-{
-    let at = w.at;
-    let next = put_u8(&mut *w.out, at, v);
-    Writer {
-        out: w.out,
-        at: next,
+impl<'a> Writer<'a> {
+    // A writer into an output, from a position on.
+    pub fn new(out: &'a mut [u8], at: BytePosition) -> Writer<'a>
+        ensures { (result.out ≡ out.entry) × (result.at ≡ at) }
+    {
+        Writer { out, at }
     }
-}
 
-// The low sixteen bits of a number are appended.
-pub fn append_u16<'a>(w: Writer<'a>, v: usize) -> Writer<'a>
-    requires { w.at.0 + 2 ≤ length w.out.now }
-    ensures { result ≡ appended w.entry (le16 v) }
-{
-    let at = w.at;
-    let next = put_u16(&mut *w.out, at, v);
-    Writer {
-        out: w.out,
-        at: next,
+    // A value is appended: the position moves behind it.
+    pub fn append<T: Store>(self, v: T) -> Writer<'a>
+        requires { self.at.0 + length (T.bytes v) ≤ length self.out.now }
+        ensures { result ≡ appended self.entry (T.bytes v) }
+    {
+        let at = self.at;
+        let end = v.store(&mut *self.out, at.0);
+        Writer {
+            out: self.out,
+            at: BytePosition(end),
+        }
     }
-}
 
-// The low sixteen bits of a number are written at an earlier position. The one reached stays.
-pub fn patch_u16<'a>(w: Writer<'a>, earlier: BytePosition, v: usize) -> Writer<'a>
-    requires { earlier.0 + 2 ≤ length w.out.now }
-    ensures { result ≡ patched w.entry earlier (le16 v) }
-{
-    let at = w.at;
-    let next = put_u16_at(&mut *w.out, at, earlier, v);
-    Writer {
-        out: w.out,
-        at: next,
+    // A value is written at an earlier position. The one reached stays.
+    pub fn patch<T: Store>(self, earlier: BytePosition, v: T) -> Writer<'a>
+        requires { earlier.0 + length (T.bytes v) ≤ length self.out.now }
+        ensures { result ≡ patched self.entry earlier (T.bytes v) }
+    {
+        v.store(&mut *self.out, earlier.0);
+        self
     }
-}
 
-// The position reached. The output is as it was.
-pub fn finish<'a>(w: Writer<'a>) -> BytePosition
-    ensures { (result ≡ w.entry.at) × (w.exit.0.now ≡ w.entry.out.now) }
-{
-    w.at
+    // The position reached. The output is as it was.
+    pub fn finish(self) -> BytePosition
+        ensures { (result ≡ self.entry.at) × (self.exit.0.now ≡ self.entry.out.now) }
+    {
+        self.at
+    }
 }
 
 // An action's header at a position, and the writer behind it. It is a function of its own because the check follows an output
@@ -103,7 +61,7 @@ fn header_at<'a>(out: &'a mut [u8], pos: BytePosition, op: u8, len: usize) -> Wr
     ensures same_reference { result.out.ghost_name ≡ out.entry.ghost_name }
     ensures appends { (result.at.0 ≡ pos.0 + 3) × (result.out.now ≡ sets out.old pos.0 (op ∷ le16 len)) }
 {
-    append_u16(append_u8(writer_at(out, pos), op), len)
+    Writer::new(out, pos).append((op, Low16(len)))
 }
 
 // An action's header: its opcode, then the length of its payload. Answers the position after it. Opcodes under 80 have no header
@@ -112,7 +70,7 @@ pub fn write_action_header(out: &mut [u8], pos: BytePosition, op: u8, len: usize
     requires { pos.0 + 3 ≤ length out.old }
     ensures { (result.0 ≡ pos.0 + 3) × (out.new ≡ sets out.old pos.0 (op ∷ le16 len)) }
 {
-    finish(header_at(out, pos, op, len))
+    header_at(out, pos, op, len).finish()
 }
 
 // The length of a body at a position before it, and the writer behind the body. It is a function of its own as `header_at` is.
@@ -126,7 +84,7 @@ fn block_length_at<'a>(
     ensures same_reference { result.out.ghost_name ≡ out.entry.ghost_name }
     ensures patches { (result.at ≡ block_end) × (result.out.now ≡ sets out.old at.0 (le16 (block_end.0 - block_start.0))) }
 {
-    patch_u16(writer_at(out, block_end), at, block_end.0 - block_start.0)
+    Writer::new(out, block_end).patch(at, Low16(block_end.0 - block_start.0))
 }
 
 // The length of a body, patched in at a position before it when it is closed.
@@ -139,5 +97,5 @@ pub fn write_block_length_at(
     requires { (at.0 + 2 ≤ length out.old) × (block_start.0 ≤ block_end.0) }
     ensures { out.new ≡ sets out.old at.0 (le16 (block_end.0 - block_start.0)) }
 {
-    finish(block_length_at(out, at, block_start, block_end));
+    block_length_at(out, at, block_start, block_end).finish();
 }
