@@ -57,7 +57,7 @@ module _ (m : MainBody) where
 module _ (m : MainBody) (p : ℕ) (l : p ≤ length m.b.now) where
   -- the target that the code takes for a shape's bits shows the one that the definitions read
   target_shown : (shape : ℕ) (c r : Bool) → has_catch shape ≡ c → has_register shape ≡ r
-      → Gives (λ x q. ShownTarget m.b.now m.words.now shape (catch_at m c r p) x × (q ≡ placed (after_catch m c r p)) × (after_catch m c r p ≤ length m.b.now)) (read_catch_target (read_by m) m.b.now c r (placed p))
+      → Gives (λ x q. ShownTarget m shape (catch_at m c r p) x × (q ≡ placed (after_catch m c r p)) × (after_catch m c r p ≤ length m.b.now)) (read_catch_target (read_by m) m.b.now c r (placed p))
   unfolding read_catch_target
   target_shown shape true true g f = next _ (u8 m.b.now p) (λ h. gives (register g f, refl, h))
   target_shown shape true false g f = next_text _ (string m p) (λ x h. gives (variable g f h, refl, h.ends))
@@ -71,7 +71,7 @@ and_left false t e = e
 module _ (m : MainBody) (inner : Reader (ActionsOf Text ℕ)) (p : ℕ) (l : p ≤ length m.b.now) where
   -- r shows the action and the place behind it, and what is taken ends within the bytes
   abbrev Taken : Action → ℕ → ActionOf Text ℕ → Place → Type 0
-  Taken r end a q = Shown (read_by m) m.b.now m.words.now inner p r a q × (end ≤ length m.b.now)
+  Taken r end a q = Shown m inner p r a q × (end ≤ length m.b.now)
 
   -- a label number
   label : Gives (Exactly ((p + 2 ≤ length m.b.now) × (u16_at m.b.now p < m.terms.label_bound)) (u16_at m.b.now p) (placed (p + 2))) (read_label (read_by m) m.b.now 0 (placed p))
@@ -161,7 +161,7 @@ arm_listed is_goto_frame2 = refl
 
 -- the same by the byte that stands at p
 action_taken : (m : MainBody) (p : ℕ) {n : ℕ} {op : OpCode} → Arm n op → get_or m.b.now p 0 ≡ n → (inner : Reader (ActionsOf Text ℕ))
-    → Gives (λ a q. Shown (read_by m) m.b.now m.words.now inner (p + 1) (action_at m op (p + 1)) a q × (taken m op (p + 1) ≤ length m.b.now)) (read_action (read_by m) m.b.now inner (placed p))
+    → Gives (λ a q. Shown m inner (p + 1) (action_at m op (p + 1)) a q × (taken m op (p + 1) ≤ length m.b.now)) (read_action (read_by m) m.b.now inner (placed p))
 unfolding read_action read_fields_if
 action_taken m p {op = op} arm h inner = next _ (u8 m.b.now p) (λ l. rw (h, arm_listed arm) (fields_shown m inner (p + 1) l op))
 
@@ -172,7 +172,7 @@ module _ {m : MainBody} {p n : ℕ} {op : OpCode} where
     shows = record { shows = λ inner a q r. (given (action_taken m p arm h inner) r).0 };
   }
 
-  -- what it takes lies within b
+  -- what it takes lies within the main body
   pub action_room : Arm n op → get_or m.b.now p 0 ≡ n → ActionReads m p → taken m op (p + 1) ≤ length m.b.now
   action_room arm h reads = (given (action_taken m p arm h reads.inner) reads.reads).1
 
@@ -236,19 +236,19 @@ small_op {n} h op e = small_byte_lem h op (unfold opcode_of in first_with_lem by
 small_is : (m : MainBody) (p : ℕ) {n : ℕ} {op : OpCode} → IsSmall n op → code.Small n ≡ action_at m op p
 small_is m p (is_small g) = ap (λ n. code.Small n) (sym g)
 
-small_shown : (terms : Terms) (b e : List ℕ) (inner : Reader (ActionsOf Text ℕ)) (p n : ℕ) (o : Option OpCode) (q : Place) → ((op : OpCode) → o ≡ some op → IsSmall n op)
-    → Gives (Shown terms b e inner p (code.Small n)) (read_fields_if terms b inner o q (placed p))
+small_shown : (m : MainBody) (inner : Reader (ActionsOf Text ℕ)) (p n : ℕ) (o : Option OpCode) (q : Place) → ((op : OpCode) → o ≡ some op → IsSmall n op)
+    → Gives (Shown m inner p (code.Small n)) (read_fields_if (read_by m) m.b.now inner o q (placed p))
 unfolding read_fields_if read_fields
-small_shown terms b e inner p n (some op) q h = go (h op refl)
+small_shown m inner p n (some op) q h = go (h op refl)
   where
-    go : {o : OpCode} → IsSmall n o → Gives (Shown terms b e inner p (code.Small n)) (read_fields terms b inner o (placed p))
+    go : {o : OpCode} → IsSmall n o → Gives (Shown m inner p (code.Small n)) (read_fields (read_by m) m.b.now inner o (placed p))
     go (is_small s) = gives (small s)
-small_shown terms b e inner p n none q h = refuses
+small_shown m inner p n none q h = refuses
 
 -- the same by the byte that stands at p
 pub other_shown : {m : MainBody} {p : ℕ} → NoneOf field_bytes (get_or m.b.now p 0) → TakesAction m p (code.Small (get_or m.b.now p 0))
 unfolding read_action
 other_shown {m} {p} h = record {
   is = λ op g. small_is m (p + 1) (small_op h op g);
-  shows = record { shows = λ inner a q r. given (next _ (u8 m.b.now p) (λ l. small_shown (read_by m) m.b.now m.words.now inner (p + 1) (get_or m.b.now p 0) (opcode_of (get_or m.b.now p 0)) _ (small_op h))) r };
+  shows = record { shows = λ inner a q r. given (next _ (u8 m.b.now p) (λ l. small_shown m inner (p + 1) (get_or m.b.now p 0) (opcode_of (get_or m.b.now p 0)) _ (small_op h))) r };
 }

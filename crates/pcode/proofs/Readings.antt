@@ -146,7 +146,7 @@ module _ (b : List ℕ) (p : ℕ) where
 
 module _ (m : MainBody) (p : ℕ) where
   -- a word's bytes stand where it is found
-  word : (count : ℕ) → Gives (Behind (IsText m.b.now m.words.now (book_span (found_at m.words.now m.index.now count (u16_at m.b.now p)) (p + 2))) (placed (p + 2))) (read_word m.b.now (words_by m.words.now m.index.now count) (placed p))
+  word : (count : ℕ) → Gives (Behind (IsText m (book_span (found_at m.words.now m.index.now count (u16_at m.b.now p)) (p + 2))) (placed (p + 2))) (read_word m.b.now (words_by m.words.now m.index.now count) (placed p))
   unfolding read_word definition.spelling
   word count =
       next _ (passed m.b.now p (λ i. ltb i (length (words_by m.words.now m.index.now count))) (read_u16 m.b.now) (u16 m.b.now p)) (λ l.
@@ -155,13 +155,13 @@ module _ (m : MainBody) (p : ℕ) where
       gives (behind_it (record { within = f.0; is = word_listed m.words.now m.index.now count (u16_at m.b.now p) n ∙ sym f.1; ends = l.0 })))
 
   -- a plain string's behind its length
-  bytes : (n : ℕ) → Gives (Behind (IsText m.b.now m.words.now (plain_span p n)) (placed (p + n))) (read_plain m.b.now n (placed p))
+  bytes : (n : ℕ) → Gives (Behind (IsText m (plain_span p n)) (placed (p + n))) (read_plain m.b.now n (placed p))
   unfolding read_plain definition.spelling
   bytes n = next _ (spelling m.b.now p n) (λ h. gives (behind_it (record { within = h; is = refl; ends = h })))
 
   -- the span behind a length is the string read there
   behind_length : (count : code.Option ℕ) (t : Bool) (n : ℕ)
-      → Gives (Behind (IsText m.b.now m.words.now (span_behind m count t p n)) (placed (span_behind m count t p n).next)) (read_text m.b.now (words_if count m.words.now m.index.now) t n (placed p))
+      → Gives (Behind (IsText m (span_behind m count t p n)) (placed (span_behind m count t p n).next)) (read_text m.b.now (words_if count m.words.now m.index.now) t n (placed p))
   unfolding read_text words_if
   behind_length (code.Some count) true n = word count
   behind_length (code.Some count) false n = bytes n
@@ -169,7 +169,7 @@ module _ (m : MainBody) (p : ℕ) where
 
 module _ (m : MainBody) (p : ℕ) where
   -- a string, whose bytes are those of the span at p
-  pub string : Gives (Behind (IsText m.b.now m.words.now (span_at m p)) (placed (span_at m p).next)) (read_string (read_by m) m.b.now (placed p))
+  pub string : Gives (Behind (IsText m (span_at m p)) (placed (span_at m p).next)) (read_string (read_by m) m.b.now (placed p))
   unfolding read_string span_at
   string = next _ (u16 m.b.now p) (λ l. behind_length m (p + 2) m.terms.word_count (eqb (u16_at m.b.now p) 65535) (u16_at m.b.now p))
 

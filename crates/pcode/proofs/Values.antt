@@ -17,13 +17,13 @@ use Rattle.pcode.proofs.Readings as reading
 use Rattle.pcode.proofs.Arms.{Found, found, found_once, NoneOf, is_one, barred}
 use Rattle.pcode.proofs.Readings.{Gives, gives, refuses, given, next, next_text, anyway, first, u8}
 
--- a value and the place after it are those that r shows, and the place lies within b
-abbrev Pushed : List ℕ → List ℕ → PushAt → PushValueOf Text → Place → Type 0
-Pushed b e r x q = ShownValue b e r.value x × (q ≡ placed r.next) × (r.next ≤ length b)
+-- a value and the place after it are those that r shows, and the place lies within the main body
+abbrev Pushed : MainBody → PushAt → PushValueOf Text → Place → Type 0
+Pushed m r x q = ShownValue m r.value x × (q ≡ placed r.next) × (r.next ≤ length m.b.now)
 
 module _ (m : MainBody) (p : ℕ) (l : p ≤ length m.b.now) where
   -- what the code takes for a kind shows the value that the definitions read
-  kind_shown : (k : PushKind) → Gives (Pushed m.b.now m.words.now (value_at m k p)) (read_value_of (read_by m) m.b.now k (placed p))
+  kind_shown : (k : PushKind) → Gives (Pushed m (value_at m k p)) (read_value_of (read_by m) m.b.now k (placed p))
   unfolding read_value_of
   kind_shown PushKind.String = next_text _ (reading.string m p) (λ x h. gives (string h, refl, h.ends))
   kind_shown PushKind.Null = gives (null, refl, l)
@@ -59,7 +59,7 @@ kind_listed is_constant = refl
 
 -- what the code takes for the kind that stands at p shows the value there, and the place after it
 pushed : (m : MainBody) (p : ℕ) {n : ℕ} {k : PushKind} → KindArm n k → get_or m.b.now p 0 ≡ n
-    → Gives (Pushed m.b.now m.words.now (value_at m k (p + 1))) (read_value (read_by m) m.b.now (placed p))
+    → Gives (Pushed m (value_at m k (p + 1))) (read_value (read_by m) m.b.now (placed p))
 unfolding read_value read_value_if
 pushed m p {k = k} arm h = next _ (u8 m.b.now p) (λ l. rw (h, kind_listed arm) (kind_shown m (p + 1) l k))
 
@@ -70,7 +70,7 @@ module _ {m : MainBody} {p n : ℕ} {k : PushKind} where
     shows = record { shows = λ x q r. let g = given (pushed m p arm h) r in (g.0, g.1) };
   }
 
-  -- it ends within b
+  -- it ends within the main body
   pub value_room : KindArm n k → get_or m.b.now p 0 ≡ n → ValueReads m p → (value_at m k (p + 1)).next ≤ length m.b.now
   value_room arm h reads = (given (pushed m p arm h) reads.reads).2
 

@@ -1,12 +1,11 @@
--- What the code's cases show of the action and the push value that the definitions read at a place of a main body, whose bytes are b,
--- and e are the bytes of a book's entries. Assumes nothing.
+-- What the code's cases show of the action and the push value that the definitions read at a place of a main body. Assumes nothing.
 use Rattle.std.specs.Prelude.{◌≡◌, ℕ, ◌+◌, ◌≤◌, ◌<◌, Bool, true, false, cond, List, length, get_or, eqb, Option, Some, None}
 use Rattle.std.proofs.Math.Option.{some}
 use Rattle.layout.specs.Numbers.{u16_at, u32_at, u64_at}
 use Rattle.layout.specs.OpCode.{OpCode, SmallOpCode, small_byte, opcode_of}
 use Rattle.layout.specs.PushKind.{PushKind, kind_of}
 use Rattle.layout.specs.Tree.{PushValueOf, String, Null, Undefined, Register, Boolean, Float, Integer, Constant, FunctionParamOf, Small, GotoFrame, GetUrl, StoreRegister, ConstantPool, WaitForFrame, SetTarget, GotoLabel, WaitForFrame2, Push, GetUrl2, GotoFrame2, With, DefineFunction, DefineFunction2, Jump, If, CatchTargetOf, Variable, ActionOf, flat, branch, owner, Try, ActionsOf, CatchOf, FinallyOf}
-use Rattle.layout.specs.Read.{Text, Terms, Place, placed, got, Reader, repeat, has_catch, has_finally, has_register, is_shape, read_string, read_value, read_param, read_catch, read_finally, read_action}
+use Rattle.layout.specs.Read.{Text, Place, placed, got, Reader, repeat, has_catch, has_finally, has_register, is_shape, read_string, read_value, read_param, read_catch, read_finally, read_action}
 use Rattle.layout.specs.Pack.{spelling}
 use Rattle.fields.specs.Runs.{part}
 use Rattle.editions.specs.Allowed.{read_by}
@@ -25,13 +24,13 @@ use Rattle.pcode.specs.declared.Action.TheVariants as code
 
 -- ---- strings and functions
 
--- a span lies within the bytes that it is a part of: those of b, or of e
-abbrev pub Held : List ℕ → List ℕ → Span → Type 0
-Held b e s = s.at + s.len ≤ length (cond s.from_book e b)
+-- a span lies within the bytes that it is a part of: those of the main body, or of the words
+abbrev pub Held : MainBody → Span → Type 0
+Held m s = s.at + s.len ≤ length (cond s.from_book m.words.now m.b.now)
 
 -- its bytes
-abbrev pub span_of : List ℕ → List ℕ → Span → List ℕ
-span_of b e s = part (cond s.from_book e b) s.at s.len
+abbrev pub span_of : MainBody → Span → List ℕ
+span_of m s = part (cond s.from_book m.words.now m.b.now) s.at s.len
 
 -- a word that is found, for a string that ends at q
 abbrev pub book_span : Word → ℕ → Span
@@ -57,11 +56,11 @@ module _ (m : MainBody) where
   abbrev pub function_at : ℕ → Function
   function_at p = record { name = span_at p; count = u16_at m.b.now (span_at p).next; at = (span_at p).next + 2 }
 
--- a span shows the string of its bytes, all of which stand in b or in e, and ends within b
-pub record IsText (b e : List ℕ) (s : Span) (t : Text) : Type 0 where
-  pub within : Held b e s
-  pub is : spelling t ≡ span_of b e s
-  pub ends : s.next ≤ length b
+-- a span shows the string of its bytes, all of which are there, and ends within the main body
+pub record IsText (m : MainBody) (s : Span) (t : Text) : Type 0 where
+  pub within : Held m s
+  pub is : spelling t ≡ span_of m s
+  pub ends : s.next ≤ length m.b.now
 
 -- ---- push values
 
@@ -82,23 +81,23 @@ module _ (m : MainBody) where
   value_at PushKind.Constant p = push_at (value.Constant (u16_at m.b.now p)) (p + 2)
 
 -- a case of the code, and the push value that it shows
-pub data ShownValue (b e : List ℕ) : PushValue → PushValueOf Text → Type 0 where
+pub data ShownValue (m : MainBody) : PushValue → PushValueOf Text → Type 0 where
   -- the string behind the kind
-  string : {s : Span} {t : Text} → IsText b e s t → ShownValue b e (value.String s) (String t)
+  string : {s : Span} {t : Text} → IsText m s t → ShownValue m (value.String s) (String t)
   -- the kind alone
-  null : ShownValue b e value.Null Null
+  null : ShownValue m value.Null Null
   -- the kind alone
-  undefined : ShownValue b e value.Undefined Undefined
+  undefined : ShownValue m value.Undefined Undefined
   -- the byte behind the kind
-  register : {r : ℕ} → ShownValue b e (value.Register r) (Register r)
+  register : {r : ℕ} → ShownValue m (value.Register r) (Register r)
   -- the byte behind the kind, 0 or 1
-  boolean : {n : ℕ} → n < 2 → ShownValue b e (value.Boolean n) (Boolean (eqb n 1))
+  boolean : {n : ℕ} → n < 2 → ShownValue m (value.Boolean n) (Boolean (eqb n 1))
   -- the u64 behind the kind, a double's bits
-  float : {w : ℕ} → ShownValue b e (value.Float w) (Float w)
+  float : {w : ℕ} → ShownValue m (value.Float w) (Float w)
   -- the u32 behind the kind
-  integer : {w : ℕ} → ShownValue b e (value.Integer w) (Integer w)
+  integer : {w : ℕ} → ShownValue m (value.Integer w) (Integer w)
   -- the u16 behind the kind
-  constant : {i : ℕ} → ShownValue b e (value.Constant i) (Constant i)
+  constant : {i : ℕ} → ShownValue m (value.Constant i) (Constant i)
 
 -- the definitions read a push value at p
 pub record ValueReads (m : MainBody) (p : ℕ) : Type 0 where
@@ -108,7 +107,7 @@ pub record ValueReads (m : MainBody) (p : ℕ) : Type 0 where
 
 -- r shows the push value that the definitions read at p, and holds the place after it
 pub record ShowsValue (m : MainBody) (p : ℕ) (r : PushAt) : Type 0 where
-  pub shows : (x : PushValueOf Text) (q : Place) → read_value (read_by m) m.b.now (placed p) ≡ got x q → ShownValue m.b.now m.words.now r.value x × (q ≡ placed r.next)
+  pub shows : (x : PushValueOf Text) (q : Place) → read_value (read_by m) m.b.now (placed p) ≡ got x q → ShownValue m r.value x × (q ≡ placed r.next)
 
 -- r is what stands behind the kind at p, and shows what is read there by the code's terms
 pub record TakesValue (m : MainBody) (p : ℕ) (r : PushAt) : Type 0 where
@@ -164,62 +163,62 @@ module _ (m : MainBody) where
   action_at OpCode.GotoFrame2 p = code.GotoFrame2 (u16_at m.b.now p) (get_or m.b.now (p + 2) 0)
 
 -- a case of the code, and the catch target that it shows in a Try of this shape
-pub data ShownTarget (b e : List ℕ) (shape : ℕ) : Option CatchTarget → CatchTargetOf Text → Type 0 where
+pub data ShownTarget (m : MainBody) (shape : ℕ) : Option CatchTarget → CatchTargetOf Text → Type 0 where
   -- no bytes: without a catch the target is not used
-  nothing : {t : CatchTargetOf Text} → has_catch shape ≡ false → ShownTarget b e shape None t
+  nothing : {t : CatchTargetOf Text} → has_catch shape ≡ false → ShownTarget m shape None t
   -- the string behind the shape
-  variable : {s : Span} {t : Text} → has_catch shape ≡ true → has_register shape ≡ false → IsText b e s t → ShownTarget b e shape (Some (target.Variable s)) (Variable t)
+  variable : {s : Span} {t : Text} → has_catch shape ≡ true → has_register shape ≡ false → IsText m s t → ShownTarget m shape (Some (target.Variable s)) (Variable t)
   -- the byte behind the shape
-  register : {r : ℕ} → has_catch shape ≡ true → has_register shape ≡ true → ShownTarget b e shape (Some (target.Register r)) (Register r)
+  register : {r : ℕ} → has_catch shape ≡ true → has_register shape ≡ true → ShownTarget m shape (Some (target.Register r)) (Register r)
 
 -- A case of the code, and the action that it shows, with the place after that action. Its fields start at p, behind its
 -- opcode. A list is read from its first element's place on, and a body by `inner` from its place on
-pub data Shown (terms : Terms) (b e : List ℕ) (inner : Reader (ActionsOf Text ℕ)) (p : ℕ) : Action → ActionOf Text ℕ → Place → Type 0 where
+pub data Shown (m : MainBody) (inner : Reader (ActionsOf Text ℕ)) (p : ℕ) : Action → ActionOf Text ℕ → Place → Type 0 where
   -- the opcode's byte
-  small : {n : ℕ} {op : SmallOpCode} → small_byte op ≡ n → Shown terms b e inner p (code.Small n) (flat (Small op)) (placed p)
+  small : {n : ℕ} {op : SmallOpCode} → small_byte op ≡ n → Shown m inner p (code.Small n) (flat (Small op)) (placed p)
   -- the u16 at p
-  goto_frame : {n : ℕ} → Shown terms b e inner p (code.GotoFrame n) (flat (GotoFrame n)) (placed (p + 2))
+  goto_frame : {n : ℕ} → Shown m inner p (code.GotoFrame n) (flat (GotoFrame n)) (placed (p + 2))
   -- the string at p, and the one behind it
-  get_url : {u t : Span} {x y : Text} → IsText b e u x → IsText b e t y → Shown terms b e inner p (code.GetUrl u t) (flat (GetUrl x y)) (placed t.next)
+  get_url : {u t : Span} {x y : Text} → IsText m u x → IsText m t y → Shown m inner p (code.GetUrl u t) (flat (GetUrl x y)) (placed t.next)
   -- the byte at p
-  store_register : {r : ℕ} → Shown terms b e inner p (code.StoreRegister r) (flat (StoreRegister r)) (placed (p + 1))
+  store_register : {r : ℕ} → Shown m inner p (code.StoreRegister r) (flat (StoreRegister r)) (placed (p + 1))
   -- n strings from i on
-  constant_pool : {n i : ℕ} {xs : List Text} {q : Place} → repeat (read_string terms b) n (placed i) ≡ got xs q
-      → Shown terms b e inner p (code.ConstantPool n i) (flat (ConstantPool xs)) q
+  constant_pool : {n i : ℕ} {xs : List Text} {q : Place} → repeat (read_string (read_by m) m.b.now) n (placed i) ≡ got xs q
+      → Shown m inner p (code.ConstantPool n i) (flat (ConstantPool xs)) q
   -- the u16 at p and the byte behind it
-  wait_for_frame : {n k : ℕ} → Shown terms b e inner p (code.WaitForFrame n k) (flat (WaitForFrame n k)) (placed (p + 3))
+  wait_for_frame : {n k : ℕ} → Shown m inner p (code.WaitForFrame n k) (flat (WaitForFrame n k)) (placed (p + 3))
   -- the string at p
-  set_target : {s : Span} {x : Text} → IsText b e s x → Shown terms b e inner p (code.SetTarget s) (flat (SetTarget x)) (placed s.next)
+  set_target : {s : Span} {x : Text} → IsText m s x → Shown m inner p (code.SetTarget s) (flat (SetTarget x)) (placed s.next)
   -- the string at p
-  goto_label : {s : Span} {x : Text} → IsText b e s x → Shown terms b e inner p (code.GotoLabel s) (flat (GotoLabel x)) (placed s.next)
+  goto_label : {s : Span} {x : Text} → IsText m s x → Shown m inner p (code.GotoLabel s) (flat (GotoLabel x)) (placed s.next)
   -- the byte at p
-  wait_for_frame2 : {k : ℕ} → Shown terms b e inner p (code.WaitForFrame2 k) (flat (WaitForFrame2 k)) (placed (p + 1))
+  wait_for_frame2 : {k : ℕ} → Shown m inner p (code.WaitForFrame2 k) (flat (WaitForFrame2 k)) (placed (p + 1))
   -- the name at p and the parameters from their place on; behind them, at r, a byte, a u16 under 512 and the body
-  define_function2 : {f : Function} {x : Text} {ps : List (FunctionParamOf Text)} {r : Place} {a : ActionsOf Text ℕ} {q : Place} → IsText b e f.name x
-      → repeat (read_param terms b) f.count (placed f.at) ≡ got ps r → r.at + 3 ≤ length b → u16_at b (r.at + 1) < 512
+  define_function2 : {f : Function} {x : Text} {ps : List (FunctionParamOf Text)} {r : Place} {a : ActionsOf Text ℕ} {q : Place} → IsText m f.name x
+      → repeat (read_param (read_by m) m.b.now) f.count (placed f.at) ≡ got ps r → r.at + 3 ≤ length m.b.now → u16_at m.b.now (r.at + 1) < 512
       → inner (placed (r.at + 3)) ≡ got a q
-      → Shown terms b e inner p (code.DefineFunction2 f) (owner (DefineFunction2 x ps (get_or b r.at 0) (u16_at b (r.at + 1))) a) q
+      → Shown m inner p (code.DefineFunction2 f) (owner (DefineFunction2 x ps (get_or m.b.now r.at 0) (u16_at m.b.now (r.at + 1))) a) q
   -- the byte at p, the target that it asks for, and from i on the bodies
   try : {shape i : ℕ} {t : Option CatchTarget} {x : CatchTargetOf Text} {a : ActionsOf Text ℕ} {c : CatchOf Text ℕ} {f : FinallyOf Text ℕ} {r s q : Place}
-      → is_shape shape ≡ true → ShownTarget b e shape t x → inner (placed i) ≡ got a r → read_catch terms b inner (has_catch shape) x r ≡ got c s
-      → read_finally terms b inner (has_finally shape) s ≡ got f q → Shown terms b e inner p (code.Try shape t i) (Try a c f) q
+      → is_shape shape ≡ true → ShownTarget m shape t x → inner (placed i) ≡ got a r → read_catch (read_by m) m.b.now inner (has_catch shape) x r ≡ got c s
+      → read_finally (read_by m) m.b.now inner (has_finally shape) s ≡ got f q → Shown m inner p (code.Try shape t i) (Try a c f) q
   -- the body at i
-  with : {i : ℕ} {a : ActionsOf Text ℕ} {q : Place} → inner (placed i) ≡ got a q → Shown terms b e inner p (code.With i) (owner With a) q
+  with : {i : ℕ} {a : ActionsOf Text ℕ} {q : Place} → inner (placed i) ≡ got a q → Shown m inner p (code.With i) (owner With a) q
   -- n values from i on
-  push : {n i : ℕ} {xs : List (PushValueOf Text)} {q : Place} → repeat (read_value terms b) n (placed i) ≡ got xs q
-      → Shown terms b e inner p (code.Push n i) (flat (Push xs)) q
+  push : {n i : ℕ} {xs : List (PushValueOf Text)} {q : Place} → repeat (read_value (read_by m) m.b.now) n (placed i) ≡ got xs q
+      → Shown m inner p (code.Push n i) (flat (Push xs)) q
   -- the u16 at p, a label number
-  jump : {l : ℕ} → l < terms.label_bound → Shown terms b e inner p (code.Jump l) (branch Jump l) (placed (p + 2))
+  jump : {l : ℕ} → l < m.terms.label_bound → Shown m inner p (code.Jump l) (branch Jump l) (placed (p + 2))
   -- three bytes from p on, of which the first two are 0 or 1
-  get_url2 : {v t m : ℕ} → v < 2 → t < 2 → Shown terms b e inner p (code.GetUrl2 v t m) (flat (GetUrl2 (eqb v 1) (eqb t 1) m)) (placed (p + 3))
+  get_url2 : {v t k : ℕ} → v < 2 → t < 2 → Shown m inner p (code.GetUrl2 v t k) (flat (GetUrl2 (eqb v 1) (eqb t 1) k)) (placed (p + 3))
   -- the name at p and the parameters from their place on; behind them the body
-  define_function : {f : Function} {x : Text} {ps : List Text} {r : Place} {a : ActionsOf Text ℕ} {q : Place} → IsText b e f.name x
-      → repeat (read_string terms b) f.count (placed f.at) ≡ got ps r → inner r ≡ got a q
-      → Shown terms b e inner p (code.DefineFunction f) (owner (DefineFunction x ps) a) q
+  define_function : {f : Function} {x : Text} {ps : List Text} {r : Place} {a : ActionsOf Text ℕ} {q : Place} → IsText m f.name x
+      → repeat (read_string (read_by m) m.b.now) f.count (placed f.at) ≡ got ps r → inner r ≡ got a q
+      → Shown m inner p (code.DefineFunction f) (owner (DefineFunction x ps) a) q
   -- the u16 at p, a label number
-  if : {l : ℕ} → l < terms.label_bound → Shown terms b e inner p (code.If l) (branch If l) (placed (p + 2))
+  if : {l : ℕ} → l < m.terms.label_bound → Shown m inner p (code.If l) (branch If l) (placed (p + 2))
   -- the u16 at p, and the byte behind it, which is 0 or 1
-  goto_frame2 : {n k : ℕ} → k < 2 → Shown terms b e inner p (code.GotoFrame2 n k) (flat (GotoFrame2 n (eqb k 1))) (placed (p + 3))
+  goto_frame2 : {n k : ℕ} → k < 2 → Shown m inner p (code.GotoFrame2 n k) (flat (GotoFrame2 n (eqb k 1))) (placed (p + 3))
 
 -- the definitions read an action at p, by some reader of bodies
 pub record ActionReads (m : MainBody) (p : ℕ) : Type 0 where
@@ -230,7 +229,7 @@ pub record ActionReads (m : MainBody) (p : ℕ) : Type 0 where
 
 -- r shows the action that the definitions read at p, whatever the reader of bodies
 pub record ShowsAction (m : MainBody) (p : ℕ) (r : Action) : Type 0 where
-  pub shows : (inner : Reader (ActionsOf Text ℕ)) (a : ActionOf Text ℕ) (q : Place) → read_action (read_by m) m.b.now inner (placed p) ≡ got a q → Shown (read_by m) m.b.now m.words.now inner (p + 1) r a q
+  pub shows : (inner : Reader (ActionsOf Text ℕ)) (a : ActionOf Text ℕ) (q : Place) → read_action (read_by m) m.b.now inner (placed p) ≡ got a q → Shown m inner (p + 1) r a q
 
 -- r is what stands behind the opcode at p, and shows what is read there by the code's terms
 pub record TakesAction (m : MainBody) (p : ℕ) (r : Action) : Type 0 where
