@@ -1,4 +1,3 @@
 pub mod Runs
-pub mod Longs
 pub mod Layings
 pub mod Tries

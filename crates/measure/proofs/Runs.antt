@@ -3,23 +3,26 @@ use mathlib.Core.Path.{◌≡◌, refl, ap, ap₂, ◌∙◌}
 use Prim.Native.Nat.{ℕ, ◌+◌, ◌≤◌, ◌<◌}
 use mathlib.Core.Bool.{Bool, true, false}
 use mathlib.Core.List.{List, [], ◌∷◌, ◌++◌}
-use lib.ListN.{get_or, set}
+use Rattle.std.specs.Prelude.{Option, Some, None}
+use Rattle.std.specs.Option.{option_or}
 use lib.Dec.{ltb}
-use borrow.Author.Tests.{lt-ltb, le-ltb, eq-eqb, ne_eqb}
+use borrow.Author.Tests.{lt-ltb, le-ltb}
 use Rattle.layout.specs.Lists.{pick}
 use Rattle.layout.specs.Read.{placed, Read, got}
 use Rattle.layout.specs.Write.{Position, Event, label_at, branch_at, payload_too_long, body_too_long, event_if, payload_test, body_test}
 use Rattle.labels.specs.Table.{Tables, record_all, recorded}
 use Rattle.labels.proofs.Labels.{recorded_append}
-use Rattle.measure.specs.Walk.{State, state, noted, noted_if, note_all, run, done, outcome, branches, measure, uncounted, measured}
+use Rattle.measure.specs.declared.Limit.TheVariants.{ActionLen, BlockLen}
+use Rattle.measure.specs.declared.Overflow.{Overflow}
+use Rattle.measure.specs.Walk.{State, state, overflow, noted, noted_if, note_all, run, done, outcome, branches, measure, uncounted, measured}
 
-note_all-append : (xs ys : List Event) (over : List ℕ) → note_all (xs ++ ys) over ≡ note_all ys (note_all xs over)
+note_all-append : (xs ys : List Event) (over : Option Overflow) → note_all (xs ++ ys) over ≡ note_all ys (note_all xs over)
 unfolding note_all
 note_all-append [] ys over = refl
 note_all-append (label_at l s ∷ xs) ys over = note_all-append xs ys over
 note_all-append (branch_at l s ∷ xs) ys over = note_all-append xs ys over
-note_all-append (payload_too_long n s ∷ xs) ys over = note_all-append xs ys (noted 8 n s.number over)
-note_all-append (body_too_long n s ∷ xs) ys over = note_all-append xs ys (noted 9 n s.number over)
+note_all-append (payload_too_long n s ∷ xs) ys over = note_all-append xs ys (noted (overflow ActionLen n s.number) over)
+note_all-append (body_too_long n s ∷ xs) ys over = note_all-append xs ys (noted (overflow BlockLen n s.number) over)
 
 -- one list of events after another
 pub run_append : (xs ys : List Event) (s : State) → run (xs ++ ys) s ≡ run ys (run xs s)
@@ -31,35 +34,42 @@ unfolding run recorded record_all note_all
 run_none s = refl
 
 -- the two tests
-pub run_payload : (n : ℕ) (p : Position) (tab : Tables) (over : List ℕ) → run (payload_test n p) (state tab over) ≡ state tab (noted_if 8 n p.number over)
+pub run_payload : (n : ℕ) (p : Position) (tab : Tables) (over : Option Overflow) → run (payload_test n p) (state tab over) ≡ state tab (noted_if (overflow ActionLen n p.number) over)
 unfolding payload_test noted_if
 run_payload n p tab over = go (ltb 65535 n)
   where
-    go : (t : Bool) → run (event_if t (payload_too_long n p)) (state tab over) ≡ state tab (pick t (noted 8 n p.number over) over)
+    go : (t : Bool) → run (event_if t (payload_too_long n p)) (state tab over) ≡ state tab (pick t (noted (overflow ActionLen n p.number) over) over)
     go true = unfold run event_if recorded record_all note_all pick in refl
     go false = unfold run event_if recorded record_all note_all pick in refl
 
-pub run_body : (n : ℕ) (p : Position) (tab : Tables) (over : List ℕ) → run (body_test n p) (state tab over) ≡ state tab (noted_if 9 n p.number over)
+pub run_body : (n : ℕ) (p : Position) (tab : Tables) (over : Option Overflow) → run (body_test n p) (state tab over) ≡ state tab (noted_if (overflow BlockLen n p.number) over)
 unfolding body_test noted_if
 run_body n p tab over = go (ltb 65535 n)
   where
-    go : (t : Bool) → run (event_if t (body_too_long n p)) (state tab over) ≡ state tab (pick t (noted 9 n p.number over) over)
+    go : (t : Bool) → run (event_if t (body_too_long n p)) (state tab over) ≡ state tab (pick t (noted (overflow BlockLen n p.number) over) over)
     go true = unfold run event_if recorded record_all note_all pick in refl
     go false = unfold run event_if recorded record_all note_all pick in refl
 
 -- ---- what `note_long` leaves
 
-pub noted_short : (number n action : ℕ) (over : List ℕ) → n ≤ 65535 → over ≡ noted_if number n action over
+pub noted_short : (found : Overflow) (over : Option Overflow) → found.len ≤ 65535 → over ≡ noted_if found over
 unfolding noted_if pick
-noted_short number n action over h = rw (le-ltb 65535 n h)
+noted_short found over h = rw (le-ltb 65535 found.len h)
 
-pub noted_after : (number n action : ℕ) (over : List ℕ) → 65535 < n → (get_or over 0 0 ≡ 0 → ⊥) → over ≡ noted_if number n action over
-unfolding noted_if noted pick
-noted_after number n action over h k = rw (lt-ltb 65535 n h, ne_eqb (get_or over 0 0) 0 k)
+pub noted_long : (found : Overflow) (over : Option Overflow) → 65535 < found.len → noted found over ≡ noted_if found over
+unfolding noted_if pick
+noted_long found over h = rw (lt-ltb 65535 found.len h)
 
-pub noted_now : (number n action : ℕ) (over : List ℕ) → 65535 < n → get_or over 0 0 ≡ 0 → set (set (set over 0 number) 1 n) 2 action ≡ noted_if number n action over
-unfolding noted_if noted pick
-noted_now number n action over h k = rw (lt-ltb 65535 n h, eq-eqb (get_or over 0 0) 0 k)
+-- what is noted behind others is noted behind their first
+pub noted_or : (found : Overflow) (over long : Option Overflow) → noted_if found (option_or over long) ≡ option_or over (noted_if found long)
+unfolding noted_if pick
+noted_or found over long = go (ltb 65535 found.len) over
+  where
+    go : (t : Bool) (over : Option Overflow) → pick t (noted found (option_or over long)) (option_or over long) ≡ option_or over (pick t (noted found long) long)
+    go true None = refl
+    go true (Some o) = refl
+    go false None = refl
+    go false (Some o) = refl
 
 -- ---- the branches among events
 

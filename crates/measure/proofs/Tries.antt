@@ -7,7 +7,7 @@ use mathlib.Core.Bool.{Bool, true, false, false≢true}
 use mathlib.Core.List.{List, [], ◌∷◌, ◌++◌, append-nil}
 use lib.ListN.{length, get_or}
 use lib.Dec.{leb, eqb}
-use borrow.Author.Tests.{eqb-true, eqb-false, leb-true, ne_eqb}
+use borrow.Author.Tests.{eqb-true, eqb-false, leb-true}
 use Rattle.layout.specs.Lists.{pick}
 use Rattle.layout.specs.Numbers.{bit}
 use Rattle.layout.specs.OpCode.{OpCode}
@@ -28,22 +28,24 @@ use Rattle.laws.proofs.Shares.{text_most}
 use Rattle.laws.specs.Begun.{Fields, OfFields}
 use Rattle.laws.proofs.Begun.{fields_next, tested_fields, u8_fields, target_fields}
 use Rattle.labels.specs.Table.{Tables}
-use Rattle.positions.specs.declared.BytePosition.{BytePosition}
 use Rattle.positions.specs.Scanned.{fault_of, scanned}
 use Rattle.operands.specs.Operands.{string_size}
-use Rattle.positions.specs.declared.Scan.TheVariants as scan
+use Rattle.std.specs.Prelude.{Option, Result}
+use Rattle.positions.specs.declared.Stop as code
+use Rattle.measure.specs.declared.Limit.TheVariants.{ActionLen, BlockLen}
+use Rattle.measure.specs.declared.Overflow.{Overflow}
 use Rattle.measure.specs.declared.Laid.{Laid}
 use Rattle.measure.specs.declared.Laid.TheVariants as laid
 use Rattle.action_fields.specs.Fields.{read_caught, target_size, caught_size, bodies_after}
 use Rattle.laws.specs.Resolved.{action_size, action_trace, body_length}
 use Rattle.laws.proofs.Resolved.{body_same}
-use Rattle.measure.specs.Walk.{State, state, noted_if, run, fault, outcome, branches, uncounted, measured, in_turn, in_bodies, body_tests, bodies_events, Onward, Laying, laid_as, noted_from, Tried}
+use Rattle.measure.specs.Walk.{State, state, overflow, noted_if, run, fault, outcome, branches, uncounted, measured, in_turn, in_bodies, body_tests, bodies_events, Onward, Laying, laid_by, noted_from, Tried}
 use Rattle.measure.proofs.Runs.{run_append, run_none, run_payload, run_body, branches_append, branches_none, branches_after, branches_body}
 
 -- ---- a body's test, as a change of the state
 
 unfoldable closed : ℕ → ℕ → State → State
-closed k n s = state s.labels (noted_if 9 n k s.over)
+closed k n s = state s.labels (noted_if (overflow BlockLen n k) s.over)
 
 run_closed : (n : ℕ) (p : Position) (s : State) → run (body_test n p) s ≡ closed p.number n s
 unfolding closed
@@ -133,19 +135,19 @@ module _ (t : ActionsOf Text ℕ) (c : CatchOf Text ℕ) (f : FinallyOf Text ℕ
   moved_is : to_try (map_catch spelling c) (position pos home number) ≡ position w home (number + 1)
   moved_is = unfold moved in ap (λ (v : ℕ). position v home (number + 1)) body_at
 
-  try_run : (tab : Tables) (over : List ℕ)
-      → run (action_trace (Try t c f) (position pos home number)) (state tab over) ≡ run (bodies_events number (try_bodies t c f) (position w home (number + 1))) (state tab (noted_if 8 (7 + m) number over))
+  try_run : (tab : Tables) (over : Option Overflow)
+      → run (action_trace (Try t c f) (position pos home number)) (state tab over) ≡ run (bodies_events number (try_bodies t c f) (position w home (number + 1))) (state tab (noted_if (overflow ActionLen (7 + m) number) over))
   unfolding trace map_action
   try_run tab over =
       let n : ℕ = length (catch_name (map_catch spelling c)) in
       let p : Position = position pos home number in
       let e : 7 + n ≡ 7 + m = omega (arith, is_name, length-catch_name (map_catch spelling c)) in
       run_append (payload_test (7 + n) p) _ (state tab over)
-      ∙ ap (run _) (run_payload (7 + n) p tab over ∙ ap (λ (k : ℕ). state tab (noted_if 8 k number over)) e)
+      ∙ ap (run _) (run_payload (7 + n) p tab over ∙ ap (λ (k : ℕ). state tab (noted_if (overflow ActionLen k number) over)) e)
       ∙ ap (λ (v : Position). run (trace_body (map_body spelling t) v ++ (trace_catch (map_catch spelling c) (moved (body_length t) (body_count (map_body spelling t)) v)
       ++ (trace_finally (map_finally spelling f) (moved (body_length t + catch_size (map_catch spelling c)) (body_count (map_body spelling t) + catch_count (map_catch spelling c)) v)
-      ++ (body_test (body_length t) p ++ (body_test (catch_size (map_catch spelling c)) p ++ body_test (finally_size (map_finally spelling f)) p))))) (state tab (noted_if 8 (7 + m) number over))) moved_is
-      ∙ bodies_run t w home (number + 1) p (state tab (noted_if 8 (7 + m) number over)) c f
+      ++ (body_test (body_length t) p ++ (body_test (catch_size (map_catch spelling c)) p ++ body_test (finally_size (map_finally spelling f)) p))))) (state tab (noted_if (overflow ActionLen (7 + m) number) over))) moved_is
+      ∙ bodies_run t w home (number + 1) p (state tab (noted_if (overflow ActionLen (7 + m) number) over)) c f
 
   try_branches : branches (action_trace (Try t c f) (position pos home number)) ≡ branches (in_bodies (try_bodies t c f) (position w home (number + 1)))
   unfolding trace map_action
@@ -171,8 +173,8 @@ module _ (t : ActionsOf Text ℕ) (c : CatchOf Text ℕ) (f : FinallyOf Text ℕ
   try_long : pos + action_size (Try t c f) ≡ w + total body_length (try_bodies t c f)
   try_long = omega (arith, try_size, is-size)
 
-  try_done : (tab : Tables) (over : List ℕ) (r : Place) → outcome action_size count action_trace (position pos home number) (state tab over) (got (Try t c f) r)
-      ≡ outcome (total body_length) (total body_count) (bodies_events number) (position w home (number + 1)) (state tab (noted_if 8 (7 + m) number over)) (got (try_bodies t c f) r)
+  try_done : (tab : Tables) (over : Option Overflow) (r : Place) → outcome action_size count action_trace (position pos home number) (state tab over) (got (Try t c f) r)
+      ≡ outcome (total body_length) (total body_count) (bodies_events number) (position w home (number + 1)) (state tab (noted_if (overflow ActionLen (7 + m) number) over)) (got (try_bodies t c f) r)
   unfolding outcome
   try_done tab over r = rw (try_long, try_count, try_run tab over)
 
@@ -316,10 +318,6 @@ try_fields terms b inner p = go (tested is_shape (read_u8 b) p)
     go (got n q) = rest n (read_catch_target terms b (has_catch n) (has_register n) q)
     go (bad f q) = refl
 
-laid_some : (n q : ℕ) (w : BytePosition) → 1 ≤ n → laid_as n (scan.Ends q w) ≡ laid.Bodies q w n
-unfolding laid_as pick
-laid_some n q w h = rw (ne_eqb n 0 (λ e. omega (arith, e, h)))
-
 after_some : (n : ℕ) → 1 ≤ bodies_after n
 unfolding bodies_after
 after_some n = omega arith
@@ -339,12 +337,12 @@ module _ (terms : Terms) (b : List ℕ) (p pos home number : ℕ) (x : ℕ × Ca
       no_name : name_length (map_catch spelling no_catch) ≡ 1
       no_name = unfold name_length map_catch in refl
 
-  try_outcome : (over : List ℕ) (tab : Tables)
+  try_outcome : (over : Option Overflow) (tab : Tables)
       → outcome action_size count action_trace (position pos home number) (state tab over) (read_fields terms b (behind 1 inner) OpCode.Try (placed p))
-      ≡ outcome (total body_length) (total body_count) (bodies_events number) (position (pos + 3 + (7 + named)) home (number + 1)) (state tab (noted_if 8 (7 + named) number over)) (in_turn inner (bodies_in (has_catch x.0) (has_finally x.0)) q)
+      ≡ outcome (total body_length) (total body_count) (bodies_events number) (position (pos + 3 + (7 + named)) home (number + 1)) (state tab (noted_if (overflow ActionLen (7 + named) number) over)) (in_turn inner (bodies_in (has_catch x.0) (has_finally x.0)) q)
   try_outcome over tab =
       alike (outcome action_size count action_trace (position pos home number) (state tab over))
-      (outcome (total body_length) (total body_count) (bodies_events number) (position (pos + 3 + (7 + named)) home (number + 1)) (state tab (noted_if 8 (7 + named) number over)))
+      (outcome (total body_length) (total body_count) (bodies_events number) (position (pos + 3 + (7 + named)) home (number + 1)) (state tab (noted_if (overflow ActionLen (7 + named) number) over)))
       (λ t c f h r. try_done t c f named pos (pos + 3 + (7 + named)) home number h refl tab over r) (λ f i n k e. unfold outcome in ap (fault (fault_of f) i) (omega (arith, e)))
 
   pub try_measure : measured action_size count action_trace (position pos home number) (read_fields terms b (behind 1 inner) OpCode.Try (placed p))
@@ -354,7 +352,7 @@ module _ (terms : Terms) (b : List ℕ) (p pos home number : ℕ) (x : ℕ × Ca
       (measured (total body_length) (total body_count) in_bodies (position (pos + 3 + (7 + named)) home (number + 1)))
       (λ t c f h r. try_measured t c f named pos (pos + 3 + (7 + named)) home number h refl r) (λ f i n k e. unfold measured uncounted in refl)
 
-module _ (terms : Terms) (b : List ℕ) (small : Bytes b) (short : WordsShort terms) (at p pos number : ℕ) (is_next : p ≡ at + 1) (inside : p ≤ length b) (over over' : List ℕ) (l : Laid) where
+module _ (terms : Terms) (b : List ℕ) (small : Bytes b) (short : WordsShort terms) (at p pos number : ℕ) (is_next : p ≡ at + 1) (inside : p ≤ length b) (over over' : Option Overflow) (l : Result Laid code.Stop) where
   onward : (x : ℕ × CatchTargetOf Text) (q : Place) → (x.0 ≡ get_or b p 0) × (has_catch x.0 ≡ false → target_size x.1 ≡ 1) × (target_size x.1 + 65536 * p ≤ 65536 * q.at) × (p ≤ q.at) → q.at ≤ length b
       → Onward at (length b) pos q.at (pos + 3 + caught_size x)
   unfolding caught_size
@@ -363,32 +361,31 @@ module _ (terms : Terms) (b : List ℕ) (small : Bytes b) (short : WordsShort te
   lay_caught : (x : ℕ × CatchTargetOf Text) (q : Place) → read_caught terms b (placed p) ≡ got x q
       → (x.0 ≡ get_or b p 0) × (has_catch x.0 ≡ false → target_size x.1 ≡ 1) × (target_size x.1 + 65536 * p ≤ 65536 * q.at) × (p ≤ q.at) → q.at ≤ length b
       → Laying terms.label_bound (λ inner. read_fields terms b inner OpCode.Try (placed p)) at (length b) pos number over (noted_from (pos + 3) number (scanned caught_size (pos + 3) (got x q)) over)
-      (laid_as (bodies_after (get_or b p 0)) (scanned caught_size (pos + 3) (got x q)))
-  unfolding scanned noted_from caught_size
+      (laid_by (λ end. laid.Bodies end (bodies_after (get_or b p 0))) (scanned caught_size (pos + 3) (got x q)))
+  unfolding scanned caught_size
   lay_caught x q e g o =
       let k : bodies_in (has_catch x.0) (has_finally x.0) ≡ bodies_after (get_or b p 0) = bodies_is x.0 ∙ ap bodies_after g.0 in
       let m : 7 + target_size x.1 ≡ pos + 3 + (7 + target_size x.1) - (pos + 3) = omega arith in
-      rw (laid_some (bodies_after (get_or b p 0)) q.at (record { 0 = pos + 3 + caught_size x }) (after_some (get_or b p 0)))
-      (Laying.bodies {q = q.at} {n = bodies_after (get_or b p 0)} {w = record { 0 = pos + 3 + caught_size x }} (after_some (get_or b p 0)) (record {
+      Laying.bodies {after = record { at = q.at; pos = record { 0 = pos + 3 + caught_size x } }} {n = bodies_after (get_or b p 0)} (after_some (get_or b p 0)) (record {
         onward = onward x q g o;
         runs = λ inner tab home. try_outcome terms b p pos home number x q e inner (λ c. sym (g.1 c)) over tab
-            ∙ ap₂ (λ (i j : ℕ). outcome (total body_length) (total body_count) (bodies_events number) (position (pos + 3 + caught_size x) home (number + 1)) (state tab (noted_if 8 i number over)) (in_turn inner j q)) m k;
+            ∙ ap₂ (λ (i j : ℕ). outcome (total body_length) (total body_count) (bodies_events number) (position (pos + 3 + caught_size x) home (number + 1)) (state tab (noted_if (overflow ActionLen i number) over)) (in_turn inner j q)) m k;
         measures = λ inner home. try_measure terms b p pos home number x q e inner (λ c. sym (g.1 c))
             ∙ ap (λ (j : ℕ). measured (total body_length) (total body_count) in_bodies (position (pos + 3 + caught_size x) home (number + 1)) (in_turn inner j q)) k;
-      }))
+      })
 
   lay_uncaught : (f : answers.Fault) (q : ℕ) → read_caught terms b (placed p) ≡ bad f (stop (placed q))
       → Laying terms.label_bound (λ inner. read_fields terms b inner OpCode.Try (placed p)) at (length b) pos number over (noted_from (pos + 3) number (scanned caught_size (pos + 3) (bad f (stop (placed q)))) over)
-      (laid_as (bodies_after (get_or b p 0)) (scanned caught_size (pos + 3) (bad f (stop (placed q)))))
-  unfolding scanned noted_from laid_as outcome
-  lay_uncaught f q e = Laying.stops {f = fault_of f} {q = q} (λ inner t home. rw (try_fields terms b inner (placed p), e, add-zero number))
+      (laid_by (λ end. laid.Bodies end (bodies_after (get_or b p 0))) (scanned caught_size (pos + 3) (bad f (stop (placed q)))))
+  unfolding scanned outcome
+  lay_uncaught f q e = Laying.stops {s = record { fault = fault_of f; place = q }} (λ inner t home. rw (try_fields terms b inner (placed p), e, add-zero number))
 
   pub lay_try : Tried (scanned caught_size (pos + 3) (read_caught terms b (placed p))) (bodies_after (get_or b p 0)) (pos + 3) number l over over'
       → Laying terms.label_bound (λ inner. read_fields terms b inner OpCode.Try (placed p)) at (length b) pos number over over' l
   lay_try h = rw (h.is_laid, h.is_noted) (go (caught_fields terms b (placed p)) refl)
     where
       go : {x : Read (ℕ × CatchTargetOf Text)} → Fields (placed p) x → read_caught terms b (placed p) ≡ x
-          → Laying terms.label_bound (λ inner. read_fields terms b inner OpCode.Try (placed p)) at (length b) pos number over (noted_from (pos + 3) number (scanned caught_size (pos + 3) x) over) (laid_as (bodies_after (get_or b p 0)) (scanned caught_size (pos + 3) x))
+          → Laying terms.label_bound (λ inner. read_fields terms b inner OpCode.Try (placed p)) at (length b) pos number over (noted_from (pos + 3) number (scanned caught_size (pos + 3) x) over) (laid_by (λ end. laid.Bodies end (bodies_after (get_or b p 0))) (scanned caught_size (pos + 3) x))
       go (Fields.read {a = x} {q = q} i) e =
           let g = good_got x q (caught_good terms b small short (placed p) inside) e in
           lay_caught x q e g.0 g.1

@@ -1,52 +1,59 @@
 -- What one walk of a main body keeps while it reads and measures: the label tables and the first overflow; and what it promises.
 -- Assumes nothing.
-use Rattle.std.specs.Prelude.{◌≡◌, ℕ, zero, suc, ◌+◌, ◌-◌, ◌*◌, ◌≤◌, ◌<◌, List, [], ◌∷◌, ◌++◌, get_or, set, ltb, eqb}
+use Rattle.std.specs.Prelude.{◌≡◌, ℕ, zero, suc, ◌+◌, ◌-◌, ◌*◌, ◌≤◌, ◌<◌, List, [], ◌∷◌, ◌++◌, ltb, Option, Some, Result, Ok, Err}
+use Rattle.std.specs.Option.{option_or}
 use Rattle.layout.specs.Lists.{pick}
 use Rattle.layout.specs.Tree.{Branch, ActionOf, branch, ActionsOf, count, body_count}
 use Rattle.layout.specs.Read.{Text, placed, stop, Read, got, bad, Reader, chain, give, behind, ◌>>=◌}
 use Rattle.layout.specs.Write.{size, Position, position, moved, Event, label_at, branch_at, payload_too_long, body_too_long, trace, body_test}
 use Rattle.layout.specs.Lengths.{total}
 use Rattle.laws.specs.Resolved.{action_size, action_trace, body_length, body_events}
-use Rattle.labels.specs.Table.{Tables, recorded}
+use Rattle.labels.specs.Table.{Tables, held, recorded}
 use Rattle.positions.specs.declared.BytePosition.{BytePosition}
 use Rattle.positions.specs.Scanned.{fault_of}
 use Rattle.positions.specs.declared.Fault.{Fault}
-use Rattle.positions.specs.declared.Scan.{Scan}
-use Rattle.positions.specs.declared.Scan.TheVariants as scan
+use Rattle.positions.specs.declared.Spot.{Spot}
+use Rattle.positions.specs.declared.Stop as code
 use Rattle.positions.specs.declared.ActionNumber.{ActionNumber}
-use Rattle.positions.specs.declared.Walked.{Walked}
-use Rattle.positions.specs.declared.Walked.TheVariants as walked
+use Rattle.positions.specs.declared.Cursor.{Cursor}
+use Rattle.positions.specs.declared.Halt.{Halt}
+use Rattle.measure.specs.declared.Limit.{Limit}
+use Rattle.measure.specs.declared.Limit.TheVariants.{ActionLen, BlockLen}
+use Rattle.measure.specs.declared.Overflow.{Overflow}
+use Rattle.measure.specs.declared.Notes.{Notes}
 use Rattle.measure.specs.declared.Laid.{Laid}
 use Rattle.measure.specs.declared.Laid.TheVariants as laid
 
--- ---- what the events make of the tables and of the first overflow, which is three numbers: the answer's number, or 0, its value,
--- and the action's number
+-- ---- what the events make of the tables and of the first overflow
 
 pub record State : Type 0 where
   pub labels : Tables
-  pub over : List ℕ
+  pub over : Option Overflow
 
-abbrev pub state : Tables → List ℕ → State
+abbrev pub state : Tables → Option Overflow → State
 state tab over = record { labels = tab; over = over }
 
+-- what the code's struct keeps
+abbrev pub kept_in : Notes → State
+kept_in n = state (held n.labels) n.over
+
+abbrev pub overflow : Limit → ℕ → ℕ → Overflow
+overflow limit n action = record { limit = limit; len = n; action = record { 0 = action } }
+
 -- the first one is kept
-unfoldable pub noted : ℕ → ℕ → ℕ → List ℕ → List ℕ
-noted number n action over = pick (eqb (get_or over 0 0) 0) (set (set (set over 0 number) 1 n) 2 action) over
+abbrev pub noted : Overflow → Option Overflow → Option Overflow
+noted found over = option_or over (Some found)
 
 -- of a length over 65,535
-unfoldable pub noted_if : ℕ → ℕ → ℕ → List ℕ → List ℕ
-noted_if number n action over = pick (ltb 65535 n) (noted number n action over) over
+unfoldable pub noted_if : Overflow → Option Overflow → Option Overflow
+noted_if found over = pick (ltb 65535 found.len) (noted found over) over
 
--- the first of two lengths that is over 65,535, where 0 stands for none
-unfoldable pub first_long : ℕ → ℕ → ℕ
-first_long kept n = pick (eqb kept 0) (pick (ltb 65535 n) n 0) kept
-
-unfoldable pub note_all : List Event → List ℕ → List ℕ
+unfoldable pub note_all : List Event → Option Overflow → Option Overflow
 note_all [] over = over
 note_all (label_at l s ∷ es) over = note_all es over
 note_all (branch_at l s ∷ es) over = note_all es over
-note_all (payload_too_long n s ∷ es) over = note_all es (noted 8 n s.number over)
-note_all (body_too_long n s ∷ es) over = note_all es (noted 9 n s.number over)
+note_all (payload_too_long n s ∷ es) over = note_all es (noted (overflow ActionLen n s.number) over)
+note_all (body_too_long n s ∷ es) over = note_all es (noted (overflow BlockLen n s.number) over)
 
 unfoldable pub run : List Event → State → State
 run es s = state (recorded es s.labels) (note_all es s.over)
@@ -66,9 +73,9 @@ outcome size count trace from s (got a next) = done next.at (from.at + size a) (
 outcome size count trace from s (bad f p) = fault (fault_of f) p.at (from.number + p.begun)
 
 -- the code's answer and the state that it leaves; after a fault nothing is said of the state
-pub data Ran : Outcome → Walked → State → Type 0 where
-  ran : {next : ℕ} {pos : BytePosition} {number : ActionNumber} {s : State} → Ran (done next pos.0 number.0 s) (walked.Ends next pos number) s
-  stopped : {f : Fault} {p : ℕ} {number : ActionNumber} {s : State} → Ran (fault f p number.0) (walked.Stops f p number) s
+pub data Ran : Outcome → Result Cursor Halt → State → Type 0 where
+  ran : {x : Cursor} {s : State} → Ran (done x.at x.pos.0 x.number.0 s) (Ok x) s
+  stopped : {h : Halt} {s : State} → Ran (fault h.fault h.place h.number.0) (Err h) s
 
 -- ---- events of what was read, its strings resolved
 
@@ -128,57 +135,52 @@ pub record Onward (at end pos q w : ℕ) : Type 0 where
 -- ---- what a payload's answer says of an action, whose bodies `inner` reads: nothing is known of them yet, nor of its home
 
 -- n bodies follow the payload, behind the action; `inside` tells their home from the action's
-pub record Owning (read : Reader (ActionsOf Text ℕ) → Read (ActionOf Text ℕ)) (at end pos number : ℕ) (over over' : List ℕ) (q : ℕ) (w : BytePosition) (n : ℕ) (inside : ℕ → ℕ) : Type 0 where
-  pub onward : Onward at end pos q w.0
+pub record Owning (read : Reader (ActionsOf Text ℕ) → Read (ActionOf Text ℕ)) (at end pos number : ℕ) (over over' : Option Overflow) (after : Spot) (n : ℕ) (inside : ℕ → ℕ) : Type 0 where
+  pub onward : Onward at end pos after.at after.pos.0
   pub runs : (inner : Reader (ActionsOf Text ℕ)) (tab : Tables) (home : ℕ)
       → outcome action_size count action_trace (position pos home number) (state tab over) (read (behind 1 inner))
-      ≡ outcome (total body_length) (total body_count) (bodies_events number) (position w.0 (inside home) (number + 1)) (state tab over') (in_turn inner n (placed q))
+      ≡ outcome (total body_length) (total body_count) (bodies_events number) (position after.pos.0 (inside home) (number + 1)) (state tab over') (in_turn inner n (placed after.at))
   pub measures : (inner : Reader (ActionsOf Text ℕ)) (home : ℕ)
       → measured action_size count action_trace (position pos home number) (read (behind 1 inner))
-      ≡ measured (total body_length) (total body_count) in_bodies (position w.0 (inside home) (number + 1)) (in_turn inner n (placed q))
+      ≡ measured (total body_length) (total body_count) in_bodies (position after.pos.0 (inside home) (number + 1)) (in_turn inner n (placed after.at))
 
 -- of the action with a number; where it is a branch, its label number is under a bound
-pub data Laying (bound : ℕ) (read : Reader (ActionsOf Text ℕ) → Read (ActionOf Text ℕ)) (at end pos number : ℕ) (over over' : List ℕ) : Laid → Type 0 where
-  flat : {q : ℕ} {w : BytePosition}
-      → ((inner : Reader (ActionsOf Text ℕ)) (tab : Tables) (home : ℕ) → outcome action_size count action_trace (position pos home number) (state tab over) (read inner) ≡ done q w.0 (number + 1) (state tab over'))
-      → ((inner : Reader (ActionsOf Text ℕ)) (home : ℕ) → measured action_size count action_trace (position pos home number) (read inner) ≡ got (measure w.0 (number + 1) []) (placed q))
-      → Laying bound read at end pos number over over' (laid.Flat q w)
-  to_label : {q label : ℕ} {w : BytePosition} {k : Branch} → w.0 ≡ pos + 5 → label < bound → over ≡ over'
-      → ((inner : Reader (ActionsOf Text ℕ)) → read inner ≡ got (branch k label) (placed q))
-      → Laying bound read at end pos number over over' (laid.Branch q w label)
-  bodies : {q n : ℕ} {w : BytePosition} → 1 ≤ n → Owning read at end pos number over over' q w n (λ home. home) → Laying bound read at end pos number over over' (laid.Bodies q w n)
-  function : {q : ℕ} {w : BytePosition} → Owning read at end pos number over over' q w 1 (λ home. w.0) → Laying bound read at end pos number over over' (laid.Function q w)
-  stops : {f : Fault} {q : ℕ}
-      → ((inner : Reader (ActionsOf Text ℕ)) (s : State) (home : ℕ) → outcome action_size count action_trace (position pos home number) s (read inner) ≡ fault f q number)
-      → Laying bound read at end pos number over over' (laid.Stops f q)
+pub data Laying (bound : ℕ) (read : Reader (ActionsOf Text ℕ) → Read (ActionOf Text ℕ)) (at end pos number : ℕ) (over over' : Option Overflow) : Result Laid code.Stop → Type 0 where
+  flat : {after : Spot}
+      → ((inner : Reader (ActionsOf Text ℕ)) (tab : Tables) (home : ℕ) → outcome action_size count action_trace (position pos home number) (state tab over) (read inner) ≡ done after.at after.pos.0 (number + 1) (state tab over'))
+      → ((inner : Reader (ActionsOf Text ℕ)) (home : ℕ) → measured action_size count action_trace (position pos home number) (read inner) ≡ got (measure after.pos.0 (number + 1) []) (placed after.at))
+      → Laying bound read at end pos number over over' (Ok (laid.Flat after))
+  to_label : {after : Spot} {label : ℕ} {k : Branch} → after.pos.0 ≡ pos + 5 → label < bound → over ≡ over'
+      → ((inner : Reader (ActionsOf Text ℕ)) → read inner ≡ got (branch k label) (placed after.at))
+      → Laying bound read at end pos number over over' (Ok (laid.Branch after label))
+  bodies : {after : Spot} {n : ℕ} → 1 ≤ n → Owning read at end pos number over over' after n (λ home. home) → Laying bound read at end pos number over over' (Ok (laid.Bodies after n))
+  function : {after : Spot} → Owning read at end pos number over over' after 1 (λ home. after.pos.0) → Laying bound read at end pos number over over' (Ok (laid.Function after))
+  stops : {s : code.Stop}
+      → ((inner : Reader (ActionsOf Text ℕ)) (t : State) (home : ℕ) → outcome action_size count action_trace (position pos home number) t (read inner) ≡ fault s.fault s.place number)
+      → Laying bound read at end pos number over over' (Err s)
 
--- ---- what the scan of a payload is made into, where n bodies follow it
+-- ---- what the scan of a payload is made into
 
-unfoldable pub laid_as : ℕ → Scan → Laid
-laid_as n (scan.Ends q w) = pick (eqb n 0) (laid.Flat q w) (laid.Bodies q w n)
-laid_as n (scan.Stops q f) = laid.Stops f q
-
--- and where it is a function's
-unfoldable pub laid_function : Scan → Laid
-laid_function (scan.Ends q w) = laid.Function q w
-laid_function (scan.Stops q f) = laid.Stops f q
+abbrev pub laid_by : (Spot → Laid) → Result Spot code.Stop → Result Laid code.Stop
+laid_by make (Ok end) = Ok (make end)
+laid_by make (Err s) = Err s
 
 -- a branch whose label was read, after its header
-unfoldable pub branch_laid : ℕ → Read ℕ → Laid
-branch_laid pos (got l q) = laid.Branch q.at (record { 0 = pos + 2 }) l
-branch_laid pos (bad f q) = laid.Stops (fault_of f) q.at
+unfoldable pub branch_laid : ℕ → Read ℕ → Result Laid code.Stop
+branch_laid pos (got l q) = Ok (laid.Branch (record { at = q.at; pos = record { 0 = pos + 2 } }) l)
+branch_laid pos (bad f q) = Err (record { fault = fault_of f; place = q.at })
 
 -- 8 for the payload of an action, which starts at a position
-unfoldable pub noted_from : ℕ → ℕ → Scan → List ℕ → List ℕ
-noted_from from action (scan.Ends q w) over = noted_if 8 (w.0 - from) action over
-noted_from from action (scan.Stops q f) over = over
+abbrev pub noted_from : ℕ → ℕ → Result Spot code.Stop → Option Overflow → Option Overflow
+noted_from from action (Ok end) over = noted_if (overflow ActionLen (end.pos.0 - from) action) over
+noted_from from action (Err s) over = over
 
 -- it ends at or after its start
-abbrev pub EndsFrom : ℕ → Scan → Type 0
-EndsFrom from (scan.Ends q w) = from ≤ w.0
-EndsFrom from (scan.Stops q f) = Unit {0}
+abbrev pub EndsFrom : ℕ → Result Spot code.Stop → Type 0
+EndsFrom from (Ok end) = from ≤ end.pos.0
+EndsFrom from (Err s) = Unit {0}
 
 -- a Try: its shape and target scanned as r, with n bodies after it
-pub record Tried (r : Scan) (n from action : ℕ) (l : Laid) (over over' : List ℕ) : Type 0 where
-  pub is_laid : l ≡ laid_as n r
+pub record Tried (r : Result Spot code.Stop) (n from action : ℕ) (l : Result Laid code.Stop) (over over' : Option Overflow) : Type 0 where
+  pub is_laid : l ≡ laid_by (λ end. laid.Bodies end n) r
   pub is_noted : over' ≡ noted_from from action r over

@@ -1,12 +1,10 @@
-use Rattle.measure.proofs.Runs as runs
-use native.Mathlib.Omega.{arith}
+-- `measure::note_long` meets its contract. Assumes nothing.
+use mathlib.Core.Path.{◌∙◌}
+use Rattle.measure.proofs.Runs.{noted_short, noted_long}
 use Rattle.measure.proofs.note_long.Goals as goal
 
-pub returns-then-len-le65535 : goal.returns-then-len-le65535
-returns-then-len-le65535 c = runs.noted_short _ _ _ _ c.if-len-le65535.true
+pub returns-then-found-gt65535 : goal.returns-then-found-gt65535
+returns-then-found-gt65535 c = c.or.ensures ∙ noted_long _ _ c.if-found-gt65535.true
 
-pub returns-then-over-ne0 : goal.returns-then-over-ne0
-returns-then-over-ne0 c = runs.noted_after _ _ _ _ (omega arith) c.if-over-ne0.true
-
-pub returns : goal.returns
-returns c = runs.noted_now _ _ _ _ (omega arith) c.if-over-ne0.false
+pub returns-else-found-gt65535 : goal.returns-else-found-gt65535
+returns-else-found-gt65535 c = noted_short _ _ c.if-found-gt65535.false
