@@ -2,29 +2,29 @@
 use mathlib.Core.Path.{◌≡◌, refl, sym, ap, ◌∙◌}
 use Prim.Native.Nat.{ℕ, zero, suc, ◌+◌, ◌-◌, ◌*◌, ◌≤◌, ◌<◌}
 use native.Mathlib.Omega.{arith}
-use native.Mathlib.Numerals.{sub-one}
 use mathlib.Core.List.{List, [], ◌∷◌}
 use lib.ListN.{length}
 use lib.Dec.{leb}
 use borrow.Author.Tests.{leb-true}
 use mathlib.Core.Bool.{Bool, true, false}
 use Rattle.layout.specs.Numbers.{u16_at}
-use Rattle.layout.specs.Answers as answers
-use Rattle.layout.specs.Read.{Terms, Place, placed, ahead, Read, got, bad, Reader, chain, if_whole, repeat, read_u16, read_string, read_counted, read_value}
+use Rattle.layout.specs.Answers.{CutShort}
+use Rattle.layout.specs.Read.{Terms, Place, placed, stop, ahead, Read, got, bad, Reader, chain, if_whole, repeat, read_u16, read_string, read_counted, read_value}
 use Rattle.layout.specs.Lengths.{total, string_length}
 use Rattle.layout.specs.Pack.{spelling}
 use Rattle.laws.specs.Fits.{Bytes}
 use Rattle.laws.proofs.ReadFits.{good_got, good_then, good_as, bytes_good}
 use Rattle.laws.specs.Books.{WordsShort}
 use Rattle.laws.proofs.Shares.{text_most, value_most}
+use Rattle.std.specs.Prelude.{Result, Ok, Err}
+use Rattle.std.specs.Result.{IsErrAnd}
 use Rattle.positions.specs.declared.BytePosition.{BytePosition}
-use Rattle.positions.specs.declared.Fault.{Fault}
-use Rattle.positions.specs.declared.Scan.{Scan}
-use Rattle.positions.specs.declared.Scan.TheVariants as scan
-use Rattle.positions.specs.Scanned.{fault_of, scanned, Roomy}
+use Rattle.positions.specs.declared.Spot.{Spot}
+use Rattle.positions.specs.declared.Stop.{Stop}
+use Rattle.positions.specs.Scanned.{ends_at, scanned, Roomy}
 use Rattle.operands.specs.Operands.{string_size}
 use Rattle.lists.specs.Elements.{read_named, named_size, value_size}
-use Rattle.operands.proofs.Scans.{ends_is, stops_then}
+use Rattle.operands.proofs.Scans.{ends_is, stops_then, from_spot}
 use Rattle.operands.proofs.Reading as reading
 
 -- what was read lies within b, and each of its bytes is written in at most 65,536
@@ -33,72 +33,77 @@ Grows {A} b read size = (p : ℕ) (a : A) (q : ℕ) → p ≤ length b → read 
 
 module _ {A : Type 0} (read : Reader A) (size : A → ℕ) where
   -- nothing is left
-  none_left : (w n p : ℕ) → n ≤ 0 → scanned (total size) w (repeat read n (placed p)) ≡ scan.Ends p (record { 0 = w })
+  none_left : (s : Spot) (n : ℕ) → n ≤ 0 → scanned (total size) s.pos.0 (repeat read n (placed s.at)) ≡ Ok s
   unfolding repeat scanned total
-  none_left w zero p h = ap (λ (x : ℕ). scan.Ends p (record { 0 = x })) (omega arith)
-  none_left w (suc n) p h = absurd (omega arith)
+  none_left s zero h = ap (λ (x : ℕ). ends_at s.at (record { 0 = x })) (omega arith)
+  none_left s (suc n) h = absurd (omega arith)
 
-  one_more : (n p : ℕ) → 0 < n → repeat read n (placed p) ≡ chain (read (placed p)) (λ a q. chain (repeat read (n - 1) q) (λ xs r. got (a ∷ xs) r))
+  one_more : (n j p : ℕ) → j + 1 ≡ n → repeat read n (placed p) ≡ chain (read (placed p)) (λ a q. chain (repeat read j q) (λ xs r. got (a ∷ xs) r))
   unfolding repeat
-  one_more zero p h = absurd (omega arith)
-  one_more (suc n) p h = rw sub-one
+  one_more zero j p h = absurd (omega arith)
+  one_more (suc n) j p h =
+      let e : n ≡ j = omega arith in
+      rw e
 
   -- the rest after an element
   after_one : (w : ℕ) (a : A) (x : Read (List A)) → scanned (total size) w (chain x (λ xs r. got (a ∷ xs) r)) ≡ scanned (total size) (w + size a) x
   unfolding scanned total
-  after_one w a (got xs r) = ap (λ (n : ℕ). scan.Ends r.at (record { 0 = n })) (omega arith)
+  after_one w a (got xs r) = ap (λ (n : ℕ). ends_at r.at (record { 0 = n })) (omega arith)
   after_one w a (bad f r) = refl
 
-  module _ (w : BytePosition) (n p : ℕ) (h : 0 < n) (r : Scan) (e : r ≡ scanned size w.0 (read (placed p))) where
+  module _ (s : Spot) (n j : ℕ) (h : j + 1 ≡ n) {r : Result Spot Stop} (e : r ≡ scanned size s.pos.0 (read (placed s.at))) where
     -- an element was scanned
-    pub step_ends : (q : ℕ) (x : BytePosition) → r ≡ scan.Ends q x
-        → scanned (total size) x.0 (repeat read (n - 1) (placed q)) ≡ scanned (total size) w.0 (repeat read n (placed p))
-    step_ends q x f =
-        let k = ends_is size w.0 (read (placed p)) e f in
-        go k.0 k.1 x.0 k.2
+    step_ends : {t : Spot} → r ≡ Ok t → scanned (total size) t.pos.0 (repeat read j (placed t.at)) ≡ scanned (total size) s.pos.0 (repeat read n (placed s.at))
+    step_ends {t} f =
+        let k = ends_is size s.pos.0 (read (placed s.at)) e f in
+        go k.0 k.1 t.pos.0 k.2
       where
-        go : (a : A) → read (placed p) ≡ got a (placed q) → (v : ℕ) → v ≡ w.0 + size a
-            → scanned (total size) v (repeat read (n - 1) (placed q)) ≡ scanned (total size) w.0 (repeat read n (placed p))
-        go a g v l = rw (one_more n p h, g, l) (sym (after_one w.0 a (repeat read (n - 1) (placed q))))
+        go : (a : A) → read (placed s.at) ≡ got a (placed t.at) → (v : ℕ) → v ≡ s.pos.0 + size a
+            → scanned (total size) v (repeat read j (placed t.at)) ≡ scanned (total size) s.pos.0 (repeat read n (placed s.at))
+        go a g v l = rw (one_more n j s.at h, g, l) (sym (after_one s.pos.0 a (repeat read j (placed t.at))))
 
     -- an element met a fault
-    pub step_stops : (f : Fault) (q : ℕ) → r ≡ scan.Stops q f → scan.Stops q f ≡ scanned (total size) w.0 (repeat read n (placed p))
-    step_stops f q g = rw (one_more n p h) (stops_then (total size) w.0 size w.0 (read (placed p)) _ e g)
+    step_stops : {x : Stop} {r' : Result Spot Stop} → r ≡ Err x → IsErrAnd r' (λ y. y ≡ x) → r' ≡ scanned (total size) s.pos.0 (repeat read n (placed s.at))
+    step_stops f g = rw (one_more n j s.at h) (stops_then (total size) s.pos.0 size s.pos.0 (read (placed s.at)) _ e f g)
 
     -- and the next one may be
-    pub step_roomy : (b : List ℕ) → Grows b read size → Roomy b p w → (q : ℕ) (x : BytePosition) → r ≡ scan.Ends q x → Roomy b q x
-    step_roomy b g y q x f =
-        let k = ends_is size w.0 (read (placed p)) e f in
-        let l = g p k.0 q y.inside k.1 in
+    step_roomy : (b : List ℕ) → Grows b read size → Roomy b s.at s.pos → {t : Spot} → r ≡ Ok t → Roomy b t.at t.pos
+    step_roomy b g y {t} f =
+        let k = ends_is size s.pos.0 (read (placed s.at)) e f in
+        let l = g s.at k.0 t.at y.inside k.1 in
         record { bytes = y.bytes; inside = l.1; room = omega (arith, y.inside, y.room, l.0, l.1, k.2) }
 
-  -- the loop: what is left from place p and position w gives what the whole gives
-  pub record Going (b : List ℕ) (whole : Scan) (n p : ℕ) (w : BytePosition) : Type 0 where
-    pub same : scanned (total size) w.0 (repeat read n (placed p)) ≡ whole
-    pub roomy : Roomy b p w
+  -- the loop: what is left from a spot gives what the whole gives
+  pub record Going (b : List ℕ) (whole : Result Spot Stop) (n : ℕ) (s : Spot) : Type 0 where
+    pub same : scanned (total size) s.pos.0 (repeat read n (placed s.at)) ≡ whole
+    pub roomy : Roomy b s.at s.pos
 
-  module _ (b : List ℕ) (whole : Scan) (n p : ℕ) (w : BytePosition) (g : Going b whole n p w) where
-    pub going_end : n ≤ 0 → scan.Ends p w ≡ whole
-    going_end h = sym (none_left w.0 n p h) ∙ g.same
+  module _ (b : List ℕ) (whole : Result Spot Stop) (n : ℕ) (s : Spot) (g : Going b whole n s) where
+    pub going_end : n ≤ 0 → Ok s ≡ whole
+    going_end h = sym (none_left s n h) ∙ g.same
 
-    module _ (h : 0 < n) (r : Scan) (e : r ≡ scanned size w.0 (read (placed p))) where
-      pub going_stops : (f : Fault) (q : ℕ) → r ≡ scan.Stops q f → scan.Stops q f ≡ whole
-      going_stops f q k = step_stops w n p h r e f q k ∙ g.same
+    module _ {r : Result Spot Stop} (e : r ≡ scanned size s.pos.0 (read (placed s.at))) where
+      pub going_stops : {x : Stop} {r' : Result Spot Stop} → 0 < n → r ≡ Err x → IsErrAnd r' (λ y. y ≡ x) → r' ≡ whole
+      going_stops h f k = step_stops s n (n - 1) (omega arith) e f k ∙ g.same
 
-      pub going_ends : Grows b read size → (q : ℕ) (x : BytePosition) → r ≡ scan.Ends q x → Going b whole (n - 1) q x
-      going_ends y q x k = record { same = step_ends w n p h r e q x k ∙ g.same; roomy = step_roomy w n p h r e b y g.roomy q x k }
+      pub going_ends : Grows b read size → {t : Spot} (j : ℕ) → j + 1 ≡ n → r ≡ Ok t → Going b whole j t
+      going_ends y j h k = record { same = step_ends s n j h e k ∙ g.same; roomy = step_roomy s n j h e b y g.roomy k }
 
   -- the count, and the first element
   module _ (b : List ℕ) (at : ℕ) (pos : BytePosition) where
-    pub counted_out : length b < at + 2 → scan.Stops at (fault_of answers.CutShort) ≡ scanned (total size) pos.0 (read_counted b read (placed at))
-    unfolding read_counted scanned
+    pub counted_out : length b < at + 2 → read_counted b read (placed at) ≡ bad CutShort (stop (placed at))
+    unfolding read_counted
     counted_out h = rw (reading.u16_out b at h)
 
-    pub counted_start : (n : ℕ) → at + 2 ≤ length b → n ≡ u16_at b at → Roomy b at pos
-        → Going b (scanned (total size) pos.0 (read_counted b read (placed at))) n (at + 2) pos
+    pub counted_start : (n : ℕ) (s : Spot) → (at + 2 ≤ length b) × (n ≡ u16_at b at) × (n < 65536) → (s.at ≡ at + 2) × (s.pos.0 ≡ pos.0 + 0) → Roomy b at pos
+        → Going b (scanned (total size) pos.0 (read_counted b read (placed at))) (n - 0) s
     unfolding read_counted
-    counted_start n h e y =
-        record { same = rw (reading.u16_in b at h, ← e); roomy = record { bytes = y.bytes; inside = h; room = omega (arith, y.room, y.inside) } }
+    counted_start n s h i y =
+        let e : n - 0 ≡ n = omega arith in
+        record {
+          same = rw (e, reading.u16_in b at h.0, ← h.1) (from_spot (total size) (repeat read n) i.0 (omega (arith, i.1)) refl);
+          roomy = record { bytes = y.bytes; inside = omega (arith, h.0, i.0); room = omega (arith, y.room, y.inside, i.0, i.1, h.0) };
+        }
 
 -- a number lies within
 u16_place : (b : List ℕ) (p n : ℕ) (q : Place) → read_u16 b (placed p) ≡ got n q → (q.at ≡ p + 2) × (q.at ≤ length b)
@@ -169,36 +174,35 @@ module _ (terms : Terms) (b : List ℕ) (small : Bytes b) (short : WordsShort te
       (omega (arith, g.0.0), g.1)
 
 -- the next scan may start where one ended, even some bytes further on in the block where something was written
-pub roomy_after : {A : Type 0} (b : List ℕ) (read : Reader A) (size : A → ℕ) (extra : ℕ) → Grows b read size → ((a : A) → 1 ≤ size a) → extra ≤ 65000
-    → (p q : ℕ) (w x y : BytePosition) (r : Scan) → Roomy b p w → r ≡ scanned size w.0 (read (placed p)) → r ≡ scan.Ends q x → y.0 ≡ x.0 + extra → Roomy b q y
-roomy_after b read size extra g some m p q w x y r h e f i =
-    let k = ends_is size w.0 (read (placed p)) e f in
-    let n = g p k.0 q h.inside k.1 in
-    record { bytes = h.bytes; inside = n.1; room = omega (arith, h.inside, h.room, n.0, n.1, k.2, some k.0) }
+module _ {A : Type 0} (b : List ℕ) (read : Reader A) (size : A → ℕ) (s : Spot) (h : Roomy b s.at s.pos) {r : Result Spot Stop} {t : Spot} where
+  pub roomy_after : Grows b read size → ((a : A) → 1 ≤ size a) → r ≡ scanned size s.pos.0 (read (placed s.at)) → r ≡ Ok t
+      → (extra : ℕ) → extra ≤ 65000 → (w : BytePosition) → w.0 ≡ t.pos.0 + extra → Roomy b t.at w
+  roomy_after g some e f extra m w i =
+      let k = ends_is size s.pos.0 (read (placed s.at)) e f in
+      let n = g s.at k.0 t.at h.inside k.1 in
+      record { bytes = h.bytes; inside = n.1; room = omega (arith, h.inside, h.room, n.0, n.1, k.2, some k.0) }
 
-pub text_after : (terms : Terms) → WordsShort terms → (b : List ℕ) (extra : ℕ) → extra ≤ 65000 → (p q : ℕ) (w x y : BytePosition) (r : Scan) → Roomy b p w
-    → r ≡ scanned string_size w.0 (read_string terms b (placed p)) → r ≡ scan.Ends q x → y.0 ≡ x.0 + extra → Roomy b q y
-text_after terms short b extra m p q w x y r h e f i =
-    roomy_after b (read_string terms b) string_size extra (text_grows terms b h.bytes short) (λ s. unfold string_size string_length in omega arith) m p q w x y r h e f i
+  -- the next scan may start where a counted list ended
+  pub list_after : Grows b read size → r ≡ scanned (total size) s.pos.0 (read_counted b read (placed s.at)) → r ≡ Ok t → Roomy b t.at t.pos
+  list_after g e f =
+      let k = ends_is (total size) s.pos.0 (read_counted b read (placed s.at)) e f in
+      let n = counted_grows b read size g s.at k.0 t.at h.inside k.1 in
+      record { bytes = h.bytes; inside = n.1; room = omega (arith, h.inside, h.room, n.0, n.1, k.2) }
 
--- a text that was scanned has at least its zero byte
-pub text_some : (terms : Terms) (b : List ℕ) (p q : ℕ) (w x : BytePosition) (r : Scan) → r ≡ scanned string_size w.0 (read_string terms b (placed p)) → r ≡ scan.Ends q x → w.0 + 1 ≤ x.0
-unfolding string_size string_length
-text_some terms b p q w x r e f =
-    let k = ends_is string_size w.0 (read_string terms b (placed p)) e f in
-    omega (arith, k.2)
+module _ (terms : Terms) (b : List ℕ) (s : Spot) {r : Result Spot Stop} {t : Spot} (e : r ≡ scanned string_size s.pos.0 (read_string terms b (placed s.at))) (f : r ≡ Ok t) where
+  -- a text that was scanned has at least its zero byte
+  pub text_some : s.pos.0 + 1 ≤ t.pos.0
+  unfolding string_size string_length
+  text_some =
+      let k = ends_is string_size s.pos.0 (read_string terms b (placed s.at)) e f in
+      omega (arith, k.2)
 
--- and some bytes more can be counted
-pub text_room : (terms : Terms) → WordsShort terms → (b : List ℕ) (p q : ℕ) (w x : BytePosition) (r : Scan) → Roomy b p w → r ≡ scanned string_size w.0 (read_string terms b (placed p)) → r ≡ scan.Ends q x
-    → x.0 + 65000 ≤ 1099511627776
-text_room terms short b p q w x r h e f =
-    let y : Roomy b q (record { 0 = x.0 + 65000 }) = text_after terms short b 65000 (omega arith) p q w x (record { 0 = x.0 + 65000 }) r h e f refl in
-    omega (arith, y.room)
+  module _ (short : WordsShort terms) (h : Roomy b s.at s.pos) where
+    pub text_after : (extra : ℕ) → extra ≤ 65000 → (w : BytePosition) → w.0 ≡ t.pos.0 + extra → Roomy b t.at w
+    text_after = roomy_after b (read_string terms b) string_size s h (text_grows terms b h.bytes short) (λ x. unfold string_size string_length in omega arith) e f
 
--- the next scan may start where a counted list ended
-pub list_after : {A : Type 0} (b : List ℕ) (read : Reader A) (size : A → ℕ) → Grows b read size → (p q : ℕ) (w x : BytePosition) (r : Scan) → Roomy b p w
-    → r ≡ scanned (total size) w.0 (read_counted b read (placed p)) → r ≡ scan.Ends q x → Roomy b q x
-list_after b read size g p q w x r h e f =
-    let k = ends_is (total size) w.0 (read_counted b read (placed p)) e f in
-    let n = counted_grows b read size g p k.0 q h.inside k.1 in
-    record { bytes = h.bytes; inside = n.1; room = omega (arith, h.inside, h.room, n.0, n.1, k.2) }
+    -- and some bytes more can be counted
+    pub text_room : t.pos.0 + 65000 ≤ 1099511627776
+    text_room =
+        let y = text_after 65000 (omega arith) (record { 0 = t.pos.0 + 65000 }) refl in
+        omega (arith, y.room)

@@ -1,9 +1,9 @@
+use Rattle.operands.proofs.Scans.{cut}
 use Rattle.lists.proofs.Values as values
-use native.Mathlib.Omega.{arith}
 use Rattle.lists.proofs.scan_named.Goals as goal
 
-pub returns-then-b-at : goal.returns-then-b-at
-returns-then-b-at c = values.named_out _ _ _ _ _ (omega arith)
+pub returns-in_err-whole : goal.returns-in_err-whole
+returns-in_err-whole c = cut _ _ _ _ _ c.from_residual.ensures.1 c.in_err-whole.ensures.err (values.named_out _ _ _ _ 0)
 
 pub returns : goal.returns
-returns c = values.named_in _ _ _ _ _ _ (omega arith) c.scan_string.ensures
+returns c = values.named_in _ _ _ _ _ c.in_ok-whole.ensures.ok c.after.ensures c.scan_string.ensures

@@ -1,25 +1,25 @@
+use Rattle.std.proofs.Common.{arith}
 use Rattle.editions.proofs.Listed.{terms_short}
-use borrow.Author.Rules.{rules}
-use Rattle.positions.specs.Scanned.{fault_of}
+use Rattle.operands.proofs.Scans.{cut}
 use Rattle.lists.proofs.Lists as lists
-use native.Mathlib.Omega.{arith}
 use Rattle.lists.proofs.scan_strings.Goals as goal
 
-pub returns-then-b-at-lt2 : goal.returns-then-b-at-lt2
-unfolding fault_of
-returns-then-b-at-lt2 c = lists.counted_out _ _ _ _ _ (omega arith)
+pub returns-in_err-n : goal.returns-in_err-n
+returns-in_err-n c = cut _ _ _ _ _ c.from_residual.ensures.1 c.in_err-n.ensures.err (lists.counted_out _ (λ _. 0) _ _ (record { 0 = 0 }))
 
-pub loop-left-init : goal.loop-left-init
-loop-left-init c = lists.counted_start _ _ _ _ _ _ (omega arith) c.u16_at-left.ensures.0 c.requires.0
+pub loop-init : goal.loop-init
+loop-init c = lists.counted_start _ _ _ _ _ _ _ c.in_ok-n.ensures.ok c.after-to.ensures c.requires.0
 
 pub scan_named-requires : goal.scan_named-requires
-scan_named-requires c = (c.loop-left.invariant.roomy, search rules)
+scan_named-requires c = (c.loop.invariant.roomy, c.requires.1)
 
-pub returns-in-Stops : goal.returns-in-Stops
-returns-in-Stops c = lists.going_stops _ _ _ _ _ _ _ c.loop-left.invariant c.loop-left-test.true _ c.scan_named.ensures _ _ c.in-Stops.is
+pub returns-in_err-to : goal.returns-in_err-to
+returns-in_err-to c = lists.going_stops _ _ _ _ _ _ c.loop.invariant c.scan_named.ensures (omega arith) c.in_err-to.was c.from_residual-in_err-to.ensures.1
 
-pub loop-left-preserved : goal.loop-left-preserved
-loop-left-preserved c = let g = c.loop-left.invariant in lists.going_ends _ _ _ _ _ _ _ g c.loop-left-test.true _ c.scan_named.ensures (lists.named_grows _ _ g.roomy.bytes (terms_short c.args.terms _ _) _) _ _ c.in-Ends.is
+pub loop-preserved : goal.loop-preserved
+loop-preserved c =
+    let g = c.loop.invariant in
+    lists.going_ends _ _ _ _ _ _ g c.scan_named.ensures (lists.named_grows _ _ g.roomy.bytes (terms_short c.args.m.now.terms _ _) _) _ (omega arith) c.in_ok-to.was
 
 pub returns : goal.returns
-returns c = lists.going_end _ _ _ _ _ _ _ c.loop-left.invariant c.loop-left-test.false
+returns c = lists.going_end _ _ _ _ _ _ c.loop.invariant (omega arith)
