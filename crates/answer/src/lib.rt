@@ -3,15 +3,15 @@
 
 ghost use Rattle.std.specs.Prelude.{◌≡◌};
 ghost use Rattle.layout.specs.Numbers.{bits64};
-ghost use Rattle.answer.specs.Answered.{number, value, value_by, action};
+ghost use Rattle.answer.specs.Answered.{refusal_number, refusal_value, refusal_action, number, value, value_by, action, faulty, uncut};
 
-use positions::{ActionNumber, BytePosition};
+use cut::CutError;
+use positions::{ActionNumber, BytePosition, Fault, Halt};
 
-// The answers of documents 01 and 02 to a packer, each with its value, and 3 to 10, 14 and 15 with the number of an action; a distance
-// as its 64 bits.
+// Why there is no block: the refusals of documents 01 and 02, each with its value, and 3 to 10, 14 and 15 with the number of an action;
+// a distance as its 64 bits.
 #[derive(Clone, Copy)]
-pub enum Answer {
-    Done(usize),
+pub enum Refusal {
     SheetTooLong(usize),
     BadTrailer,
     CutShort(usize, ActionNumber),
@@ -28,71 +28,134 @@ pub enum Answer {
     BadBook,
 }
 
+// What packing comes to: the length of the block.
+pub type Answer = Result<usize, Refusal>;
+
+impl Refusal {
+    #[tactic(auto, unfolding(crate::specs::Answered::refusal_number))]
+    pub fn number(self) -> u32
+        ensures { result ≡ refusal_number self }
+    {
+        match self {
+            Refusal::SheetTooLong(_) => 1,
+            Refusal::BadTrailer => 2,
+            Refusal::CutShort(_, _) => 3,
+            Refusal::UnknownCode(_, _) => 4,
+            Refusal::BadField(_, _) => 5,
+            Refusal::TooDeep(_, _) => 6,
+            Refusal::LeftOver(_, _) => 7,
+            Refusal::ActionLenOverflow(_, _) => 8,
+            Refusal::BlockLenOverflow(_, _) => 9,
+            Refusal::JumpOffsetOverflow(_, _) => 10,
+            Refusal::NoRoom(_) => 11,
+            Refusal::NeverRecorded(_, _) => 14,
+            Refusal::StrayBranch(_, _) => 15,
+            Refusal::BadBook => 18,
+        }
+    }
+
+    // The 64 bits of the value, which with the number tell it.
+    #[tactic(auto, unfolding(crate::specs::Answered::refusal_value, crate::specs::Answered::refusal_number, crate::specs::Answered::value_by, layout::specs::Numbers::bits64, layout::specs::Lists::pick), using(crate::proofs::Values::signed_bits))]
+    pub fn value(self) -> u64
+        ensures bits { result ≡ bits64 (refusal_value self) }
+        ensures told { refusal_value self ≡ value_by (refusal_number self) result }
+    {
+        match self {
+            Refusal::SheetTooLong(n) | Refusal::NoRoom(n) => n as u64,
+            Refusal::BadTrailer | Refusal::BadBook => 0,
+            Refusal::CutShort(p, _)
+            | Refusal::UnknownCode(p, _)
+            | Refusal::BadField(p, _)
+            | Refusal::TooDeep(p, _)
+            | Refusal::LeftOver(p, _) => p as u64,
+            Refusal::ActionLenOverflow(n, _) | Refusal::BlockLenOverflow(n, _) => n as u64,
+            Refusal::JumpOffsetOverflow(bits, _) => bits,
+            Refusal::NeverRecorded(p, _) | Refusal::StrayBranch(p, _) => p.0 as u64,
+        }
+    }
+
+    // The number of the action that it names, or 0.
+    #[tactic(auto, unfolding(crate::specs::Answered::refusal_action))]
+    pub fn action(self) -> u64
+        ensures { result ≡ refusal_action self }
+    {
+        match self {
+            Refusal::SheetTooLong(_)
+            | Refusal::BadTrailer
+            | Refusal::NoRoom(_)
+            | Refusal::BadBook => 0,
+            Refusal::CutShort(_, k)
+            | Refusal::UnknownCode(_, k)
+            | Refusal::BadField(_, k)
+            | Refusal::TooDeep(_, k)
+            | Refusal::LeftOver(_, k)
+            | Refusal::ActionLenOverflow(_, k)
+            | Refusal::BlockLenOverflow(_, k)
+            | Refusal::JumpOffsetOverflow(_, k)
+            | Refusal::NeverRecorded(_, k)
+            | Refusal::StrayBranch(_, k) => k.0 as u64,
+        }
+    }
+}
+
+// A fault, at its place in the sheet, with the action that it names.
+impl From<Halt> for Refusal {
+    ghost from_gives = { λ h r. r ≡ faulty h };
+
+    #[tactic(auto, unfolding(crate::specs::Answered::faulted))]
+    fn from(h: Halt) -> Refusal {
+        match h.fault {
+            Fault::CutShort => Refusal::CutShort(h.place, h.number),
+            Fault::UnknownCode => Refusal::UnknownCode(h.place, h.number),
+            Fault::BadField => Refusal::BadField(h.place, h.number),
+            Fault::TooDeep => Refusal::TooDeep(h.place, h.number),
+            Fault::LeftOver => Refusal::LeftOver(h.place, h.number),
+        }
+    }
+}
+
+impl From<CutError> for Refusal {
+    ghost from_gives = { λ e r. r ≡ uncut e };
+
+    #[tactic(auto, unfolding(crate::specs::Answered::uncut))]
+    fn from(e: CutError) -> Refusal {
+        match e {
+            CutError::SheetTooLong(n) => Refusal::SheetTooLong(n),
+            CutError::BadTrailer => Refusal::BadTrailer,
+        }
+    }
+}
+
 // The answer's number.
+#[tactic(auto, unfolding(crate::specs::Answered::number))]
 pub fn number_of(a: Answer) -> u32
     ensures { result ≡ number a }
 {
     match a {
-        Answer::Done(_) => 0,
-        Answer::SheetTooLong(_) => 1,
-        Answer::BadTrailer => 2,
-        Answer::CutShort(_, _) => 3,
-        Answer::UnknownCode(_, _) => 4,
-        Answer::BadField(_, _) => 5,
-        Answer::TooDeep(_, _) => 6,
-        Answer::LeftOver(_, _) => 7,
-        Answer::ActionLenOverflow(_, _) => 8,
-        Answer::BlockLenOverflow(_, _) => 9,
-        Answer::JumpOffsetOverflow(_, _) => 10,
-        Answer::NoRoom(_) => 11,
-        Answer::NeverRecorded(_, _) => 14,
-        Answer::StrayBranch(_, _) => 15,
-        Answer::BadBook => 18,
+        Ok(_) => 0,
+        Err(r) => r.number(),
     }
 }
 
 // The 64 bits of the answer's value, which with the answer's number tell it.
+#[tactic(auto, unfolding(crate::specs::Answered::value, crate::specs::Answered::number, crate::specs::Answered::value_by, layout::specs::Numbers::bits64, layout::specs::Lists::pick))]
 pub fn value_of(a: Answer) -> u64
-    ensures { (result ≡ bits64 (value a)) × (value a ≡ value_by (number a) result) }
+    ensures bits { result ≡ bits64 (value a) }
+    ensures told { value a ≡ value_by (number a) result }
 {
     match a {
-        Answer::Done(n) => n as u64,
-        Answer::SheetTooLong(n) => n as u64,
-        Answer::BadTrailer => 0,
-        Answer::CutShort(p, _) => p as u64,
-        Answer::UnknownCode(p, _) => p as u64,
-        Answer::BadField(p, _) => p as u64,
-        Answer::TooDeep(p, _) => p as u64,
-        Answer::LeftOver(p, _) => p as u64,
-        Answer::ActionLenOverflow(n, _) => n as u64,
-        Answer::BlockLenOverflow(n, _) => n as u64,
-        Answer::JumpOffsetOverflow(bits, _) => bits,
-        Answer::NoRoom(n) => n as u64,
-        Answer::NeverRecorded(p, _) => p.0 as u64,
-        Answer::StrayBranch(p, _) => p.0 as u64,
-        Answer::BadBook => 0,
+        Ok(n) => n as u64,
+        Err(r) => r.value(),
     }
 }
 
 // The number of the action that the answer names, or 0.
+#[tactic(auto, unfolding(crate::specs::Answered::action))]
 pub fn action_of(a: Answer) -> u64
     ensures { result ≡ action a }
 {
     match a {
-        Answer::Done(_) => 0,
-        Answer::SheetTooLong(_) => 0,
-        Answer::BadTrailer => 0,
-        Answer::CutShort(_, k) => k.0 as u64,
-        Answer::UnknownCode(_, k) => k.0 as u64,
-        Answer::BadField(_, k) => k.0 as u64,
-        Answer::TooDeep(_, k) => k.0 as u64,
-        Answer::LeftOver(_, k) => k.0 as u64,
-        Answer::ActionLenOverflow(_, k) => k.0 as u64,
-        Answer::BlockLenOverflow(_, k) => k.0 as u64,
-        Answer::JumpOffsetOverflow(_, k) => k.0 as u64,
-        Answer::NoRoom(_) => 0,
-        Answer::NeverRecorded(_, k) => k.0 as u64,
-        Answer::StrayBranch(_, k) => k.0 as u64,
-        Answer::BadBook => 0,
+        Ok(_) => 0,
+        Err(r) => r.action(),
     }
 }
