@@ -1,10 +1,9 @@
 -- Laws of pieces of text put into a buffer one after the other. Assumes nothing.
-use mathlib.Core.Path.{◌≡◌, refl, sym, ap, ◌∙◌}
+use mathlib.Core.Path.{◌≡◌, sym, ◌∙◌}
 use Prim.Native.Nat.{ℕ, ◌+◌, ◌-◌, ◌≤◌, ◌<◌}
 use native.Mathlib.Omega.{arith}
-use mathlib.Core.List.{List, [], ◌∷◌, ◌++◌}
-use lib.ListN.{length, take, length-append}
-use lib.Seq.{sets, take_all}
+use mathlib.Core.List.{List, ◌∷◌, ◌++◌}
+use lib.ListN.{take, length-append}
 use borrow.Author.Tests.{lt-ltb, le-ltb}
 use Rattle.io.specs.Digits.{last_digits, IsDigitCount}
 use Rattle.stores.proofs.Stores.{sets-append}
@@ -21,25 +20,20 @@ put_then {x} {y} {at} {p} {r} {old} {mid} {new} h k =
       end = omega (arith, h.end, k.end, length-append x y);
     }
 
--- one byte
-pub put_one : {v at : ℕ} {old new : List ℕ} → new ≡ sets old at (v ∷ []) → Put (v ∷ []) at old new (at + 1)
-put_one e = record { wrote = e; end = refl }
-
 -- a text by another name
 pub put_as : {x y : List ℕ} {at r : ℕ} {old new : List ℕ} → x ≡ y → Put x at old new r → Put y at old new r
 put_as {at = at} {r = r} {old = old} {new = new} e h = rw (sym e) h
 
 -- the first k bytes of a list, which are a number's digits
-pub put_digits : {n k at : ℕ} {old new : List ℕ} (d : List ℕ) → k ≡ length (take k d) → IsDigitCount 10 1 n k → take k d ≡ last_digits 10 k n → new ≡ sets old at (take k (take k d)) → Put (decimal n) at old new (at + k)
-put_digits {n} {k} {at} {old} {new} d l f e g =
-    put_as (e ∙ decimal_is n k f) (record { wrote = g ∙ ap (λ (t : List ℕ). sets old at t) (take_all k (take k d) (omega (arith, l))); end = omega (arith, l) })
+pub put_digits : {n k at r : ℕ} {old new : List ℕ} (d : List ℕ) → IsDigitCount 10 1 n k → take k d ≡ last_digits 10 k n → Put (take k d) at old new r → Put (decimal n) at old new r
+put_digits {n} {k} d f e h = put_as (e ∙ decimal_is n k f) h
 
 -- 64 bits that stand for a number that is not negative, and others
 pub not_negative : {bits at r : ℕ} {old new : List ℕ} → bits < 9223372036854775808 → Put (decimal bits) at old new r → Put (signed (signed64 bits)) at old new r
 unfolding signed signed64 pick
 not_negative {bits} l h = rw (lt-ltb bits 9223372036854775808 l) h
 
-pub negative : {bits at r : ℕ} {old new : List ℕ} → 9223372036854775808 ≤ bits → Put (45 ∷ decimal (18446744073709551615 - bits + 1)) at old new r
+pub negative : {bits n at r : ℕ} {old new : List ℕ} → 9223372036854775808 ≤ bits → Put (45 ∷ decimal n) at old new r → n ≡ 18446744073709551615 - bits + 1
     → Put (signed (signed64 bits)) at old new r
 unfolding signed signed64 pick
-negative {bits} l h = rw (le-ltb bits 9223372036854775808 l) h
+negative {bits} l h e = rw (le-ltb bits 9223372036854775808 l, ← e) h

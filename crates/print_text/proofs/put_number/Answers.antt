@@ -4,11 +4,11 @@ use Rattle.print_text.proofs.Decimals.{at_most_twenty}
 use Rattle.print_text.proofs.Puts.{put_digits}
 use Rattle.print_text.proofs.put_number.Goals as goal
 
-pub write_bytes-requires : goal.write_bytes-requires
-write_bytes-requires c = let d = c.decimal-k.ensures in (omega (arith, c.requires.room, at_most_twenty _ _ (omega arith) d.len), omega (arith, d.in_bounds.1))
-
-pub overflow_add-result : goal.overflow_add-result
-overflow_add-result c = omega (arith, c.requires.room, c.requires.small, at_most_twenty _ _ (omega arith) c.decimal-k.ensures.len)
+pub store-requires : goal.store-requires
+store-requires c = let d = c.decimal-k.ensures in omega (arith, c.requires.room, at_most_twenty _ _ (omega arith) d.len, d.in_bounds.1)
 
 pub returns : goal.returns
-returns c = let d = c.decimal-k.ensures in (put_digits _ d.in_bounds.1 d.len d.digits c.write_bytes.ensures, omega (arith, at_most_twenty _ _ (omega arith) d.len))
+returns c =
+    let d = c.decimal-k.ensures in
+    let s = c.store.ensures in
+    (put_digits _ d.len d.digits (record { wrote = s.wrote; end = s.end }), omega (arith, at_most_twenty _ _ (omega arith) d.len, d.in_bounds.1, s.end))

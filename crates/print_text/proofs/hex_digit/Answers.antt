@@ -1,9 +1,0 @@
--- `print_text::hex_digit` meets its contract: the digits stand before the letters. Assumes nothing.
-use Rattle.print_text.proofs.Hexes.{low_digit, high_digit}
-use Rattle.print_text.proofs.hex_digit.Goals as goal
-
-pub returns-then-d-lt10 : goal.returns-then-d-lt10
-returns-then-d-lt10 c = low_digit _ c.if-d-lt10.true
-
-pub returns : goal.returns
-returns c = high_digit _ c.if-d-lt10.false
