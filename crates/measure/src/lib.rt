@@ -6,7 +6,7 @@ ghost use Rattle.std.specs.Prelude.{◌≡◌};
 ghost use Rattle.measure.specs.Walk.{noted_if, noted_from, EndsFrom};
 
 use labels::Tables;
-use positions::{ActionNumber, BytePosition, Scan, Spot, Stop};
+use positions::{ActionNumber, Cursor, Scan, Spot, Stop};
 
 // Which length is over 65,535: a payload's, 8, or a body's, 9.
 #[derive(Clone, Copy)]
@@ -51,24 +51,18 @@ pub fn note_long(over: &mut Option<Overflow>, found: Overflow)
     }
 }
 
-// Notes the length of a payload that starts at position `from`, where it was read and is too long.
-pub fn note_payload(
-    payload: Scan,
-    from: BytePosition,
-    action: ActionNumber,
-    over: &mut Option<Overflow>,
-) -> Scan
-    requires { EndsFrom from.0 payload }
-    ensures { (result ≡ payload) × (over.new ≡ noted_from from.0 action.0 payload over.old) }
+// Notes the length of a payload that starts at `start`, in the action with its number, where it was read and is too long.
+pub fn note_payload(payload: Scan, start: Cursor, over: &mut Option<Overflow>) -> Scan
+    requires { EndsFrom start.pos.0 payload }
+    ensures { (result ≡ payload) × (over.new ≡ noted_from start.pos.0 start.number.0 payload over.old) }
 {
     let end = payload?;
-    let len = end.pos.0 - from.0;
     note_long(
         over,
         Overflow {
             limit: Limit::ActionLen,
-            len,
-            action,
+            len: end.pos.0 - start.pos.0,
+            action: start.number,
         },
     );
     Ok(end)
