@@ -66,7 +66,7 @@ module _ (f : List ℕ → List ℕ) where
 module _ (op : ℕ) (q : List ℕ) {next pos : ℕ} {out : List ℕ} where
   -- the header goes before the payload that is stored
   pub action_last : {m out' : List ℕ} {end : ℕ} (len : ℕ) → len ≡ length q → m ≡ sets out (pos + 3) q → out' ≡ sets m pos (op ∷ le16 len) → end ≡ pos + 3 + length q
-      → Put (action op q next) pos out out' (record { next = next; pos = record { 0 = end } })
+      → Put (action op q next) pos out out' (record { at = next; pos = record { 0 = end } })
   unfolding headed
   action_last len k e f g =
       record { wrote = before_then out pos (op ∷ le16 (length q)) q 3 (unfold le16 in refl) e (rw k at f); end = omega (arith, length_action op q); next = refl }
@@ -84,7 +84,7 @@ module _ (op : ℕ) (g : List ℕ → List ℕ) (x : Piece) {pos : ℕ} {out : L
 
   -- its header stored after the payload
   pub list_put : {m out' : List ℕ} {next end : ℕ} (len : ℕ) → len ≡ length (g (bytes_of x)) → m ≡ sets out (pos + 3) (g (bytes_of x)) → out' ≡ sets m pos (op ∷ le16 len)
-      → end ≡ pos + 3 + length (g (bytes_of x)) → next ≡ next_of x → Put (written (λ q. headed false op (g q)) x) pos out out' (record { next = next; pos = record { 0 = end } })
+      → end ≡ pos + 3 + length (g (bytes_of x)) → next ≡ next_of x → Put (written (λ q. headed false op (g q)) x) pos out out' (record { at = next; pos = record { 0 = end } })
   list_put {next = next} len k e f i j =
       let b = written_bytes (λ q. headed false op (g q)) x h.known in
       let p = action_last op (g (bytes_of x)) {next = next} len k e f i in
@@ -99,7 +99,7 @@ list_room x pos m k h s = record { known = k; room = h; sums = s }
 module _ (op : ℕ) (q : List ℕ) {next pos : ℕ} {out : List ℕ} where
   -- the header first
   pub action_put : {m out' : List ℕ} {at end : ℕ} (len : ℕ) → len ≡ length q → (at ≡ pos + 3) × (m ≡ sets out pos (op ∷ le16 len)) → out' ≡ sets m at q → end ≡ at + length q
-      → Put (action op q next) pos out out' (record { next = next; pos = record { 0 = end } })
+      → Put (action op q next) pos out out' (record { at = next; pos = record { 0 = end } })
   unfolding headed
   action_put {at = at} len k e f g =
       record { wrote = run_then out pos (op ∷ le16 (length q)) q at (unfold le16 in e.0) (rw k at e.1) f; end = omega (arith, length_action op q); next = refl }
@@ -107,5 +107,5 @@ module _ (op : ℕ) (q : List ℕ) {next pos : ℕ} {out : List ℕ} where
 -- a header, and a payload in two runs, the second from the place `second` on
 pub action_two : (op : ℕ) (a b : List ℕ) {next pos at end : ℕ} {out m n out' : List ℕ} (second len : ℕ) → second ≡ at + length a → len ≡ length (a ++ b)
     → (at ≡ pos + 3) × (m ≡ sets out pos (op ∷ le16 len)) → n ≡ sets m at a → out' ≡ sets n second b → end ≡ at + length (a ++ b)
-    → Put (action op (a ++ b) next) pos out out' (record { next = next; pos = record { 0 = end } })
+    → Put (action op (a ++ b) next) pos out out' (record { at = next; pos = record { 0 = end } })
 action_two op a b {at = at} {m = m} second len h k e f g i = action_put op (a ++ b) len k e (run_then m at a b second h f g) i

@@ -8,7 +8,7 @@ use lib.ListN.{length, length-append}
 use lib.Seq.{sets, length-sets}
 use Rattle.layout.specs.Read.{placed, Read, got, bad, Reader, chain, repeat}
 use Rattle.stores.proofs.Stores.{sets-append}
-use Rattle.positions.specs.declared.Ends.{Ends}
+use Rattle.positions.specs.declared.Spot.{Spot}
 use Rattle.encode_values.specs.Pieces.{Piece, written, bytes_of, next_of, Reads, joined, Room, Put}
 
 module _ {A : Type 0} (read : Reader A) (bytes : A → List ℕ) where
@@ -51,53 +51,57 @@ module _ {A : Type 0} (read : Reader A) (bytes : A → List ℕ) where
   behind_next a (got xs q) = refl
   behind_next a (bad f q) = refl
 
-  -- the loop, with n elements left from place p and position w on, and the output as it is there
-  pub record Going (whole : Piece) (pos : ℕ) (old : List ℕ) (n p w : ℕ) (out : List ℕ) : Type 0 where
-    pub room : Room (Left n p) w out
-    pub wrote : sets out w (bytes_of (Left n p)) ≡ sets old pos (bytes_of whole)
-    pub end : w + length (bytes_of (Left n p)) ≡ pos + length (bytes_of whole)
-    pub next : next_of (Left n p) ≡ next_of whole
+  -- the loop, after i of n elements: what is left from a spot on, and the output as it is there
+  pub record Going (whole : Piece) (pos : ℕ) (old : List ℕ) (n i : ℕ) (s : Spot) (out : List ℕ) : Type 0 where
+    pub room : Room (Left (n - i) s.at) s.pos.0 out
+    pub wrote : sets out s.pos.0 (bytes_of (Left (n - i) s.at)) ≡ sets old pos (bytes_of whole)
+    pub end : s.pos.0 + length (bytes_of (Left (n - i) s.at)) ≡ pos + length (bytes_of whole)
+    pub next : next_of (Left (n - i) s.at) ≡ next_of whole
+    pub long : length out ≡ length old
 
   -- before the loop
-  pub going_start : {n p w : ℕ} {out : List ℕ} → Room (Left n p) w out → Going (Left n p) w out n p w out
-  going_start h = record { room = h; wrote = refl; end = refl; next = refl }
+  pub going_start : {n : ℕ} {s : Spot} {out : List ℕ} → Room (Left n s.at) s.pos.0 out → Going (Left n s.at) s.pos.0 out n 0 s out
+  going_start {n} h =
+      let z : n - 0 ≡ n = omega arith in
+      record { room = rw z h; wrote = rw z; end = rw z; next = rw z; long = refl }
 
-  module _ {whole : Piece} {pos : ℕ} {old : List ℕ} {n p w : ℕ} {out : List ℕ} (g : Going whole pos old n p w out) where
+  module _ {whole : Piece} {pos : ℕ} {old : List ℕ} {n i : ℕ} {s : Spot} {out : List ℕ} (g : Going whole pos old n i s out) where
     -- nothing is left
-    pub going_end : n ≤ 0 → Put whole pos old out (record { next = p; pos = record { 0 = w } })
+    pub going_end : n ≤ i → Put whole pos old out s
     unfolding repeat joined
     going_end h =
-        let z : n ≡ 0 = omega arith in
+        let z : n - i ≡ 0 = omega arith in
         record { wrote = rw z at g.wrote; end = omega (arith, rw z at g.end); next = rw z at g.next }
 
     -- the next element may be written
-    pub going_element : 0 < n → Room (written bytes (read (placed p))) w out
-    going_element h = go (first n p h g.room.known)
+    pub going_element : i < n → Room (written bytes (read (placed s.at))) s.pos.0 out
+    going_element h = go (first (n - i) s.at (omega arith) g.room.known)
       where
-        go : First n p → Room (written bytes (read (placed p))) w out
+        go : First (n - i) s.at → Room (written bytes (read (placed s.at))) s.pos.0 out
         go (a, q, e, f) =
-            let k : Reads (Behind a (repeat read (n - 1) (placed q))) = rw f at g.room.known in
-            let r = rw (f, behind_bytes a (repeat read (n - 1) (placed q)) k) at g.room.room in
-            rw e (record { known = tt; room = omega (arith, length-append (bytes a) (bytes_of (Left (n - 1) q)), r); sums = g.room.sums })
+            let k : Reads (Behind a (repeat read (n - i - 1) (placed q))) = rw f at g.room.known in
+            let r = rw (f, behind_bytes a (repeat read (n - i - 1) (placed q)) k) at g.room.room in
+            rw e (record { known = tt; room = omega (arith, length-append (bytes a) (bytes_of (Left (n - i - 1) q)), r); sums = g.room.sums })
 
     -- it was written
-    pub going_on : 0 < n → {out' : List ℕ} {r : Ends} → Put (written bytes (read (placed p))) w out out' r → Going whole pos old (n - 1) r.next r.pos.0 out'
-    going_on h {out'} {r} x = go (first n p h g.room.known)
+    pub going_on : i < n → {out' : List ℕ} {r : Spot} → Put (written bytes (read (placed s.at))) s.pos.0 out out' r → Going whole pos old n (i + 1) r out'
+    going_on h {out'} {r} x = go (first (n - i) s.at (omega arith) g.room.known)
       where
-        go : First n p → Going whole pos old (n - 1) r.next r.pos.0 out'
+        go : First (n - i) s.at → Going whole pos old n (i + 1) r out'
         go (a, q, e, f) =
-            let rest : Piece = Left (n - 1) q in
-            let k : Reads (Behind a (repeat read (n - 1) (placed q))) = rw f at g.room.known in
-            let s : bytes_of (Left n p) ≡ bytes a ++ bytes_of rest = rw f (behind_bytes a (repeat read (n - 1) (placed q)) k) in
+            let d : n - (i + 1) ≡ n - i - 1 = omega arith in
+            let rest : Piece = Left (n - i - 1) q in
+            let k : Reads (Behind a (repeat read (n - i - 1) (placed q))) = rw f at g.room.known in
+            let t : bytes_of (Left (n - i) s.at) ≡ bytes a ++ bytes_of rest = rw f (behind_bytes a (repeat read (n - i - 1) (placed q)) k) in
             let l = length-append (bytes a) (bytes_of rest) in
-            let i : r.next ≡ q = rw e at x.next in
-            let j : r.pos.0 ≡ w + length (bytes a) = rw e at x.end in
-            let o : out' ≡ sets out w (bytes a) = rw e at x.wrote in
-            let c : length out' ≡ length out = ap length o ∙ length-sets out w (bytes a) in
-            rw (i, j)
-            (record {
-              room = record { known = behind_reads a (repeat read (n - 1) (placed q)) k; room = omega (arith, rw s at g.room.room); sums = omega (arith, g.room.sums) };
-              wrote = rw o (sets-append out w (bytes a) (bytes_of rest)) ∙ sym (ap (λ (t : List ℕ). sets out w t) s) ∙ g.wrote;
-              end = omega (arith, rw s at g.end);
-              next = sym (behind_next a (repeat read (n - 1) (placed q))) ∙ rw f at g.next;
-            })
+            let m : r.at ≡ q = rw e at x.next in
+            let j : r.pos.0 ≡ s.pos.0 + length (bytes a) = rw e at x.end in
+            let o : out' ≡ sets out s.pos.0 (bytes a) = rw e at x.wrote in
+            let c : length out' ≡ length out = ap length o ∙ length-sets out s.pos.0 (bytes a) in
+            record {
+              room = rw (d, m, j) (record { known = behind_reads a (repeat read (n - i - 1) (placed q)) k; room = omega (arith, rw t at g.room.room); sums = omega (arith, g.room.sums) });
+              wrote = rw (d, m, j, o) (sets-append out s.pos.0 (bytes a) (bytes_of rest) ∙ sym (ap (λ (t : List ℕ). sets out s.pos.0 t) t) ∙ g.wrote);
+              end = rw (d, m, j) (omega (arith, rw t at g.end));
+              next = rw (d, m) (sym (behind_next a (repeat read (n - i - 1) (placed q))) ∙ rw f at g.next);
+              long = c ∙ g.long;
+            }

@@ -2,11 +2,13 @@
 use Rattle.std.specs.Prelude.{◌≡◌, ℕ, ◌+◌, ◌≤◌, false, List, [], ◌∷◌, ◌++◌, length}
 use Rattle.std.proofs.lemmas.List.Edits.{sets}
 use Rattle.layout.specs.Tree.{Flat, PushValueOf, FunctionParamOf, function_param}
-use Rattle.layout.specs.Read.{Text, Terms, placed, Read, got, bad, repeat, read_string, read_param, read_value}
+use Rattle.layout.specs.Read.{Text, placed, Read, got, bad, repeat, read_string, read_param, read_value}
 use Rattle.layout.specs.Payload.{opcode, payload, zero_ended, push_bytes, headed, framed}
 use Rattle.layout.specs.Strings.{map_value}
 use Rattle.layout.specs.Pack.{spelling}
-use Rattle.positions.specs.declared.Ends.{Ends}
+use Rattle.editions.specs.declared.MainBody.{MainBody}
+use Rattle.editions.specs.Allowed.{read_by}
+use Rattle.positions.specs.declared.Spot.{Spot}
 
 -- ---- what is to be written
 
@@ -52,10 +54,10 @@ pub record Room (x : Piece) (pos : ℕ) (out : List ℕ) : Type 0 where
   pub sums : length out ≤ 1099511627776
 
 -- what it leaves: the bytes from the position on, and r, which holds the place and the position after them
-pub record Put (x : Piece) (pos : ℕ) (out out' : List ℕ) (r : Ends) : Type 0 where
+pub record Put (x : Piece) (pos : ℕ) (out out' : List ℕ) (r : Spot) : Type 0 where
   pub wrote : out' ≡ sets out pos (bytes_of x)
   pub end : r.pos.0 ≡ pos + length (bytes_of x)
-  pub next : r.next ≡ next_of x
+  pub next : r.at ≡ next_of x
 
 -- ---- the elements of lists
 
@@ -76,23 +78,23 @@ unfoldable pub joined : {A : Type 0} → (A → List ℕ) → List A → List �
 joined f [] = []
 joined f (a ∷ xs) = f a ++ joined f xs
 
-module _ (terms : Terms) (b : List ℕ) where
+module _ (m : MainBody) where
   -- the string, the parameter and the push value at p
   abbrev pub string_at : ℕ → Piece
-  string_at p = written string_bytes (read_string terms b (placed p))
+  string_at p = written string_bytes (read_string (read_by m) m.b.now (placed p))
 
   abbrev pub param_at : ℕ → Piece
-  param_at p = written param_bytes (read_param terms b (placed p))
+  param_at p = written param_bytes (read_param (read_by m) m.b.now (placed p))
 
   abbrev pub value_at : ℕ → Piece
-  value_at p = written value_bytes (read_value terms b (placed p))
+  value_at p = written value_bytes (read_value (read_by m) m.b.now (placed p))
 
   -- n of them from p on
   abbrev pub strings_at : ℕ → ℕ → Piece
-  strings_at n p = written (joined string_bytes) (repeat (read_string terms b) n (placed p))
+  strings_at n p = written (joined string_bytes) (repeat (read_string (read_by m) m.b.now) n (placed p))
 
   abbrev pub params_at : ℕ → ℕ → Piece
-  params_at n p = written (joined param_bytes) (repeat (read_param terms b) n (placed p))
+  params_at n p = written (joined param_bytes) (repeat (read_param (read_by m) m.b.now) n (placed p))
 
   abbrev pub values_at : ℕ → ℕ → Piece
-  values_at n p = written (joined value_bytes) (repeat (read_value terms b) n (placed p))
+  values_at n p = written (joined value_bytes) (repeat (read_value (read_by m) m.b.now) n (placed p))

@@ -1,14 +1,9 @@
--- `encode_values::write_params` meets its contract: the parameters that are left give with those written what all give. Assumes nothing.
-use mathlib.Core.Path.{◌≡◌}
-use lib.ListN.{length}
-use Rattle.editions.specs.Allowed.{terms_of}
+-- What is left gives, with what is written, what the whole list gives. Assumes nothing.
+use Rattle.editions.specs.Allowed.{read_by}
 use Rattle.layout.specs.Read.{read_param}
-use Rattle.encode_values.proofs.Lists as lists
+use Rattle.encode_values.proofs.Lists.{Going}
 use Rattle.encode_values.specs.Pieces.{param_bytes, params_at}
 use Rattle.encode_values.proofs.write_params.Given as goal
 
-abbrev pub invariant-loop-left : goal.invariant-loop-left
-invariant-loop-left l = lists.Going (read_param (terms_of l.terms l.words l.index) l.b) param_bytes (params_at (terms_of l.terms l.words l.index) l.b l.n l.at) l.initial.w.0 l.initial.out l.left l.p l.w.0 l.out × (length l.out ≡ length l.initial.out)
-
-abbrev pub decreases-loop-left : goal.decreases-loop-left
-decreases-loop-left l = l.left
+abbrev pub invariant-loop : goal.invariant-loop
+invariant-loop l = Going (read_param (read_by l.m) l.m.b.now) param_bytes (params_at l.m l.n l.fn.from.at) l.fn.from.pos.0 l.initial.out l.n l.counter l.spot l.out
