@@ -1,200 +1,116 @@
-// The fields of an opcode, as far as its bodies: read, checked and measured.
-// `pos` is the position in the block that writing would have reached after the header.
+// The fields of an opcode, as far as its bodies: read, checked and measured. They are measured from the end of the header on.
 #![tactic(auto)]
 
-ghost use Rattle.std.specs.Prelude.{◌≡◌, ◌+◌, ◌-◌, ◌≤◌};
+ghost use Rattle.std.specs.Prelude.{◌≡◌};
 ghost use Rattle.layout.specs.Read.{placed, read_counted};
 ghost use Rattle.layout.specs.Lengths.{total};
 ghost use Rattle.positions.specs.Scanned.{scanned, Roomy};
-ghost use Rattle.editions.specs.Allowed.{terms_of};
+ghost use Rattle.editions.specs.Allowed.{read_by};
 ghost use Rattle.lists.specs.Elements.{named_size, read_named};
 ghost use Rattle.action_fields.specs.Fields.{read_wait_for_frame, read_goto_frame2, read_get_url2, read_get_url, flat_size, read_function, read_registers, read_function2, owner_size, read_caught, caught_size};
 
-use editions::Terms;
-use fields::u16_at;
+use editions::MainBody;
 use lists::scan_strings;
 use opcode::OpCode;
-use operands::{scan_bytes, scan_flag, scan_string};
-use positions::{BytePosition, Fault, Scan};
+use operands::{after, read_u8, read_u16, scan_bytes, scan_flag, scan_string, stops, whole};
+use positions::{Fault, Scan, Spot};
 
 // ---- payloads without a body
 
 // WaitForFrame: a frame and a count of actions to skip.
-pub fn scan_wait_for_frame(b: &[u8], at: usize, pos: BytePosition) -> Scan
-    requires { Roomy b.now at pos }
-    ensures { result ≡ scanned flat_size pos.0 (read_wait_for_frame b.now (placed at)) }
+pub fn scan_wait_for_frame(m: &MainBody<'_>, from: Spot) -> Scan
+    requires { Roomy m.now.b.now from.at from.pos }
+    ensures { result ≡ scanned flat_size from.pos.0 (read_wait_for_frame m.now.b.now (placed from.at)) }
 {
-    if b.len() - at < 2 {
-        return Scan::Stops(at, Fault::CutShort);
-    }
-    let end = BytePosition(pos.0 + OpCode::WAIT_FOR_FRAME_LEN);
-    scan_bytes(b, at + 2, 1, end)
+    whole(m, from.at, 2)?;
+    scan_bytes(m, after(from, 2, OpCode::WAIT_FOR_FRAME_LEN), 1)
 }
 
 // GotoFrame2: a bias and whether to play; the bias is written when it is not 0.
-pub fn scan_goto_frame_2(b: &[u8], at: usize, pos: BytePosition) -> Scan
-    requires { Roomy b.now at pos }
-    ensures { result ≡ scanned flat_size pos.0 (read_goto_frame2 b.now (placed at)) }
+pub fn scan_goto_frame_2(m: &MainBody<'_>, from: Spot) -> Scan
+    requires { Roomy m.now.b.now from.at from.pos }
+    ensures { result ≡ scanned flat_size from.pos.0 (read_goto_frame2 m.now.b.now (placed from.at)) }
 {
-    if b.len() - at < 2 {
-        return Scan::Stops(at, Fault::CutShort);
-    }
-    let len = OpCode::goto_frame_2_len(u16_at(b, at));
-    scan_flag(b, at + 2, BytePosition(pos.0 + len))
+    let bias = read_u16(m, from.at)?;
+    scan_flag(m, after(from, 2, OpCode::goto_frame_2_len(bias)))
 }
 
 // GetUrl2: two flags and a method.
-pub fn scan_get_url_2(b: &[u8], at: usize, pos: BytePosition) -> Scan
-    requires { Roomy b.now at pos }
-    ensures { result ≡ scanned flat_size pos.0 (read_get_url2 b.now (placed at)) }
+pub fn scan_get_url_2(m: &MainBody<'_>, from: Spot) -> Scan
+    requires { Roomy m.now.b.now from.at from.pos }
+    ensures { result ≡ scanned flat_size from.pos.0 (read_get_url2 m.now.b.now (placed from.at)) }
 {
-    match scan_flag(b, at, pos) {
-        Scan::Stops(p, f) => Scan::Stops(p, f),
-        Scan::Ends(p, w) => match scan_flag(b, p, w) {
-            Scan::Stops(q, f) => Scan::Stops(q, f),
-            Scan::Ends(q, x) => scan_bytes(b, q, 1, BytePosition(x.0 + OpCode::U8_LEN)),
-        },
-    }
-}
-
-// The length of a string that is written from one position to another, its zero byte included.
-fn text_len(from: BytePosition, to: BytePosition) -> usize
-    requires { from.0 + 1 ≤ to.0 }
-    ensures { result + 1 ≡ to.0 - from.0 }
-{
-    to.0 - from.0 - OpCode::string_len(0)
+    let target = scan_flag(m, from)?;
+    let method = scan_flag(m, target)?;
+    scan_bytes(m, after(method, 0, OpCode::U8_LEN), 1)
 }
 
 // GetUrl: two strings.
-pub fn scan_get_url(
-    b: &[u8],
-    words: &[u8],
-    index: &[u32],
-    terms: Terms,
-    at: usize,
-    pos: BytePosition,
-) -> Scan
-    requires { Roomy b.now at pos }
-    ensures { result ≡ scanned flat_size pos.0 (read_get_url (terms_of terms words.now index.now) b.now (placed at)) }
+pub fn scan_get_url(m: &MainBody<'_>, from: Spot) -> Scan
+    requires { Roomy m.now.b.now from.at from.pos }
+    ensures { result ≡ scanned flat_size from.pos.0 (read_get_url (read_by m.now) m.now.b.now (placed from.at)) }
 {
-    match scan_string(b, words, index, terms, at, pos) {
-        Scan::Stops(p, f) => Scan::Stops(p, f),
-        Scan::Ends(p, w) => match scan_string(b, words, index, terms, p, w) {
-            Scan::Stops(q, f) => Scan::Stops(q, f),
-            Scan::Ends(q, x) => {
-                let len = OpCode::get_url_len(text_len(pos, w), text_len(w, x));
-                Scan::Ends(q, BytePosition(pos.0 + len))
-            }
-        },
-    }
+    let target = scan_string(m, from)?;
+    scan_string(m, target)
 }
 
-// ConstantPool: its strings; `pos` is the position after the written count.
-pub fn scan_constant_pool(
-    b: &[u8],
-    words: &[u8],
-    index: &[u32],
-    terms: Terms,
-    at: usize,
-    pos: BytePosition,
-) -> Scan
-    requires { Roomy b.now at pos }
-    ensures { result ≡ scanned (total (named_size 0)) pos.0 (read_counted b.now (read_named (terms_of terms words.now index.now) b.now 0) (placed at)) }
+// ConstantPool: its strings; their count is not measured.
+pub fn scan_constant_pool(m: &MainBody<'_>, from: Spot) -> Scan
+    requires { Roomy m.now.b.now from.at from.pos }
+    ensures { result ≡ scanned (total (named_size 0)) from.pos.0 (read_counted m.now.b.now (read_named (read_by m.now) m.now.b.now 0) (placed from.at)) }
 {
-    scan_strings(b, words, index, terms, at, 0, pos)
+    scan_strings(m, from, 0)
 }
 
 // ---- payloads before bodies
 
-// A function's name and parameters. These are measured from the end of a payload without any, here and below.
-pub fn scan_define_function(
-    b: &[u8],
-    words: &[u8],
-    index: &[u32],
-    terms: Terms,
-    at: usize,
-    pos: BytePosition,
-) -> Scan
-    requires { Roomy b.now at pos }
-    ensures { result ≡ scanned owner_size pos.0 (read_function (terms_of terms words.now index.now) b.now (placed at)) }
+// A function's name and parameters. All that is written beside these is measured before the parameters, here and below.
+pub fn scan_define_function(m: &MainBody<'_>, from: Spot) -> Scan
+    requires { Roomy m.now.b.now from.at from.pos }
+    ensures { result ≡ scanned owner_size from.pos.0 (read_function (read_by m.now) m.now.b.now (placed from.at)) }
 {
-    match scan_string(b, words, index, terms, at, pos) {
-        Scan::Stops(p, f) => Scan::Stops(p, f),
-        Scan::Ends(p, w) => {
-            let len = OpCode::define_function_len(text_len(pos, w), 0);
-            scan_strings(b, words, index, terms, p, 0, BytePosition(pos.0 + len))
-        }
-    }
+    let params = scan_string(m, from)?;
+    let rest = OpCode::define_function_len(0, 0) - OpCode::string_len(0);
+    scan_strings(m, after(params, 0, rest), 0)
 }
 
-// A register count, and flags of which bits 9 to 15 are zero. They are measured before the parameters, as they are written.
-fn scan_registers(b: &[u8], at: usize, pos: BytePosition) -> Scan
-    requires { Roomy b.now at pos }
-    ensures { result ≡ scanned (λ _. 0) pos.0 (read_registers b.now (placed at)) }
+// A register count, and flags of which bits 9 to 15 are zero; they are not measured.
+fn scan_registers(m: &MainBody<'_>, from: Spot) -> Scan
+    requires { Roomy m.now.b.now from.at from.pos }
+    ensures { result ≡ scanned (λ _. 0) from.pos.0 (read_registers m.now.b.now (placed from.at)) }
 {
-    if b.len() <= at {
-        return Scan::Stops(at, Fault::CutShort);
+    whole(m, from.at, 1)?;
+    let flags = from.at + 1;
+    if 511 < read_u16(m, flags)? {
+        return stops(Fault::BadField, flags);
     }
-    let p = at + 1;
-    if b.len() - p < 2 {
-        return Scan::Stops(p, Fault::CutShort);
-    }
-    if 511 < u16_at(b, p) {
-        return Scan::Stops(p, Fault::BadField);
-    }
-    Scan::Ends(p + 2, pos)
+    Ok(after(from, 3, 0))
 }
 
 // A function's name, its parameters after their registers, its register count and flags.
-pub fn scan_define_function_2(
-    b: &[u8],
-    words: &[u8],
-    index: &[u32],
-    terms: Terms,
-    at: usize,
-    pos: BytePosition,
-) -> Scan
-    requires { Roomy b.now at pos }
-    ensures { result ≡ scanned owner_size pos.0 (read_function2 (terms_of terms words.now index.now) b.now (placed at)) }
+pub fn scan_define_function_2(m: &MainBody<'_>, from: Spot) -> Scan
+    requires { Roomy m.now.b.now from.at from.pos }
+    ensures { result ≡ scanned owner_size from.pos.0 (read_function2 (read_by m.now) m.now.b.now (placed from.at)) }
 {
-    match scan_string(b, words, index, terms, at, pos) {
-        Scan::Stops(p, f) => Scan::Stops(p, f),
-        Scan::Ends(p, w) => {
-            let len = OpCode::define_function_2_len(text_len(pos, w), 0);
-            match scan_strings(b, words, index, terms, p, 1, BytePosition(pos.0 + len)) {
-                Scan::Stops(q, f) => Scan::Stops(q, f),
-                Scan::Ends(q, x) => scan_registers(b, q, x),
-            }
-        }
-    }
+    let params = scan_string(m, from)?;
+    let rest = OpCode::define_function_2_len(0, 0) - OpCode::string_len(0);
+    let registers = scan_strings(m, after(params, 0, rest), 1)?;
+    scan_registers(m, registers)
 }
 
 // A Try's shape and catch target. A name is measured from `target` on; a register, or the zero byte of a Try without a catch, ends
 // at `end`.
-pub fn scan_catch(
-    b: &[u8],
-    words: &[u8],
-    index: &[u32],
-    terms: Terms,
-    at: usize,
-    pos: BytePosition,
-) -> Scan
-    requires { Roomy b.now at pos }
-    ensures { result ≡ scanned caught_size pos.0 (read_caught (terms_of terms words.now index.now) b.now (placed at)) }
+pub fn scan_catch(m: &MainBody<'_>, from: Spot) -> Scan
+    requires { Roomy m.now.b.now from.at from.pos }
+    ensures { result ≡ scanned caught_size from.pos.0 (read_caught (read_by m.now) m.now.b.now (placed from.at)) }
 {
-    if b.len() <= at {
-        return Scan::Stops(at, Fault::CutShort);
-    }
-    let p = at + 1;
-    let target = BytePosition(pos.0 + OpCode::try_len(0));
-    let end = BytePosition(pos.0 + OpCode::try_len(1));
-    match b[at] {
-        0 => Scan::Ends(p, end),
-        1 => scan_string(b, words, index, terms, p, target),
-        2 => Scan::Ends(p, end),
-        3 => scan_string(b, words, index, terms, p, target),
-        5 => scan_bytes(b, p, 1, end),
-        7 => scan_bytes(b, p, 1, end),
-        _ => Scan::Stops(at, Fault::BadField),
+    let shape = read_u8(m, from.at)?;
+    let target = after(from, 1, OpCode::try_len(0));
+    let end = after(from, 1, OpCode::try_len(1));
+    match shape {
+        0 | 2 => Ok(end),
+        1 | 3 => scan_string(m, target),
+        5 | 7 => scan_bytes(m, end, 1),
+        _ => stops(Fault::BadField, from.at),
     }
 }

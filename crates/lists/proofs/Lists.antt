@@ -176,11 +176,11 @@ module _ (terms : Terms) (b : List ℕ) (small : Bytes b) (short : WordsShort te
 -- the next scan may start where one ended, even some bytes further on in the block where something was written
 module _ {A : Type 0} (b : List ℕ) (read : Reader A) (size : A → ℕ) (s : Spot) (h : Roomy b s.at s.pos) {r : Result Spot Stop} {t : Spot} where
   pub roomy_after : Grows b read size → ((a : A) → 1 ≤ size a) → r ≡ scanned size s.pos.0 (read (placed s.at)) → r ≡ Ok t
-      → (extra : ℕ) → extra ≤ 65000 → (w : BytePosition) → w.0 ≡ t.pos.0 + extra → Roomy b t.at w
-  roomy_after g some e f extra m w i =
+      → (extra : ℕ) → extra ≤ 65000 → (u : Spot) → (u.at ≡ t.at + 0) × (u.pos.0 ≡ t.pos.0 + extra) → Roomy b u.at u.pos
+  roomy_after g some e f extra m u i =
       let k = ends_is size s.pos.0 (read (placed s.at)) e f in
       let n = g s.at k.0 t.at h.inside k.1 in
-      record { bytes = h.bytes; inside = n.1; room = omega (arith, h.inside, h.room, n.0, n.1, k.2, some k.0) }
+      record { bytes = h.bytes; inside = omega (arith, n.1, i.0); room = omega (arith, h.inside, h.room, n.0, n.1, k.2, some k.0, i.0, i.1) }
 
   -- the next scan may start where a counted list ended
   pub list_after : Grows b read size → r ≡ scanned (total size) s.pos.0 (read_counted b read (placed s.at)) → r ≡ Ok t → Roomy b t.at t.pos
@@ -198,11 +198,11 @@ module _ (terms : Terms) (b : List ℕ) (s : Spot) {r : Result Spot Stop} {t : S
       omega (arith, k.2)
 
   module _ (short : WordsShort terms) (h : Roomy b s.at s.pos) where
-    pub text_after : (extra : ℕ) → extra ≤ 65000 → (w : BytePosition) → w.0 ≡ t.pos.0 + extra → Roomy b t.at w
+    pub text_after : (extra : ℕ) → extra ≤ 65000 → (u : Spot) → (u.at ≡ t.at + 0) × (u.pos.0 ≡ t.pos.0 + extra) → Roomy b u.at u.pos
     text_after = roomy_after b (read_string terms b) string_size s h (text_grows terms b h.bytes short) (λ x. unfold string_size string_length in omega arith) e f
 
     -- and some bytes more can be counted
     pub text_room : t.pos.0 + 65000 ≤ 1099511627776
     text_room =
-        let y = text_after 65000 (omega arith) (record { 0 = t.pos.0 + 65000 }) refl in
+        let y = text_after 65000 (omega arith) (record { at = t.at; pos = record { 0 = t.pos.0 + 65000 } }) (omega arith, refl) in
         omega (arith, y.room)

@@ -1,44 +1,20 @@
-use mathlib.Core.Path.{refl}
-use Rattle.operands.proofs.Scans.{ends_is}
-use Rattle.action_fields.specs.Fields.{read_get_url}
-use native.Mathlib.Omega.{arith}
+use Rattle.std.proofs.Common.{arith}
 use Rattle.editions.proofs.Listed.{terms_short}
+use Rattle.operands.proofs.Scans.{stops_then}
 use Rattle.lists.proofs.Lists as lists
+use Rattle.action_fields.specs.Fields.{read_get_url}
 use Rattle.action_fields.proofs.Steps as steps
 use Rattle.action_fields.proofs.scan_get_url.Goals as goal
 
-pub scan_string-requires-in-Ends : goal.scan_string-requires-in-Ends
-scan_string-requires-in-Ends c = lists.text_after _ (terms_short c.args.terms _ _) _ 0 (omega arith) _ _ _ _ _ _ c.requires c.scan_string.ensures c.in-Ends.is (omega arith)
-
-pub text_len-requires : goal.text_len-requires
-text_len-requires c = lists.text_some _ _ _ _ _ _ _ c.scan_string.ensures c.in-Ends.is
-
-pub text_len-requires-in-Ends-scan_string : goal.text_len-requires-in-Ends-scan_string
-text_len-requires-in-Ends-scan_string c = lists.text_some _ _ _ _ _ _ _ c.scan_string-in-Ends.ensures c.in-Ends-scan_string.is
-
-pub get_url_len-len-requires : goal.get_url_len-len-requires
-get_url_len-len-requires c =
-    let y = lists.text_after _ (terms_short c.args.terms _ _) _ 0 (omega arith) _ _ _ _ c.in-Ends.w _ c.requires c.scan_string.ensures c.in-Ends.is (omega arith) in
-    let z = lists.text_room _ (terms_short c.args.terms _ _) _ _ _ _ _ _ y c.scan_string-in-Ends.ensures c.in-Ends-scan_string.is in
-    (omega (arith, y.room, c.text_len.ensures), omega (arith, z, c.text_len-in-Ends-scan_string.ensures))
-
-pub overflow_add-result : goal.overflow_add-result
-overflow_add-result c =
-    let y = lists.text_after _ (terms_short c.args.terms _ _) _ 0 (omega arith) _ _ _ _ c.in-Ends.w _ c.requires c.scan_string.ensures c.in-Ends.is (omega arith) in
-    let z = lists.text_room _ (terms_short c.args.terms _ _) _ _ _ _ _ _ y c.scan_string-in-Ends.ensures c.in-Ends-scan_string.is in
-    omega (arith, z, c.get_url_len-len.ensures, c.text_len-in-Ends-scan_string.ensures, c.text_len.ensures)
-
-pub returns-in-Stops : goal.returns-in-Stops
+pub returns-in_err-target : goal.returns-in_err-target
 unfolding read_get_url
-returns-in-Stops c = steps.then_stops _ _ _ _ _ _ c.scan_string.ensures c.in-Stops.is
+returns-in_err-target c = stops_then _ _ _ _ _ _ c.scan_string.ensures c.in_err-target.was c.from_residual.ensures.1
 
-pub returns-in-Stops-scan_string : goal.returns-in-Stops-scan_string
-unfolding read_get_url
-returns-in-Stops-scan_string c = steps.then_ends _ _ _ _ _ _ _ c.scan_string.ensures c.in-Ends.is (λ s g h. steps.then_stops _ _ _ _ _ _ c.scan_string-in-Ends.ensures c.in-Stops-scan_string.is)
+pub scan_string-requires-2 : goal.scan_string-requires-2
+scan_string-requires-2 c = lists.text_after _ _ _ c.scan_string.ensures c.in_ok-target.was (terms_short c.args.m.now.terms _ _) c.requires 0 (omega arith) _ (omega arith, omega arith)
 
-pub returns-in-Ends-scan_string : goal.returns-in-Ends-scan_string
+pub returns : goal.returns
 unfolding read_get_url
-returns-in-Ends-scan_string c =
-    let e = ends_is _ _ _ c.scan_string-in-Ends.ensures c.in-Ends-scan_string.is in
-    steps.then_ends _ _ _ _ _ _ _ c.scan_string.ensures c.in-Ends.is
-    (λ s g h. steps.url_in _ _ _ s e.0 _ _ _ _ _ e.1 (omega (arith, h, lists.text_some _ _ _ _ _ _ _ c.scan_string.ensures c.in-Ends.is, c.text_len.ensures)) (omega (arith, e.2, lists.text_some _ _ _ _ _ _ _ c.scan_string-in-Ends.ensures c.in-Ends-scan_string.is, c.text_len-in-Ends-scan_string.ensures)) c.get_url_len-len.ensures refl)
+returns c =
+    steps.then_ends _ _ _ _ _ _ c.scan_string.ensures c.in_ok-target.was
+    (λ s g h. steps.url_in _ _ _ s _ _ h c.scan_string-2.ensures)

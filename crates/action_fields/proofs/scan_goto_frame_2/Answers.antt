@@ -1,13 +1,14 @@
+use Rattle.std.proofs.Common.{arith}
 use Rattle.opcode.specs.PayloadLengths.{goto_frame_2_short}
-use native.Mathlib.Omega.{arith}
+use Rattle.operands.proofs.Scans.{cut}
 use Rattle.action_fields.proofs.Steps as steps
 use Rattle.action_fields.proofs.scan_goto_frame_2.Goals as goal
 
-pub returns-then-b-at-lt2 : goal.returns-then-b-at-lt2
-returns-then-b-at-lt2 c = steps.goto_out _ _ _ (omega arith)
+pub returns-in_err-bias : goal.returns-in_err-bias
+returns-in_err-bias c = cut _ _ _ _ _ c.from_residual.ensures.1 c.in_err-bias.ensures.err (steps.goto_out _ _ 0)
 
-pub overflow_add-pos : goal.overflow_add-pos
-overflow_add-pos c = omega (arith, c.requires.room, c.goto_frame_2_len-len.ensures, goto_frame_2_short c.u16_at.result)
+pub after-requires : goal.after-requires
+after-requires c = (omega arith, omega (arith, c.requires.room, c.goto_frame_2_len.ensures, goto_frame_2_short c.in_ok-bias.bias))
 
 pub returns : goal.returns
-returns c = steps.goto_in _ _ _ _ _ _ (omega arith) c.u16_at.ensures.0 c.goto_frame_2_len-len.ensures c.scan_flag.ensures
+returns c = steps.goto_in _ _ _ _ _ c.in_ok-bias.ensures.ok c.goto_frame_2_len.ensures c.after.ensures c.scan_flag.ensures

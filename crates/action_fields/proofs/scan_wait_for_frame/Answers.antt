@@ -1,9 +1,9 @@
-use native.Mathlib.Omega.{arith}
+use Rattle.operands.proofs.Scans.{cut}
 use Rattle.action_fields.proofs.Steps as steps
 use Rattle.action_fields.proofs.scan_wait_for_frame.Goals as goal
 
-pub returns-then-b-at-lt2 : goal.returns-then-b-at-lt2
-returns-then-b-at-lt2 c = steps.wait_out _ _ _ (omega arith)
+pub returns-in_err-whole : goal.returns-in_err-whole
+returns-in_err-whole c = cut _ _ _ _ _ c.from_residual.ensures.1 c.in_err-whole.ensures.err (steps.wait_out _ _ 0)
 
 pub returns : goal.returns
-returns c = steps.wait_in _ _ _ _ (omega arith) c.scan_bytes.ensures
+returns c = steps.wait_in _ _ _ c.in_ok-whole.ensures.ok c.after.ensures c.scan_bytes.ensures
