@@ -246,8 +246,9 @@ ends_from s from w x r e h = rw e (go x)
 
 -- a Try whose shape was scanned has one
 pub caught_inside : (terms : Terms) (b : List ℕ) (at pos : ℕ) (end : Spot) (r : Result Spot code.Stop) → r ≡ scanned caught_size pos (read_caught terms b (placed at)) → r ≡ Ok end → at < length b
+unfolding scanned
 caught_inside terms b at pos end r e f = go (ltb at (length b)) refl
   where
     go : (t : Bool) → ltb at (length b) ≡ t → at < length b
     go true h = ltb-true at (length b) h
-    go false h = ok_not_err (sym f ∙ e ∙ sym (caught_out terms b at pos (omega (arith, ltb-false at (length b) h))))
+    go false h = ok_not_err (sym f ∙ e ∙ ap (scanned caught_size pos) (caught_out terms b at pos (omega (arith, ltb-false at (length b) h))))
