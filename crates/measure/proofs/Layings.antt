@@ -31,7 +31,7 @@ use Rattle.measure.specs.declared.Laid.TheVariants as laid
 use Rattle.action_fields.specs.Fields.{flat_size, owner_size, read_caught, caught_size}
 use Rattle.laws.specs.Begun.{Fields}
 use Rattle.laws.specs.Resolved.{action_size, action_trace, body_length}
-use Rattle.measure.specs.Walk.{State, state, overflow, noted_if, run, fault, outcome, branches, uncounted, measured, in_turn, in_bodies, body_tests, bodies_events, Onward, Owning, Laying, laid_by, branch_laid, noted_from, EndsFrom}
+use Rattle.measure.specs.Walk.{State, state, overflow, noted_if, run, fault, outcome, branches, uncounted, measured, in_turn, in_bodies, body_tests, bodies_events, Onward, Owning, Laying, laid_by, branch_laid, noted_from, EndsFrom, Tried}
 use Rattle.positions.proofs.Answers.{ok_not_err}
 use Rattle.action_fields.proofs.Steps.{caught_out}
 use Rattle.measure.proofs.Runs.{run_append, run_payload, run_body, noted_short, outcome_got, branches_append, branches_payload, branches_after, branches_body, measured_got}
@@ -252,3 +252,12 @@ caught_inside terms b at pos end r e f = go (ltb at (length b)) refl
     go : (t : Bool) → ltb at (length b) ≡ t → at < length b
     go true h = ltb-true at (length b) h
     go false h = ok_not_err (sym f ∙ e ∙ ap (scanned caught_size pos) (caught_out terms b at pos (omega (arith, ltb-false at (length b) h))))
+
+-- the scan of a Try, its length noted
+pub tried : (n from action : ℕ) (over over' : Option Overflow) {end : Spot} {r r' x : Result Spot code.Stop} → r ≡ x → (r' ≡ r) × (over' ≡ noted_from from action r over) → r' ≡ Ok end
+    → Tried x n from action (Ok (laid.Bodies end n)) over over'
+tried n from action over over' e h f =
+    record {
+      is_laid = ap (laid_by (λ end. laid.Bodies end n)) (sym f ∙ h.0 ∙ e);
+      is_noted = h.1 ∙ ap (λ (x : Result Spot code.Stop). noted_from from action x over) e;
+    }

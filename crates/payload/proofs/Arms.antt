@@ -1,5 +1,5 @@
 -- What each arm of the match on the opcode says of its action. Assumes nothing.
-use mathlib.Core.Path.{◌≡◌, refl, sym, ap, ◌∙◌, subst}
+use mathlib.Core.Path.{◌≡◌, refl, sym, ap, ap₂, ◌∙◌, subst}
 use Prim.Native.Nat.{ℕ, zero, suc, ◌+◌, ◌*◌, ◌≤◌, ◌<◌}
 use native.Mathlib.Omega.{arith}
 use native.Mathlib.Nat.{add-zero}
@@ -11,7 +11,7 @@ use lib.Dec.{ltb, eqb}
 use borrow.Author.Tests.{eqb-true, eqb-false, ne_eqb, le-ltb}
 use Rattle.layout.specs.Lists.{each, pick, first_with}
 use Rattle.layout.specs.OpCode.{OpCode, SmallOpCode, small_byte, byte, small_op_codes, opcodes, opcode_of}
-use Rattle.layout.specs.Tree.{FlatOf, Small, GotoFrame, GetUrl, StoreRegister, ConstantPool, WaitForFrame, SetTarget, GotoLabel, WaitForFrame2, Push, GetUrl2, GotoFrame2, OwnerOf, With, DefineFunction, DefineFunction2, Jump, If, PushValueOf, FunctionParamOf, ActionOf, flat, owner, ActionsOf, count}
+use Rattle.layout.specs.Tree.{FlatOf, GotoFrame, GetUrl, StoreRegister, ConstantPool, WaitForFrame, SetTarget, GotoLabel, WaitForFrame2, Push, GetUrl2, GotoFrame2, OwnerOf, With, DefineFunction, DefineFunction2, Jump, If, PushValueOf, FunctionParamOf, ActionOf, flat, owner, ActionsOf, count}
 use Rattle.layout.specs.Read.{Text, Terms, Place, placed, Read, got, bad, Reader, chain, tested, read_u8, read_u16, read_bytes, read_flag, read_string, read_counted, read_value, read_param, read_label, read_fields, read_fields_if}
 use Rattle.layout.specs.Strings.{map_flat, map_value, map_owner, map_action}
 use Rattle.layout.specs.Payload.{opcode, payload, headed, framed}
@@ -29,13 +29,17 @@ use Rattle.laws.proofs.Begun.{fields_next, tested_fields, u8_fields, u16_fields,
 use Rattle.positions.specs.Scanned.{fault_of, scanned}
 use Rattle.operands.specs.Operands.{string_size}
 use Rattle.lists.specs.Elements.{read_named, named_size, value_size}
-use Rattle.positions.specs.declared.Scan.{Scan}
+use Rattle.std.specs.Prelude.{Option as Answer, Result, Ok, Err}
+use Rattle.positions.specs.declared.Spot.{Spot}
+use Rattle.positions.specs.declared.Stop as code
+use Rattle.measure.specs.declared.Limit.TheVariants.{ActionLen}
+use Rattle.measure.specs.declared.Overflow.{Overflow}
 use Rattle.operands.proofs.Scans.{number_as}
 use Rattle.measure.specs.declared.Laid.{Laid}
 use Rattle.measure.specs.declared.Laid.TheVariants as laid
 use Rattle.action_fields.specs.Fields.{read_wait_for_frame, read_goto_frame2, read_get_url2, read_get_url, flat_size, read_function, read_function2, owner_size, read_caught, caught_size, bodies_after}
 use Rattle.laws.specs.Resolved.{action_size, action_trace}
-use Rattle.measure.specs.Walk.{state, noted_if, note_all, run, outcome, branches, Onward, Laying, laid_as, laid_function, branch_laid, noted_from, Tried}
+use Rattle.measure.specs.Walk.{state, overflow, noted_if, note_all, run, outcome, branches, Onward, Laying, laid_by, branch_laid, noted_from, Tried}
 use Rattle.measure.proofs.Runs.{noted_short, outcome_got, measured_got}
 use Rattle.labels.specs.Table.{record_all, recorded}
 use Rattle.positions.specs.declared.Fault.TheVariants as fault
@@ -253,93 +257,93 @@ codes = (refl, refl, refl, refl, refl, refl, refl, refl, refl, refl, refl, refl,
 
 -- ---- the arms
 
-module _ (terms : Terms) (b : List ℕ) (op at pos number : ℕ) (over : List ℕ) (r : Scan) (l : Laid) where
+module _ (terms : Terms) (b : List ℕ) (op at pos number : ℕ) (over : Answer Overflow) (r : Result Spot code.Stop) (l : Result Laid code.Stop) where
   -- the fields of the opcode at a place
-  abbrev Here : List ℕ → Type 0
+  abbrev Here : Answer Overflow → Type 0
   Here o = Laying terms.label_bound (λ inner. read_fields_if terms b inner (opcode_of op) (placed at) (placed (at + 1))) at (length b) pos number over o l
 
   abbrev fields_of : OpCode → Reader (ActionsOf Text ℕ) → Read (ActionOf Text ℕ)
   fields_of o inner = read_fields terms b inner o (placed (at + 1))
 
   -- with the opcode's name
-  abbrev Of : OpCode → List ℕ → Type 0
+  abbrev Of : OpCode → Answer Overflow → Type 0
   Of o v = Laying terms.label_bound (λ inner. read_fields terms b inner o (placed (at + 1))) at (length b) pos number over v l
 
-  named : (n : ℕ) (o : OpCode) (v : List ℕ) → opcode_of n ≡ some o → op ≡ n → Of o v → Here v
+  named : (n : ℕ) (o : OpCode) (v : Answer Overflow) → opcode_of n ≡ some o → op ≡ n → Of o v → Here v
   unfolding read_fields_if
   named n o v k e h = rw (e, k) h
 
-  pub arm_goto_frame : op ≡ 0x81 → r ≡ scanned (λ _. 0) (pos + 3 + 2) (read_bytes b 2 (placed (at + 1))) → l ≡ laid_as 0 r → Here over
+  pub arm_goto_frame : op ≡ 0x81 → r ≡ scanned (λ _. 0) (pos + 3 + 2) (read_bytes b 2 (placed (at + 1))) → l ≡ laid_by laid.Flat r → Here over
   unfolding read_fields read_bytes read_u16 flat_size map_flat payload_length opcode byte
   arm_goto_frame o e m =
       named 0x81 OpCode.GotoFrame over codes.0 o (lay_flat _ GotoFrame at (length b) pos number over (λ _. 0) (pos + 3 + 2) (λ a. omega arith) (read_u16 b (placed (at + 1))) (u16_fields b (placed (at + 1))) (λ inner. refl) (λ a q g. (refl, omega arith)) r l (e ∙ number_as _ _ _ _ _ _) m)
 
-  pub arm_get_url : (over' : List ℕ) → op ≡ 0x83 → r ≡ scanned flat_size (pos + 3) (read_get_url terms b (placed (at + 1))) → l ≡ laid_as 0 r → over' ≡ noted_from (pos + 3) number r over → Here over'
-  arm_get_url over' o e m n =
-      named 0x83 OpCode.GetUrl over' codes.1 o (lay_long (fields_of OpCode.GetUrl) (λ f. f) at (length b) pos number over flat_size (pos + 3) (λ a. refl) (read_get_url terms b (placed (at + 1))) (url_own terms b (placed (at + 1))) (url_fields terms b (placed (at + 1))) (url_long terms b (placed (at + 1))) over' r l e m n)
+  pub arm_get_url : {over' : Answer Overflow} {r' : Result Spot code.Stop} → op ≡ 0x83 → r ≡ scanned flat_size (pos + 3) (read_get_url terms b (placed (at + 1))) → (r' ≡ r) × (over' ≡ noted_from (pos + 3) number r over) → l ≡ laid_by laid.Flat r' → Here over'
+  arm_get_url {over'} o e n m =
+      named 0x83 OpCode.GetUrl over' codes.1 o (lay_long (fields_of OpCode.GetUrl) (λ f. f) at (length b) pos number over flat_size (pos + 3) (λ a. refl) (read_get_url terms b (placed (at + 1))) (url_own terms b (placed (at + 1))) (url_fields terms b (placed (at + 1))) (url_long terms b (placed (at + 1))) over' r l e (m ∙ ap (laid_by laid.Flat) n.0) n.1)
 
-  pub arm_store_register : op ≡ 0x87 → r ≡ scanned (λ _. 0) (pos + 3 + 1) (read_bytes b 1 (placed (at + 1))) → l ≡ laid_as 0 r → Here over
+  pub arm_store_register : op ≡ 0x87 → r ≡ scanned (λ _. 0) (pos + 3 + 1) (read_bytes b 1 (placed (at + 1))) → l ≡ laid_by laid.Flat r → Here over
   unfolding read_fields read_bytes read_u8 flat_size map_flat payload_length opcode byte
   arm_store_register o e m =
       named 0x87 OpCode.StoreRegister over codes.2 o (lay_flat _ StoreRegister at (length b) pos number over (λ _. 0) (pos + 3 + 1) (λ a. omega arith) (read_u8 b (placed (at + 1))) (u8_fields b (placed (at + 1))) (λ inner. refl) (λ a q g. (refl, omega arith)) r l (e ∙ number_as _ _ _ _ _ _) m)
 
-  pub arm_wait_for_frame_2 : op ≡ 0x8D → r ≡ scanned (λ _. 0) (pos + 3 + 1) (read_bytes b 1 (placed (at + 1))) → l ≡ laid_as 0 r → Here over
+  pub arm_wait_for_frame_2 : op ≡ 0x8D → r ≡ scanned (λ _. 0) (pos + 3 + 1) (read_bytes b 1 (placed (at + 1))) → l ≡ laid_by laid.Flat r → Here over
   unfolding read_fields read_bytes read_u8 flat_size map_flat payload_length opcode byte
   arm_wait_for_frame_2 o e m =
       named 0x8D OpCode.WaitForFrame2 over codes.7 o (lay_flat _ WaitForFrame2 at (length b) pos number over (λ _. 0) (pos + 3 + 1) (λ a. omega arith) (read_u8 b (placed (at + 1))) (u8_fields b (placed (at + 1))) (λ inner. refl) (λ a q g. (refl, omega arith)) r l (e ∙ number_as _ _ _ _ _ _) m)
 
-  pub arm_wait_for_frame : op ≡ 0x8A → r ≡ scanned flat_size (pos + 3) (read_wait_for_frame b (placed (at + 1))) → l ≡ laid_as 0 r → Here over
+  pub arm_wait_for_frame : op ≡ 0x8A → r ≡ scanned flat_size (pos + 3) (read_wait_for_frame b (placed (at + 1))) → l ≡ laid_by laid.Flat r → Here over
   arm_wait_for_frame o e m =
       named 0x8A OpCode.WaitForFrame over codes.4 o (lay_flat (fields_of OpCode.WaitForFrame) (λ f. f) at (length b) pos number over flat_size (pos + 3) (λ a. refl) (read_wait_for_frame b (placed (at + 1))) (wait_own b (placed (at + 1))) (wait_fields terms b (placed (at + 1))) (wait_fixed terms b (placed (at + 1))) r l e m)
 
-  pub arm_goto_frame_2 : op ≡ 0x9F → r ≡ scanned flat_size (pos + 3) (read_goto_frame2 b (placed (at + 1))) → l ≡ laid_as 0 r → Here over
+  pub arm_goto_frame_2 : op ≡ 0x9F → r ≡ scanned flat_size (pos + 3) (read_goto_frame2 b (placed (at + 1))) → l ≡ laid_by laid.Flat r → Here over
   arm_goto_frame_2 o e m =
       named 0x9F OpCode.GotoFrame2 over codes.17 o (lay_flat (fields_of OpCode.GotoFrame2) (λ f. f) at (length b) pos number over flat_size (pos + 3) (λ a. refl) (read_goto_frame2 b (placed (at + 1))) (goto_own b (placed (at + 1))) (goto_fields terms b (placed (at + 1))) (goto_fixed terms b (placed (at + 1))) r l e m)
 
-  pub arm_get_url_2 : op ≡ 0x9A → r ≡ scanned flat_size (pos + 3) (read_get_url2 b (placed (at + 1))) → l ≡ laid_as 0 r → Here over
+  pub arm_get_url_2 : op ≡ 0x9A → r ≡ scanned flat_size (pos + 3) (read_get_url2 b (placed (at + 1))) → l ≡ laid_by laid.Flat r → Here over
   arm_get_url_2 o e m =
       named 0x9A OpCode.GetUrl2 over codes.13 o (lay_flat (fields_of OpCode.GetUrl2) (λ f. f) at (length b) pos number over flat_size (pos + 3) (λ a. refl) (read_get_url2 b (placed (at + 1))) (url2_own b (placed (at + 1))) (url2_fields terms b (placed (at + 1))) (url2_fixed terms b (placed (at + 1))) r l e m)
 
-  pub arm_set_target : (over' : List ℕ) → op ≡ 0x8B → r ≡ scanned string_size (pos + 3) (read_string terms b (placed (at + 1))) → l ≡ laid_as 0 r → over' ≡ noted_from (pos + 3) number r over → Here over'
+  pub arm_set_target : {over' : Answer Overflow} {r' : Result Spot code.Stop} → op ≡ 0x8B → r ≡ scanned string_size (pos + 3) (read_string terms b (placed (at + 1))) → (r' ≡ r) × (over' ≡ noted_from (pos + 3) number r over) → l ≡ laid_by laid.Flat r' → Here over'
   unfolding read_fields flat_size map_flat payload_length opcode byte string_size string_length
-  arm_set_target over' o e m n =
-      named 0x8B OpCode.SetTarget over' codes.5 o (lay_long (fields_of OpCode.SetTarget) SetTarget at (length b) pos number over string_size (pos + 3) (λ a. omega arith) (read_string terms b (placed (at + 1))) (string_fields terms b (placed (at + 1))) (λ inner. refl) (λ a q g. refl) over' r l e m n)
+  arm_set_target {over'} o e n m =
+      named 0x8B OpCode.SetTarget over' codes.5 o (lay_long (fields_of OpCode.SetTarget) SetTarget at (length b) pos number over string_size (pos + 3) (λ a. omega arith) (read_string terms b (placed (at + 1))) (string_fields terms b (placed (at + 1))) (λ inner. refl) (λ a q g. refl) over' r l e (m ∙ ap (laid_by laid.Flat) n.0) n.1)
 
-  pub arm_goto_label : (over' : List ℕ) → op ≡ 0x8C → r ≡ scanned string_size (pos + 3) (read_string terms b (placed (at + 1))) → l ≡ laid_as 0 r → over' ≡ noted_from (pos + 3) number r over → Here over'
+  pub arm_goto_label : {over' : Answer Overflow} {r' : Result Spot code.Stop} → op ≡ 0x8C → r ≡ scanned string_size (pos + 3) (read_string terms b (placed (at + 1))) → (r' ≡ r) × (over' ≡ noted_from (pos + 3) number r over) → l ≡ laid_by laid.Flat r' → Here over'
   unfolding read_fields flat_size map_flat payload_length opcode byte string_size string_length
-  arm_goto_label over' o e m n =
-      named 0x8C OpCode.GotoLabel over' codes.6 o (lay_long (fields_of OpCode.GotoLabel) GotoLabel at (length b) pos number over string_size (pos + 3) (λ a. omega arith) (read_string terms b (placed (at + 1))) (string_fields terms b (placed (at + 1))) (λ inner. refl) (λ a q g. refl) over' r l e m n)
+  arm_goto_label {over'} o e n m =
+      named 0x8C OpCode.GotoLabel over' codes.6 o (lay_long (fields_of OpCode.GotoLabel) GotoLabel at (length b) pos number over string_size (pos + 3) (λ a. omega arith) (read_string terms b (placed (at + 1))) (string_fields terms b (placed (at + 1))) (λ inner. refl) (λ a q g. refl) over' r l e (m ∙ ap (laid_by laid.Flat) n.0) n.1)
 
   -- a list is measured from a position w on: that of an action whose list is empty
-  pub arm_constant_pool : (over' : List ℕ) (w : ℕ) → op ≡ 0x88 → w ≡ pos + 3 + 2 → r ≡ scanned (total (named_size 0)) w (read_counted b (read_named terms b 0) (placed (at + 1))) → l ≡ laid_as 0 r → over' ≡ noted_from (pos + 3) number r over
+  pub arm_constant_pool : {over' : Answer Overflow} {r' : Result Spot code.Stop} (w : ℕ) → op ≡ 0x88 → w ≡ pos + 3 + 2 → r ≡ scanned (total (named_size 0)) w (read_counted b (read_named terms b 0) (placed (at + 1))) → (r' ≡ r) × (over' ≡ noted_from (pos + 3) number r over) → l ≡ laid_by laid.Flat r'
       → Here over'
   unfolding read_fields flat_size map_flat payload_length opcode byte
-  arm_constant_pool over' w o h e m n =
+  arm_constant_pool {over'} w o h e n m =
       named 0x88 OpCode.ConstantPool over' codes.3 o (lay_long (fields_of OpCode.ConstantPool) ConstantPool at (length b) pos number over (total (λ s. named_size 0 s)) w (λ ss. omega (arith, h, strings_total ss)) (read_counted b (read_string terms b) (placed (at + 1))) (counted_fields b (read_string terms b) (string_fields terms b) (placed (at + 1))) (λ inner. refl) (λ a q g. refl) over' r l
-      (e ∙ scanned_list (λ s. s) (read_string terms b) (read_named terms b 0) (named_plain terms b) b (named_size 0) w (placed (at + 1))) m n)
+      (e ∙ scanned_list (λ s. s) (read_string terms b) (read_named terms b 0) (named_plain terms b) b (named_size 0) w (placed (at + 1))) (m ∙ ap (laid_by laid.Flat) n.0) n.1)
 
   values_total : (vs : List (PushValueOf Text)) → total value_size vs ≡ total push_length (each (map_value spelling) vs)
   unfolding total each value_size
   values_total [] = refl
   values_total (v ∷ vs) = omega (arith, values_total vs)
 
-  pub arm_push : (over' : List ℕ) (w : ℕ) → op ≡ 0x96 → w ≡ pos + 3 + 0 → r ≡ scanned (total value_size) w (read_counted b (read_value terms b) (placed (at + 1))) → l ≡ laid_as 0 r → over' ≡ noted_from (pos + 3) number r over → Here over'
+  pub arm_push : {over' : Answer Overflow} {r' : Result Spot code.Stop} (w : ℕ) → op ≡ 0x96 → w ≡ pos + 3 + 0 → r ≡ scanned (total value_size) w (read_counted b (read_value terms b) (placed (at + 1))) → (r' ≡ r) × (over' ≡ noted_from (pos + 3) number r over) → l ≡ laid_by laid.Flat r' → Here over'
   unfolding read_fields flat_size map_flat payload_length opcode byte
-  arm_push over' w o h e m n =
-      named 0x96 OpCode.Push over' codes.11 o (lay_long (fields_of OpCode.Push) Push at (length b) pos number over (total value_size) w (λ vs. omega (arith, h, values_total vs)) (read_counted b (read_value terms b) (placed (at + 1))) (counted_fields b (read_value terms b) (value_fields terms b) (placed (at + 1))) (λ inner. refl) (λ a q g. refl) over' r l e m n)
+  arm_push {over'} w o h e n m =
+      named 0x96 OpCode.Push over' codes.11 o (lay_long (fields_of OpCode.Push) Push at (length b) pos number over (total value_size) w (λ vs. omega (arith, h, values_total vs)) (read_counted b (read_value terms b) (placed (at + 1))) (counted_fields b (read_value terms b) (value_fields terms b) (placed (at + 1))) (λ inner. refl) (λ a q g. refl) over' r l e (m ∙ ap (laid_by laid.Flat) n.0) n.1)
 
   module _ (small : Bytes b) (short : WordsShort terms) (inside : at + 1 ≤ length b) where
-    pub arm_define_function : (over' : List ℕ) → op ≡ 0x9B → r ≡ scanned owner_size (pos + 3) (read_function terms b (placed (at + 1))) → l ≡ laid_function r → over' ≡ noted_from (pos + 3) number r over → Here over'
-    arm_define_function over' o e m n =
-        named 0x9B OpCode.DefineFunction over' codes.14 o (lay_function (fields_of OpCode.DefineFunction) (read_function terms b (placed (at + 1))) (function_fields terms b (placed (at + 1))) at (length b) pos number (λ x q g. (function_is terms b (placed (at + 1)) x q g, owner_onward terms b (placed (at + 1)) at x q (good_got x q (function_good terms b (placed (at + 1)) small short inside) g) refl pos)) (function_own terms b (placed (at + 1))) over over' r l e m n)
+    pub arm_define_function : {over' : Answer Overflow} {r' : Result Spot code.Stop} → op ≡ 0x9B → r ≡ scanned owner_size (pos + 3) (read_function terms b (placed (at + 1))) → (r' ≡ r) × (over' ≡ noted_from (pos + 3) number r over) → l ≡ laid_by laid.Function r' → Here over'
+    arm_define_function {over'} o e n m =
+        named 0x9B OpCode.DefineFunction over' codes.14 o (lay_function (fields_of OpCode.DefineFunction) (read_function terms b (placed (at + 1))) (function_fields terms b (placed (at + 1))) at (length b) pos number (λ x q g. (function_is terms b (placed (at + 1)) x q g, owner_onward terms b (placed (at + 1)) at x q (good_got x q (function_good terms b (placed (at + 1)) small short inside) g) refl pos)) (function_own terms b (placed (at + 1))) over over' r l e (m ∙ ap (laid_by laid.Function) n.0) n.1)
 
-    pub arm_define_function_2 : (over' : List ℕ) → op ≡ 0x8E → r ≡ scanned owner_size (pos + 3) (read_function2 terms b (placed (at + 1))) → l ≡ laid_function r → over' ≡ noted_from (pos + 3) number r over → Here over'
-    arm_define_function_2 over' o e m n =
-        named 0x8E OpCode.DefineFunction2 over' codes.8 o (lay_function (fields_of OpCode.DefineFunction2) (read_function2 terms b (placed (at + 1))) (function2_fields terms b (placed (at + 1))) at (length b) pos number (λ x q g. (function2_is terms b (placed (at + 1)) x q g, owner_onward terms b (placed (at + 1)) at x q (good_got x q (function2_good terms b (placed (at + 1)) small short inside) g) refl pos)) (function2_own terms b (placed (at + 1))) over over' r l e m n)
+    pub arm_define_function_2 : {over' : Answer Overflow} {r' : Result Spot code.Stop} → op ≡ 0x8E → r ≡ scanned owner_size (pos + 3) (read_function2 terms b (placed (at + 1))) → (r' ≡ r) × (over' ≡ noted_from (pos + 3) number r over) → l ≡ laid_by laid.Function r' → Here over'
+    arm_define_function_2 {over'} o e n m =
+        named 0x8E OpCode.DefineFunction2 over' codes.8 o (lay_function (fields_of OpCode.DefineFunction2) (read_function2 terms b (placed (at + 1))) (function2_fields terms b (placed (at + 1))) at (length b) pos number (λ x q g. (function2_is terms b (placed (at + 1)) x q g, owner_onward terms b (placed (at + 1)) at x q (good_got x q (function2_good terms b (placed (at + 1)) small short inside) g) refl pos)) (function2_own terms b (placed (at + 1))) over over' r l e (m ∙ ap (laid_by laid.Function) n.0) n.1)
 
 -- ---- branches
 
-module _ (terms : Terms) (b : List ℕ) (op at pos number : ℕ) (over : List ℕ) (l : Laid) (inside : at + 1 ≤ length b) where
+module _ (terms : Terms) (b : List ℕ) (op at pos number : ℕ) (over : Answer Overflow) (l : Result Laid code.Stop) (inside : at + 1 ≤ length b) where
   abbrev Led : Type 0
   Led = Laying terms.label_bound (λ inner. read_fields_if terms b inner (opcode_of op) (placed at) (placed (at + 1))) at (length b) pos number over over l
 
@@ -355,37 +359,41 @@ module _ (terms : Terms) (b : List ℕ) (op at pos number : ℕ) (over : List �
 
 -- ---- opcodes whose bodies follow at once, or that have no field
 
-module _ (terms : Terms) (b : List ℕ) (op at pos number : ℕ) (over : List ℕ) where
-  pub arm_try : Bytes b → WordsShort terms → at + 1 ≤ length b → (l : Laid) (over' : List ℕ) → op ≡ 0x8F
+spot_is : {s : Spot} {q w : ℕ} → s.at ≡ q → s.pos.0 ≡ w → s ≡ record { at = q; pos = record { 0 = w } }
+spot_is e f = ap₂ (λ (q w : ℕ). record { at = q; pos = record { 0 = w } }) e f
+
+module _ (terms : Terms) (b : List ℕ) (op at pos number : ℕ) (over : Answer Overflow) where
+  pub arm_try : Bytes b → WordsShort terms → at + 1 ≤ length b → (l : Result Laid code.Stop) (over' : Answer Overflow) → op ≡ 0x8F
       → Tried (scanned caught_size (pos + 3) (read_caught terms b (placed (at + 1)))) (bodies_after (get_or b (at + 1) 0)) (pos + 3) number l over over'
       → Laying terms.label_bound (λ inner. read_fields_if terms b inner (opcode_of op) (placed at) (placed (at + 1))) at (length b) pos number over over' l
   unfolding read_fields_if
   arm_try small short inside l over' o h = rw (o, codes.9) (lay_try terms b small short at (at + 1) pos number refl inside over over' l h)
 
-  pub arm_with : op ≡ 0x94 → at + 1 ≤ length b
-      → Laying terms.label_bound (λ inner. read_fields_if terms b inner (opcode_of op) (placed at) (placed (at + 1))) at (length b) pos number over over (laid.Bodies (at + 1) (record { 0 = pos + 3 + 2 }) 1)
-  unfolding read_fields_if
-  arm_with o h =
-      rw (o, codes.10) (Laying.bodies {q = at + 1} {n = 1} {w = record { 0 = pos + 3 + 2 }} (omega arith)
-      (owning (λ inner. read_fields terms b inner OpCode.With (placed (at + 1))) With (placed (at + 1)) (λ inner. unfold read_fields in refl) at (length b) pos number (record { 0 = pos + 3 + 2 }) (ap (λ (n : ℕ). pos + 3 + n) (sym with_size))
-      (record { beyond = omega arith; within = h; written = omega arith }) (λ home. home) (λ home. unfold home_in map_owner in refl) over over
-      (noted_short 8 2 number over (omega arith) ∙ ap (λ (n : ℕ). noted_if 8 n number over) (sym with_size))))
-    where
-      with_size : owner_size With ≡ 2
-      with_size = unfold owner_size map_owner owner_length in refl
+  module _ {end : Spot} (is-next : end.at ≡ at + 1) where
+    pub arm_with : op ≡ 0x94 → at + 1 ≤ length b → end.pos.0 ≡ pos + 3 + 2
+        → Laying terms.label_bound (λ inner. read_fields_if terms b inner (opcode_of op) (placed at) (placed (at + 1))) at (length b) pos number over over (Ok (laid.Bodies end 1))
+    unfolding read_fields_if
+    arm_with o h w =
+        rw (spot_is is-next w, o, codes.10) (Laying.bodies {after = record { at = at + 1; pos = record { 0 = pos + 3 + 2 } }} {n = 1} (omega arith)
+        (owning (λ inner. read_fields terms b inner OpCode.With (placed (at + 1))) With (placed (at + 1)) (λ inner. unfold read_fields in refl) at (length b) pos number (record { 0 = pos + 3 + 2 }) (ap (λ (n : ℕ). pos + 3 + n) (sym with_size))
+        (record { beyond = omega arith; within = h; written = omega arith }) (λ home. home) (λ home. unfold home_in map_owner in refl) over over
+        (noted_short (overflow ActionLen 2 number) over (omega arith) ∙ ap (λ (n : ℕ). noted_if (overflow ActionLen n number) over) (sym with_size))))
+      where
+        with_size : owner_size With ≡ 2
+        with_size = unfold owner_size map_owner owner_length in refl
 
-  pub arm_call : op ≡ 0x9E
-      → Laying terms.label_bound (λ inner. read_fields_if terms b inner (opcode_of op) (placed at) (placed (at + 1))) at (length b) pos number over over (laid.Flat (at + 1) (record { 0 = pos + 3 + 0 }))
-  unfolding read_fields_if read_fields
-  arm_call o =
-      rw (add-zero, o, codes.16) (Laying.flat {q = at + 1} {w = record { 0 = pos + 3 }} (λ inner tab home. outcome_got action_size count action_trace (position pos home number) (state tab over) refl
-      (unfold size map_action map_flat opcode payload framed headed byte small_byte le16 in refl) (unfold count in refl) (unfold trace map_action map_flat payload payload_test event_if run recorded record_all note_all in refl))
-      (λ inner home. measured_got action_size count action_trace (position pos home number) refl (unfold size map_action map_flat opcode payload framed headed byte small_byte le16 in refl) (unfold count in refl) (unfold trace map_action map_flat payload payload_test event_if branches in refl)))
+    pub arm_call : op ≡ 0x9E → end.pos.0 ≡ pos + 3
+        → Laying terms.label_bound (λ inner. read_fields_if terms b inner (opcode_of op) (placed at) (placed (at + 1))) at (length b) pos number over over (Ok (laid.Flat end))
+    unfolding read_fields_if read_fields
+    arm_call o w =
+        rw (spot_is is-next w, o, codes.16) (Laying.flat {after = record { at = at + 1; pos = record { 0 = pos + 3 } }} (λ inner tab home. outcome_got action_size count action_trace (position pos home number) (state tab over) refl
+        (unfold size map_action map_flat opcode payload framed headed byte small_byte le16 in refl) (unfold count in refl) (unfold trace map_action map_flat payload payload_test event_if run recorded record_all note_all in refl))
+        (λ inner home. measured_got action_size count action_trace (position pos home number) refl (unfold size map_action map_flat opcode payload framed headed byte small_byte le16 in refl) (unfold count in refl) (unfold trace map_action map_flat payload payload_test event_if branches in refl)))
 
   pub arm_unknown : opcode_of op ≡ none
-      → Laying terms.label_bound (λ inner. read_fields_if terms b inner (opcode_of op) (placed at) (placed (at + 1))) at (length b) pos number over over (laid.Stops fault.UnknownCode at)
+      → Laying terms.label_bound (λ inner. read_fields_if terms b inner (opcode_of op) (placed at) (placed (at + 1))) at (length b) pos number over over (Err (record { fault = fault.UnknownCode; place = at }))
   unfolding read_fields_if outcome fault_of
-  arm_unknown o = rw o (Laying.stops {f = fault.UnknownCode} {q = at} (λ inner t home. rw (add-zero number)))
+  arm_unknown o = rw o (Laying.stops {s = record { fault = fault.UnknownCode; place = at }} (λ inner t home. rw (add-zero number)))
 
 -- ---- which opcodes from 80 on are listed
 
