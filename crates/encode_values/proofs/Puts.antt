@@ -8,10 +8,7 @@ use lib.ListN.{length}
 use lib.Dec.{ltb, eqb}
 use borrow.Author.Tests.{lt-ltb, le-ltb}
 use Rattle.layout.specs.Numbers.{le16, bit}
-use Rattle.layout.specs.Lists.{pick}
-use Rattle.layout.specs.Tree.{Constant}
 use Rattle.layout.specs.Payload.{zero_ended, constant_bytes}
-use Rattle.layout.specs.Lengths.{push_length}
 use Rattle.layout.proofs.Lengths.{length-zero_ended}
 use Rattle.fields.proofs.Runs.{length_part}
 use Rattle.editions.specs.declared.MainBody.{MainBody}
@@ -37,8 +34,3 @@ low_constant n h = rw (lt-ltb n 256 h)
 pub high_constant : (n : ℕ) → 256 ≤ n → constant_bytes (ltb n 256) n ≡ 9 ∷ le16 n
 unfolding constant_bytes
 high_constant n h = rw (le-ltb n 256 h)
-
--- the length of another: a kind and two bytes
-pub high_length : (n : ℕ) → 256 ≤ n → push_length (Constant n) ≡ 3
-unfolding push_length pick
-high_length n h = rw (le-ltb n 256 h)

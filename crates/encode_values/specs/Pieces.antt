@@ -6,9 +6,9 @@ use Rattle.layout.specs.Read.{Text, placed, Read, got, bad, repeat, read_string,
 use Rattle.layout.specs.Payload.{opcode, payload, zero_ended, push_bytes, headed, framed}
 use Rattle.layout.specs.Strings.{map_value}
 use Rattle.layout.specs.Pack.{spelling}
-use Rattle.editions.specs.declared.MainBody.{MainBody}
-use Rattle.editions.specs.Allowed.{read_by}
 use Rattle.positions.specs.declared.Spot.{Spot}
+use Rattle.editions.specs.Allowed.{read_by}
+use Rattle.editions.specs.declared.MainBody.{MainBody}
 
 -- ---- what is to be written
 
