@@ -3,9 +3,14 @@
 
 ghost use Rattle.std.specs.Prelude.{◌≡◌};
 ghost use Rattle.layout.specs.Numbers.{bits64};
-ghost use Rattle.answer.specs.Answered.{refusal_number, refusal_value, refusal_action, number, value, value_by, action, faulty, uncut};
+ghost use Rattle.layout.specs.Answers.{ReadingFault, refusal_number, refusal_value, refusal_action};
+ghost use Rattle.layout.specs.Cut.{uncut};
+ghost use Rattle.cut.specs.Cuts.{refused};
+ghost use Rattle.positions.specs.Scanned.{meant as meant_fault};
+ghost use Rattle.answer.specs.Answered.{meant, number, value, value_by, action, overflow_of};
 
 use cut::CutError;
+use measure::{Limit, Overflow};
 use positions::{ActionNumber, BytePosition, Fault, Halt};
 
 // Why there is no block: the refusals of documents 01 and 02, each with its value, and 3 to 10, 14 and 15 with the number of an action;
@@ -32,9 +37,9 @@ pub enum Refusal {
 pub type Answer = Result<usize, Refusal>;
 
 impl Refusal {
-    #[tactic(auto, unfolding(crate::specs::Answered::refusal_number))]
+    #[tactic(auto, unfolding(crate::specs::Answered::meant, layout::specs::Answers::refusal_number, layout::specs::Answers::fault_number))]
     pub fn number(self) -> u32
-        ensures { result ≡ refusal_number self }
+        ensures { result ≡ refusal_number (meant self) }
     {
         match self {
             Refusal::SheetTooLong(_) => 1,
@@ -55,10 +60,10 @@ impl Refusal {
     }
 
     // The 64 bits of the value, which with the number tell it.
-    #[tactic(auto, unfolding(crate::specs::Answered::refusal_value, crate::specs::Answered::refusal_number, crate::specs::Answered::value_by, layout::specs::Numbers::bits64, layout::specs::Lists::pick), using(crate::proofs::Values::signed_bits))]
+    #[tactic(auto, unfolding(crate::specs::Answered::meant, crate::specs::Answered::value_by, layout::specs::Answers::refusal_number, layout::specs::Answers::fault_number, layout::specs::Answers::refusal_value, layout::specs::Numbers::bits64, layout::specs::Lists::pick), using(crate::proofs::Values::signed_bits))]
     pub fn value(self) -> u64
-        ensures bits { result ≡ bits64 (refusal_value self) }
-        ensures told { refusal_value self ≡ value_by (refusal_number self) result }
+        ensures bits { result ≡ bits64 (refusal_value (meant self)) }
+        ensures told { refusal_value (meant self) ≡ value_by (refusal_number (meant self)) result }
     {
         match self {
             Refusal::SheetTooLong(n) | Refusal::NoRoom(n) => n as u64,
@@ -75,9 +80,9 @@ impl Refusal {
     }
 
     // The number of the action that it names, or 0.
-    #[tactic(auto, unfolding(crate::specs::Answered::refusal_action))]
+    #[tactic(auto, unfolding(crate::specs::Answered::meant, layout::specs::Answers::refusal_action))]
     pub fn action(self) -> u64
-        ensures { result ≡ refusal_action self }
+        ensures { result ≡ refusal_action (meant self) }
     {
         match self {
             Refusal::SheetTooLong(_)
@@ -100,9 +105,9 @@ impl Refusal {
 
 // A fault, at its place in the sheet, with the action that it names.
 impl From<Halt> for Refusal {
-    ghost from_gives = { λ h r. r ≡ faulty h };
+    ghost from_gives = { λ h r. meant r ≡ ReadingFault (meant_fault h.fault) h.place h.number.0 };
 
-    #[tactic(auto, unfolding(crate::specs::Answered::faulted))]
+    #[tactic(auto, unfolding(crate::specs::Answered::meant, positions::specs::Scanned::meant))]
     fn from(h: Halt) -> Refusal {
         match h.fault {
             Fault::CutShort => Refusal::CutShort(h.place, h.number),
@@ -115,13 +120,25 @@ impl From<Halt> for Refusal {
 }
 
 impl From<CutError> for Refusal {
-    ghost from_gives = { λ e r. r ≡ uncut e };
+    ghost from_gives = { λ e r. uncut (meant r) ≡ refused e };
 
-    #[tactic(auto, unfolding(crate::specs::Answered::uncut))]
+    #[tactic(auto, unfolding(crate::specs::Answered::meant, cut::specs::Cuts::refused))]
     fn from(e: CutError) -> Refusal {
         match e {
             CutError::SheetTooLong(n) => Refusal::SheetTooLong(n),
             CutError::BadTrailer => Refusal::BadTrailer,
+        }
+    }
+}
+
+impl From<Overflow> for Refusal {
+    ghost from_gives = { λ o r. meant r ≡ overflow_of o };
+
+    #[tactic(auto, unfolding(crate::specs::Answered::meant, crate::specs::Answered::overflow_by))]
+    fn from(o: Overflow) -> Refusal {
+        match o.limit {
+            Limit::ActionLen => Refusal::ActionLenOverflow(o.len, o.action),
+            Limit::BlockLen => Refusal::BlockLenOverflow(o.len, o.action),
         }
     }
 }
