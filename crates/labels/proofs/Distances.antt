@@ -52,18 +52,16 @@ pub distance_none : (slot after : ℕ) → slot ≡ 0 → 0 ≡ bits64 (distance
 unfolding bits64 distance record_of
 distance_none slot after h = rw h
 
--- of a record at or after the branch's end
-pub distance_ahead : (slot after : ℕ) → slot < 18446744073709551616 → after < slot → slot - 1 - after ≡ bits64 (distance (record_of slot) after)
+-- of a record: the difference, wrapped
+pub distance_some : (slot after : ℕ) → (slot ≡ 0 → ⊥) → slot < 18446744073709551616 → after < 18446744073709551616
+    → (slot - 1 + (18446744073709551616 - after)) % 18446744073709551616 ≡ bits64 (distance (record_of slot) after)
 unfolding distance record_of
-distance_ahead zero after k h = absurd (omega arith)
-distance_ahead (suc n) after k h = omega (arith, bits_ahead n after (omega arith))
-
--- of a record before it
-pub distance_back : (slot after : ℕ) → (slot ≡ 0 → ⊥) → after < 18446744073709551616 → slot ≤ after
-    → 18446744073709551615 - (after - slot) ≡ bits64 (distance (record_of slot) after)
-unfolding distance record_of
-distance_back zero after z k h = absurd (z refl)
-distance_back (suc n) after z k h = omega (arith, bits_back n after (omega arith))
+distance_some zero after z k h = absurd (z refl)
+distance_some (suc n) after z k h = go (ltb n after) refl
+  where
+    go : (t : Bool) → ltb n after ≡ t → (suc n - 1 + (18446744073709551616 - after)) % 18446744073709551616 ≡ bits64 (sub_ℕ n after)
+    go true e = omega (arith, bits_back n after (ltb-true n after e), ltb-true n after e)
+    go false e = omega (arith, bits_ahead n after (ltb-false n after e), ltb-false n after e)
 
 -- ---- near and far
 

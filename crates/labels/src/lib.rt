@@ -133,22 +133,17 @@ pub fn distance(tab: &[usize], label: usize, after: BytePosition) -> u64
     requires { label < length tab.now }
     ensures { result ≡ bits64 (distance (record_at tab.now label) after.0) }
 {
-    let slot = tab[label];
+    let slot = tab[label] as u64;
     if slot == 0 {
         return 0;
     }
-    if after.0 < slot {
-        return (slot - 1 - after.0) as u64;
-    }
-    18446744073709551615 - ((after.0 - slot) as u64)
+    (slot - 1).wrapping_sub(after.0 as u64)
 }
 
 // Whether a distance of these bits is outside -32,768 to 32,767.
+#[tactic(auto, unfolding(crate::specs::Table::is_far))]
 pub fn is_far(bits: u64) -> bool
     ensures { result ≡ is_far bits }
 {
-    if bits < 32768 {
-        return false;
-    }
-    bits < 18446744073709518848
+    32767 < bits && bits < 18446744073709518848
 }
