@@ -1,8 +1,9 @@
 -- What is written of a function and of a Try before their bodies, from what the code holds of them. Assumes nothing.
-use Rattle.std.specs.Prelude.{ℕ, ◌+◌, false, List, [], ◌∷◌, ◌++◌, get_or}
+use Rattle.std.specs.Prelude.{ℕ, ◌+◌, false, Option, Some, None, List, [], ◌∷◌, ◌++◌, get_or}
 use Rattle.layout.specs.Numbers.{u16_at, le16}
-use Rattle.layout.specs.Read.{Terms, ahead, got, bad}
+use Rattle.layout.specs.Read.{ahead, got, bad}
 use Rattle.layout.specs.Payload.{zero_ended, headed}
+use Rattle.editions.specs.declared.MainBody.{MainBody}
 use Rattle.pcode.specs.declared.Function.{Function}
 use Rattle.pcode.specs.declared.CatchTarget.{CatchTarget}
 use Rattle.pcode.specs.declared.CatchTarget.TheVariants as target
@@ -16,29 +17,29 @@ function_payload name count params = (zero_ended name ++ (le16 count ++ params))
 unfoldable pub function2_payload : List ℕ → ℕ → ℕ → ℕ → List ℕ → List ℕ
 function2_payload name count registers flags params = (zero_ended name ++ (le16 count ++ (registers ∷ (le16 flags ++ params)))) ++ le16 0
 
-module _ (b e : List ℕ) where
+module _ (m : MainBody) where
   -- a catch target
-  unfoldable pub target_bytes : CatchTarget → List ℕ
-  target_bytes target.Nothing = 0 ∷ []
-  target_bytes (target.Variable s) = zero_ended (span_of b e s)
-  target_bytes (target.Register r) = r ∷ []
+  unfoldable pub target_bytes : Option CatchTarget → List ℕ
+  target_bytes None = 0 ∷ []
+  target_bytes (Some (target.Variable s)) = zero_ended (span_of m s)
+  target_bytes (Some (target.Register r)) = r ∷ []
 
   -- its name, if it has one, is held
-  unfoldable pub TargetWithin : CatchTarget → Type 0
-  TargetWithin target.Nothing = Unit {0}
-  TargetWithin (target.Variable s) = Held b e s
-  TargetWithin (target.Register r) = Unit {0}
+  unfoldable pub TargetWithin : Option CatchTarget → Type 0
+  TargetWithin None = Unit {0}
+  TargetWithin (Some (target.Variable s)) = Held m s
+  TargetWithin (Some (target.Register r)) = Unit {0}
 
-  -- a DefineFunction2 with its parameters read: the register count and the flags, which stand behind them in b, come before them
-  abbrev pub function2_of : Function → Piece → Piece
-  function2_of f (got q r) = got (headed false 0x8E (function2_payload (span_of b e f.name) f.count (get_or b r.at 0) (u16_at b (r.at + 1)) q)) (ahead 3 r)
-  function2_of f (bad g r) = bad g r
-
-module _ (terms : Terms) (b e : List ℕ) where
   -- a DefineFunction, whose body's length is still 0
   abbrev pub function : Function → Piece
-  function f = written (λ q. headed false 0x9B (function_payload (span_of b e f.name) f.count q)) (strings_at terms b f.count f.at)
+  function f = written (λ q. headed false 0x9B (function_payload (span_of m f.name) f.count q)) (strings_at m f.count f.at)
+
+  -- a DefineFunction2 with its parameters read: the register count and the flags, which stand behind them in the main body, come
+  -- before them
+  abbrev pub function2_of : Function → Piece → Piece
+  function2_of f (got q r) = got (headed false 0x8E (function2_payload (span_of m f.name) f.count (get_or m.b.now r.at 0) (u16_at m.b.now (r.at + 1)) q)) (ahead 3 r)
+  function2_of f (bad g r) = bad g r
 
   -- a DefineFunction2, whose body's length is still 0
   abbrev pub function2 : Function → Piece
-  function2 f = function2_of b e f (params_at terms b f.count f.at)
+  function2 f = function2_of f (params_at m f.count f.at)

@@ -1,149 +1,109 @@
-// What is written of a function and of a Try before their bodies, as source 000's ActionEncoder does, over a lent output. `b` is the
-// main body, `words` and `index` are of the book, `pos` is a position in the block and `next` the place in the main body after what
-// is written.
+// What is written of a function and of a Try before their bodies, as source 000's ActionEncoder does, over a lent output. The header
+// comes last: only then is its length known. The lengths of the bodies are 0 for now.
 #![tactic(auto)]
 
 ghost use Rattle.std.specs.Prelude.{◌≤◌, length};
 ghost use Rattle.layout.specs.Payload.{try_payload};
 ghost use Rattle.pcode.specs.Shown.{Held};
 ghost use Rattle.encode_values.specs.Pieces.{piece, action, next_of, Room, Put};
-ghost use Rattle.editions.specs.Allowed.{terms_of};
 ghost use Rattle.encode_owners.specs.Payloads.{target_bytes, TargetWithin, function, function2};
 
-use editions::Terms;
-use encode_values::{write_byte, write_params, write_strings, write_text};
+use editions::MainBody;
+use encode_values::{Params, Strings, string_of, write_list, write_piece};
 use fields::u16_at;
 use opcode::OpCode;
 use pcode::{CatchTarget, Function};
-use positions::{BytePosition, Ends};
-use stores::{write_u8, write_u16};
+use positions::{BytePosition, Spot};
+use stores::{Low16, Store};
 use writer::write_action_header;
 
-// The body's length is the payload's last two bytes, 0 for now. The header comes last, here and below: only then is its length known.
-pub fn write_define_function<'a>(
+// A name, the parameters and the body's length.
+pub fn write_define_function(
     out: &mut [u8],
+    m: &MainBody<'_>,
     pos: BytePosition,
-    b: &'a [u8],
-    words: &'a [u8],
-    index: &[u32],
-    terms: Terms,
     f: Function,
-) -> Ends
-    requires { Held b.now words.now f.name × Room (function (terms_of terms words.now index.now) b.now words.now f) pos.0 out.old }
-    ensures { Put (function (terms_of terms words.now index.now) b.now words.now f) pos.0 out.old out.new result }
+) -> Spot
+    requires { Held m.now f.name × Room (function m.now f) pos.0 out.old }
+    ensures { Put (function m.now f) pos.0 out.old out.new result }
 {
-    let name = f.name;
     let start = pos.0 + OpCode::HEADER_LEN;
-    write_text(out, start, b, words, name);
-    let w = start + OpCode::string_len(name.len);
-    write_u16(out, w, f.count);
-    let params = w + 2;
-    let e = write_strings(
-        out,
-        BytePosition(params),
-        b,
-        words,
-        index,
-        terms,
-        f.count,
-        f.at,
-    );
-    write_u16(out, e.pos.0, 0);
-    let len = OpCode::define_function_len(name.len, e.pos.0 - params);
-    write_action_header(out, pos, OpCode::DEFINE_FUNCTION, len);
-    Ends {
-        next: e.next,
-        pos: BytePosition(start + len),
+    let params = Spot {
+        at: f.at,
+        pos: BytePosition((string_of(m, f.name), Low16(f.count)).store(out, start)),
+    };
+    let e = write_list::<Strings>(out, m, f.count, params);
+    let end = Low16(0).store(out, e.pos.0);
+    write_action_header(out, pos, OpCode::DEFINE_FUNCTION, end - start);
+    Spot {
+        at: e.at,
+        pos: BytePosition(end),
     }
 }
 
-// Registers and flags stand behind the parameters in the main body, and before them in the block.
-pub fn write_define_function_2<'a>(
+// The same with registers and flags, which stand behind the parameters in the main body, and before them in the block: so the
+// parameters, which say where, are written first.
+pub fn write_define_function_2(
     out: &mut [u8],
+    m: &MainBody<'_>,
     pos: BytePosition,
-    b: &'a [u8],
-    words: &'a [u8],
-    index: &[u32],
-    terms: Terms,
     f: Function,
-) -> Ends
-    requires { Held b.now words.now f.name × (next_of (function2 (terms_of terms words.now index.now) b.now words.now f) ≤ length b.now) × Room (function2 (terms_of terms words.now index.now) b.now words.now f) pos.0 out.old }
-    ensures { Put (function2 (terms_of terms words.now index.now) b.now words.now f) pos.0 out.old out.new result }
+) -> Spot
+    requires { Held m.now f.name × (next_of (function2 m.now f) ≤ length m.now.b.now) × Room (function2 m.now f) pos.0 out.old }
+    ensures { Put (function2 m.now f) pos.0 out.old out.new result }
 {
-    let name = f.name;
     let start = pos.0 + OpCode::HEADER_LEN;
-    write_text(out, start, b, words, name);
-    let w = start + OpCode::string_len(name.len);
-    write_u16(out, w, f.count);
-    let params = w + 5;
-    let e = write_params(
-        out,
-        BytePosition(params),
-        b,
-        words,
-        index,
-        terms,
-        f.count,
-        f.at,
-    );
-    let registers = e.next;
-    write_u8(out, w + 2, b[registers]);
-    write_u16(out, w + 3, u16_at(b, registers + 1));
-    write_u16(out, e.pos.0, 0);
-    let len = OpCode::define_function_2_len(name.len, e.pos.0 - params);
-    write_action_header(out, pos, OpCode::DEFINE_FUNCTION2, len);
-    Ends {
-        next: registers + 3,
-        pos: BytePosition(start + len),
+    let fields = (string_of(m, f.name), Low16(f.count)).store(out, start);
+    let params = Spot {
+        at: f.at,
+        pos: BytePosition(fields + 3),
+    };
+    let e = write_list::<Params>(out, m, f.count, params);
+    let flags = Low16(u16_at(m.b, e.at + 1));
+    (m.b[e.at], flags).store(out, fields);
+    let end = Low16(0).store(out, e.pos.0);
+    write_action_header(out, pos, OpCode::DEFINE_FUNCTION2, end - start);
+    Spot {
+        at: e.at + 3,
+        pos: BytePosition(end),
     }
 }
 
 // A name, a register, or one zero byte.
-fn write_catch_target<'a>(
+#[tactic(auto, unfolding(crate::specs::Payloads::target_bytes, crate::specs::Payloads::TargetWithin))]
+fn write_catch_target(
     out: &mut [u8],
+    m: &MainBody<'_>,
     pos: BytePosition,
-    b: &'a [u8],
-    words: &'a [u8],
-    t: CatchTarget,
+    t: Option<CatchTarget>,
     next: usize,
-) -> Ends
-    requires { TargetWithin b.now words.now t × Room (piece (target_bytes b.now words.now t) next) pos.0 out.old }
-    ensures { Put (piece (target_bytes b.now words.now t) next) pos.0 out.old out.new result }
+) -> Spot
+    requires { TargetWithin m.now t × Room (piece (target_bytes m.now t) next) pos.0 out.old }
+    ensures { Put (piece (target_bytes m.now t) next) pos.0 out.old out.new result }
 {
     match t {
-        CatchTarget::Nothing => write_byte(out, pos, 0, next),
-        CatchTarget::Variable(s) => {
-            write_text(out, pos.0, b, words, s);
-            Ends {
-                next,
-                pos: BytePosition(pos.0 + OpCode::string_len(s.len)),
-            }
-        }
-        CatchTarget::Register(r) => write_byte(out, pos, r, next),
+        None => write_piece(out, pos, 0u8, next),
+        Some(CatchTarget::Variable(s)) => write_piece(out, pos, string_of(m, s), next),
+        Some(CatchTarget::Register(r)) => write_piece(out, pos, r, next),
     }
 }
 
-// The lengths of the three bodies are 0 for now.
-pub fn write_try<'a>(
+// A shape, the lengths of three bodies and a catch target.
+pub fn write_try(
     out: &mut [u8],
+    m: &MainBody<'_>,
     pos: BytePosition,
-    b: &'a [u8],
-    words: &'a [u8],
     shape: u8,
-    t: CatchTarget,
+    t: Option<CatchTarget>,
     next: usize,
-) -> Ends
-    requires { TargetWithin b.now words.now t × Room (action 0x8F (try_payload shape 0 0 0 (target_bytes b.now words.now t)) next) pos.0 out.old }
-    ensures { Put (action 0x8F (try_payload shape 0 0 0 (target_bytes b.now words.now t)) next) pos.0 out.old out.new result }
+) -> Spot
+    requires { TargetWithin m.now t × Room (action 0x8F (try_payload shape 0 0 0 (target_bytes m.now t)) next) pos.0 out.old }
+    ensures { Put (action 0x8F (try_payload shape 0 0 0 (target_bytes m.now t)) next) pos.0 out.old out.new result }
 {
     let start = pos.0 + OpCode::HEADER_LEN;
-    write_u8(out, start, shape);
-    write_u16(out, start + 1, 0);
-    write_u16(out, start + 3, 0);
-    write_u16(out, start + 5, 0);
-    let target = start + OpCode::try_len(0);
-    let e = write_catch_target(out, BytePosition(target), b, words, t, next);
-    let len = OpCode::try_len(e.pos.0 - target);
-    write_action_header(out, pos, OpCode::TRY, len);
-    e
+    let lengths = (Low16(0), (Low16(0), Low16(0)));
+    let target = (shape, lengths).store(out, start);
+    let end = write_catch_target(out, m, BytePosition(target), t, next);
+    write_action_header(out, pos, OpCode::TRY, end.pos.0 - start);
+    end
 }

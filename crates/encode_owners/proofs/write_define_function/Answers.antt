@@ -1,61 +1,28 @@
--- `encode_owners::write_define_function` meets its contract: the fields, the parameters and then the header before them are one run. Assumes nothing.
-use mathlib.Core.Path.{◌∙◌}
+-- `write_define_function` meets its contract: the fields, the parameters and then the header before them are one run. Assumes nothing.
 use native.Mathlib.Omega.{arith}
-use Rattle.editions.specs.Allowed.{terms_of}
-use Rattle.encode_owners.proofs.Wholes as wholes
+use Rattle.layout.specs.Numbers.{le16}
+use Rattle.encode_owners.proofs.Wholes.{function_space, function_room, function_put}
 use Rattle.encode_owners.proofs.write_define_function.Goals as goal
 
-pub write_text-requires : goal.write_text-requires
-write_text-requires c =
-    let h = wholes.function_space (terms_of c.args.terms c.args.words.now c.args.index.now) c.args.b.now c.args.words.now c.args.f c.requires.0 c.requires.1 in
-    (c.requires.0, omega arith)
+pub store-requires : goal.store-requires
+store-requires c = rw c.string_of.ensures (omega (arith, function_space c.args.m.now c.args.f c.requires.1))
 
-pub string_len-requires : goal.string_len-requires
-string_len-requires c =
-    let h = wholes.function_space (terms_of c.args.terms c.args.words.now c.args.index.now) c.args.b.now c.args.words.now c.args.f c.requires.0 c.requires.1 in
-    omega arith
+pub write_list-e-requires : goal.write_list-e-requires
+write_list-e-requires c = function_room c.args.m.now c.args.f c.requires.1 (rw c.string_of.ensures at c.store.ensures.end) c.store.auto.out
 
-pub overflow_add-w : goal.overflow_add-w
-overflow_add-w c =
-    let h = wholes.function_space (terms_of c.args.terms c.args.words.now c.args.index.now) c.args.b.now c.args.words.now c.args.f c.requires.0 c.requires.1 in
-    omega (arith, c.requires.1.sums, c.string_len.ensures)
-
-pub write_u16-requires : goal.write_u16-requires
-write_u16-requires c =
-    let h = wholes.function_space (terms_of c.args.terms c.args.words.now c.args.index.now) c.args.b.now c.args.words.now c.args.f c.requires.0 c.requires.1 in
-    omega (arith, c.write_text.auto.out)
-
-pub overflow_add-params : goal.overflow_add-params
-overflow_add-params c =
-    let h = wholes.function_space (terms_of c.args.terms c.args.words.now c.args.index.now) c.args.b.now c.args.words.now c.args.f c.requires.0 c.requires.1 in
-    omega (arith, c.requires.1.sums, c.string_len.ensures)
-
-pub write_strings-e-requires : goal.write_strings-e-requires
-write_strings-e-requires c =
-    let p = c.requires in
-    wholes.function_room _ _ c.args.words.now c.args.f p.0 p.1 (omega (arith, c.string_len.ensures)) (c.write_u16.auto.out ∙ c.write_text.auto.out)
-
-pub write_u16-requires-2 : goal.write_u16-requires-2
-write_u16-requires-2 c =
-    let h = wholes.function_space (terms_of c.args.terms c.args.words.now c.args.index.now) c.args.b.now c.args.words.now c.args.f c.requires.0 c.requires.1 in
-    omega (arith, c.write_strings-e.ensures.end, c.write_strings-e.auto.out, c.write_u16.auto.out, c.write_text.auto.out)
-
-pub define_function_len-len-requires : goal.define_function_len-len-requires
-define_function_len-len-requires c =
-    let h = wholes.function_space (terms_of c.args.terms c.args.words.now c.args.index.now) c.args.b.now c.args.words.now c.args.f c.requires.0 c.requires.1 in
-    (omega arith, omega (arith, c.write_strings-e.ensures.end))
+pub store-end-requires : goal.store-end-requires
+unfolding le16
+store-end-requires c =
+    let h = rw c.string_of.ensures at c.store.ensures.end in
+    omega (arith, function_space c.args.m.now c.args.f c.requires.1, c.write_list-e.ensures.end, c.write_list-e.auto.out, c.store.auto.out)
 
 pub write_action_header-requires : goal.write_action_header-requires
 write_action_header-requires c =
-    let h = wholes.function_space (terms_of c.args.terms c.args.words.now c.args.index.now) c.args.b.now c.args.words.now c.args.f c.requires.0 c.requires.1 in
-    omega (arith, c.write_u16-2.auto.out, c.write_strings-e.auto.out, c.write_u16.auto.out, c.write_text.auto.out)
-
-pub overflow_add-result : goal.overflow_add-result
-overflow_add-result c =
-    let h = wholes.function_space (terms_of c.args.terms c.args.words.now c.args.index.now) c.args.b.now c.args.words.now c.args.f c.requires.0 c.requires.1 in
-    omega (arith, c.write_strings-e.ensures.end, c.define_function_len-len.ensures)
+    omega (arith, function_space c.args.m.now c.args.f c.requires.1, c.store-end.auto.out, c.write_list-e.auto.out, c.store.auto.out)
 
 pub returns : goal.returns
+unfolding le16
 returns c =
-    let p = c.requires in
-    wholes.function_put _ _ c.args.words.now c.args.f p.0 p.1 (omega (arith, c.string_len.ensures)) c.write_text.ensures c.write_u16.ensures c.write_strings-e.ensures c.write_u16-2.ensures c.define_function_len-len.ensures c.write_action_header.ensures.1
+    let s = c.store.ensures in
+    let e = c.string_of.ensures in
+    function_put c.args.m.now c.args.f c.requires.1 (rw e at s.end) (rw e at s.wrote) c.write_list-e.ensures c.store-end.ensures.wrote c.store-end.ensures.end c.write_action_header.ensures.1

@@ -1,94 +1,39 @@
--- `encode_owners::write_define_function_2` meets its contract: the parameters, the fields before them and then the header before these are one run. Assumes nothing.
-use mathlib.Core.Path.{◌∙◌}
+-- `write_define_function_2` meets its contract: the parameters, the fields before them and then the header before these are one run. Assumes nothing.
 use native.Mathlib.Omega.{arith}
-use Rattle.editions.specs.Allowed.{terms_of}
-use Rattle.encode_owners.proofs.Wholes as wholes
+use Rattle.layout.specs.Numbers.{le16}
+use Rattle.encode_owners.proofs.Wholes.{function2_space, function2_room, function2_put}
 use Rattle.encode_owners.proofs.write_define_function_2.Goals as goal
 
-pub write_text-requires : goal.write_text-requires
-write_text-requires c =
-    let h = wholes.function2_space (terms_of c.args.terms c.args.words.now c.args.index.now) c.args.b.now c.args.words.now c.args.f c.requires.0 c.requires.2 in
-    (c.requires.0, omega arith)
-
-pub string_len-requires : goal.string_len-requires
-string_len-requires c =
-    let h = wholes.function2_space (terms_of c.args.terms c.args.words.now c.args.index.now) c.args.b.now c.args.words.now c.args.f c.requires.0 c.requires.2 in
-    omega arith
-
-pub overflow_add-w : goal.overflow_add-w
-overflow_add-w c =
-    let h = wholes.function2_space (terms_of c.args.terms c.args.words.now c.args.index.now) c.args.b.now c.args.words.now c.args.f c.requires.0 c.requires.2 in
-    omega (arith, c.requires.2.sums, c.string_len.ensures)
-
-pub write_u16-requires : goal.write_u16-requires
-write_u16-requires c =
-    let h = wholes.function2_space (terms_of c.args.terms c.args.words.now c.args.index.now) c.args.b.now c.args.words.now c.args.f c.requires.0 c.requires.2 in
-    omega (arith, c.write_text.auto.out)
+pub store-fields-requires : goal.store-fields-requires
+store-fields-requires c = rw c.string_of.ensures (omega (arith, function2_space c.args.m.now c.args.f c.requires.2))
 
 pub overflow_add-params : goal.overflow_add-params
 overflow_add-params c =
-    let h = wholes.function2_space (terms_of c.args.terms c.args.words.now c.args.index.now) c.args.b.now c.args.words.now c.args.f c.requires.0 c.requires.2 in
-    omega (arith, c.requires.2.sums, c.string_len.ensures)
+    let h = rw c.string_of.ensures at c.store-fields.ensures.end in
+    omega (arith, function2_space c.args.m.now c.args.f c.requires.2, c.requires.2.sums)
 
-pub write_params-e-requires : goal.write_params-e-requires
-write_params-e-requires c =
-    let p = c.requires in
-    wholes.function2_room _ _ c.args.words.now c.args.f p.0 p.2 (omega (arith, c.string_len.ensures)) (c.write_u16.auto.out ∙ c.write_text.auto.out)
+pub write_list-e-requires : goal.write_list-e-requires
+write_list-e-requires c = function2_room c.args.m.now c.args.f c.requires.2 (rw c.string_of.ensures at c.store-fields.ensures.end) c.store-fields.auto.out
 
-pub bounds-b-registers : goal.bounds-b-registers
-bounds-b-registers c =
-    let h = wholes.function2_inside (terms_of c.args.terms c.args.words.now c.args.index.now) c.args.b.now c.args.words.now c.args.f c.requires.0 c.requires.2 c.requires.1 in
-    omega (arith, c.write_params-e.ensures.next)
+pub store-requires : goal.store-requires
+unfolding le16
+store-requires c =
+    let h = rw c.string_of.ensures at c.store-fields.ensures.end in
+    omega (arith, function2_space c.args.m.now c.args.f c.requires.2, c.write_list-e.auto.out, c.store-fields.auto.out)
 
-pub write_u8-requires : goal.write_u8-requires
-write_u8-requires c =
-    let h = wholes.function2_space (terms_of c.args.terms c.args.words.now c.args.index.now) c.args.b.now c.args.words.now c.args.f c.requires.0 c.requires.2 in
-    omega (arith, c.write_params-e.auto.out, c.write_u16.auto.out, c.write_text.auto.out)
-
-pub overflow_add-registers : goal.overflow_add-registers
-overflow_add-registers c =
-    let h = wholes.function2_inside (terms_of c.args.terms c.args.words.now c.args.index.now) c.args.b.now c.args.words.now c.args.f c.requires.0 c.requires.2 c.requires.1 in
-    omega (arith, c.write_params-e.ensures.next)
-
-pub u16_at-requires : goal.u16_at-requires
-u16_at-requires c =
-    let h = wholes.function2_inside (terms_of c.args.terms c.args.words.now c.args.index.now) c.args.b.now c.args.words.now c.args.f c.requires.0 c.requires.2 c.requires.1 in
-    omega (arith, c.write_params-e.ensures.next)
-
-pub write_u16-requires-2 : goal.write_u16-requires-2
-write_u16-requires-2 c =
-    let h = wholes.function2_space (terms_of c.args.terms c.args.words.now c.args.index.now) c.args.b.now c.args.words.now c.args.f c.requires.0 c.requires.2 in
-    omega (arith, c.string_len.ensures, c.write_u8.auto.out, c.write_params-e.auto.out, c.write_u16.auto.out, c.write_text.auto.out)
-
-pub write_u16-requires-3 : goal.write_u16-requires-3
-write_u16-requires-3 c =
-    let h = wholes.function2_space (terms_of c.args.terms c.args.words.now c.args.index.now) c.args.b.now c.args.words.now c.args.f c.requires.0 c.requires.2 in
-    omega (arith, c.string_len.ensures, c.write_params-e.ensures.end, c.write_u16-2.auto.out, c.write_u8.auto.out, c.write_params-e.auto.out, c.write_u16.auto.out, c.write_text.auto.out)
-
-pub define_function_2_len-len-requires : goal.define_function_2_len-len-requires
-define_function_2_len-len-requires c =
-    let h = wholes.function2_space (terms_of c.args.terms c.args.words.now c.args.index.now) c.args.b.now c.args.words.now c.args.f c.requires.0 c.requires.2 in
-    (omega arith, omega (arith, c.string_len.ensures, c.write_params-e.ensures.end))
+pub store-end-requires : goal.store-end-requires
+unfolding le16
+store-end-requires c =
+    let h = rw c.string_of.ensures at c.store-fields.ensures.end in
+    omega (arith, function2_space c.args.m.now c.args.f c.requires.2, c.write_list-e.ensures.end, c.store.auto.out, c.write_list-e.auto.out, c.store-fields.auto.out)
 
 pub write_action_header-requires : goal.write_action_header-requires
 write_action_header-requires c =
-    let h = wholes.function2_space (terms_of c.args.terms c.args.words.now c.args.index.now) c.args.b.now c.args.words.now c.args.f c.requires.0 c.requires.2 in
-    omega (arith, c.write_u16-3.auto.out, c.write_u16-2.auto.out, c.write_u8.auto.out, c.write_params-e.auto.out, c.write_u16.auto.out, c.write_text.auto.out)
-
-pub overflow_add-result : goal.overflow_add-result
-overflow_add-result c =
-    let h = wholes.function2_inside (terms_of c.args.terms c.args.words.now c.args.index.now) c.args.b.now c.args.words.now c.args.f c.requires.0 c.requires.2 c.requires.1 in
-    omega (arith, c.write_params-e.ensures.next)
-
-pub overflow_add-result-2 : goal.overflow_add-result-2
-overflow_add-result-2 c =
-    let h = wholes.function2_space (terms_of c.args.terms c.args.words.now c.args.index.now) c.args.b.now c.args.words.now c.args.f c.requires.0 c.requires.2 in
-    omega (arith, c.string_len.ensures, c.write_params-e.ensures.end, c.define_function_2_len-len.ensures)
-
-pub shape_of-out : goal.shape_of-out
-shape_of-out c = c.write_action_header.auto.out ∙ c.write_u16-3.auto.out ∙ c.write_u16-2.auto.out ∙ c.write_u8.auto.out ∙ c.write_params-e.auto.out ∙ c.write_u16.auto.out ∙ c.write_text.auto.out
+    omega (arith, function2_space c.args.m.now c.args.f c.requires.2, c.store-end.auto.out, c.store.auto.out, c.write_list-e.auto.out, c.store-fields.auto.out)
 
 pub returns : goal.returns
+unfolding le16
 returns c =
-    let p = c.requires in
-    wholes.function2_put _ _ c.args.words.now c.args.f p.0 p.2 (omega (arith, c.string_len.ensures)) c.write_text.ensures c.write_u16.ensures c.write_params-e.ensures c.write_u8.ensures c.u16_at.ensures.0 c.write_u16-2.ensures c.write_u16-3.ensures c.define_function_2_len-len.ensures c.write_action_header.ensures.1
+    let s = c.store-fields.ensures in
+    let e = c.string_of.ensures in
+    function2_put c.args.m.now c.args.f c.requires.2 (rw e at s.end) (rw e at s.wrote) c.write_list-e.ensures c.u16_at.ensures.0 c.store.ensures.wrote c.store-end.ensures.wrote c.store-end.ensures.end c.write_action_header.ensures.1
