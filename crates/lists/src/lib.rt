@@ -28,11 +28,7 @@ pub fn scan_strings(m: &MainBody<'_>, from: Spot, skip: usize) -> Scan
     ensures { result ≡ scanned (total (named_size skip)) from.pos.0 (read_counted m.now.b.now (read_named (read_by m.now) m.now.b.now skip) (placed from.at)) }
 {
     let n = read_u16(m, from.at)?;
-    let mut to = after(from, 2, 0);
-    for _ in 0..n {
-        to = scan_named(m, to, skip)?;
-    }
-    Ok(to)
+    (0..n).try_fold(after(from, 2, 0), |to, _| scan_named(m, to, skip))
 }
 
 // A constant's number; what is measured has its kind too.
@@ -67,9 +63,5 @@ pub fn scan_push(m: &MainBody<'_>, from: Spot) -> Scan
     ensures { result ≡ scanned (total value_size) from.pos.0 (read_counted m.now.b.now (read_value (read_by m.now) m.now.b.now) (placed from.at)) }
 {
     let n = read_u16(m, from.at)?;
-    let mut to = after(from, 2, 0);
-    for _ in 0..n {
-        to = scan_push_value(m, to)?;
-    }
-    Ok(to)
+    (0..n).try_fold(after(from, 2, 0), |to, _| scan_push_value(m, to))
 }
