@@ -1,19 +1,21 @@
 -- Laws of the actions of a few bytes: their bytes by what the code tests. Assumes nothing.
-use mathlib.Core.Path.{◌≡◌, refl}
+use mathlib.Core.Path.{◌≡◌, refl, sym, ap, ◌∙◌}
 use Prim.Native.Nat.{ℕ, zero, suc, ◌+◌, ◌-◌, ◌*◌, ◌%◌, ◌≤◌, ◌<◌}
 use native.Mathlib.Omega.{arith}
 use mathlib.Core.Bool.{Bool, true, false, ◌&&◌}
 use mathlib.Core.Option.{none, some}
-use mathlib.Core.List.{[], ◌∷◌}
+use mathlib.Core.List.{List, [], ◌∷◌}
+use lib.ListN.{get_or}
 use lib.Dec.{leb, ltb, eqb}
 use borrow.Author.Tests.{lt-ltb, le-ltb, ltb-true, ltb-false, leb-true}
 use Rattle.layout.specs.Numbers.{le16, bits64}
 use Rattle.layout.specs.Tree.{GetUrl2, GotoFrame2}
 use Rattle.layout.specs.Payload.{payload, get_url2_bits, goto_frame2_bytes, headed}
-use Rattle.layout.specs.Lengths.{goto_frame2_length}
 use Rattle.layout.specs.Write.{position, distance_bits}
 use Rattle.layout.specs.Judge.{judged, distance, is_near, far_unless}
-use Rattle.labels.specs.Table.{record_of}
+use Rattle.labels.specs.Table.{record_of, record_at}
+use Rattle.encode_flat.specs.Branches.{table_bits}
+use Rattle.stores.proofs.Stores.{le16_low}
 use Rattle.labels.proofs.Distances.{distance_ahead, distance_back}
 use Rattle.encode_values.proofs.Puts.{bit_is}
 
@@ -58,10 +60,11 @@ near_bits (suc n) end bits h j e = go (leb n (end + 32767)) (leb end (n + 32768)
         let z : ◌≡◌ {A = ℕ} 0 1 = unfold far_unless in cc in
         absurd (omega arith)
 
--- the same where the code has this position as `after`
-pub branch_bits : (slot end after bits : ℕ) → after ≡ end → end ≤ 1099511627776 → judged (record_of slot) end 0 ≡ none → bits ≡ bits64 (distance (record_of slot) after)
-    → bits % 65536 ≡ distance_bits (record_of slot) end
-branch_bits slot end after bits k h j e = near_bits slot end bits h j (rw k at e)
+-- the same as they are written, by the label table, where the code has this position as `after`
+pub branch_bits : (tab : List ℕ) (label end after bits : ℕ) → after ≡ end → end ≤ 1099511627776 → judged (record_at tab label) end 0 ≡ none → bits ≡ bits64 (distance (record_at tab label) after)
+    → le16 bits ≡ le16 (table_bits tab label end)
+unfolding table_bits
+branch_bits tab label end after bits k h j e = sym (le16_low bits) ∙ ap le16 (near_bits (get_or tab label 0) end bits h j (rw k at e))
 
 -- ---- flags
 
@@ -79,9 +82,3 @@ pub some_bias : (n k : ℕ) → k < 2 → (n ≡ 0 → ⊥) → payload (GotoFra
 unfolding payload goto_frame2_bytes
 some_bias zero k h e = absurd (e refl)
 some_bias (suc n) k h e = rw (bit_is k h)
-
--- the length of one with a bias
-pub bias_length : (n : ℕ) → (n ≡ 0 → ⊥) → goto_frame2_length n ≡ 3
-unfolding goto_frame2_length
-bias_length zero e = absurd (e refl)
-bias_length (suc n) e = refl

@@ -24,6 +24,14 @@ filled l vs e = sets-eq vs l 0 (omega arith) ∙ ap (λ (n : ℕ). vs ++ drop n 
     over : length vs ≡ length l → 0 + length vs ≡ length l
     over e = omega arith
 
+-- The bytes of a number are those of its low sixteen bits.
+pub le16_low : (n : ℕ) → le16 (n % 65536) ≡ le16 n
+unfolding le16
+le16_low n =
+    let low : n % 65536 % 256 ≡ n % 256 = omega arith in
+    let high : n % 65536 / 256 % 256 ≡ n / 256 % 256 = omega arith in
+    rw (low, high)
+
 -- A u32 is its low half and its high half.
 pub le32_halves : (n : ℕ) → n < 4294967296 → le16 (n % 65536) ++ le16 (n / 65536) ≡ le32 n
 unfolding le32
