@@ -5,8 +5,7 @@
 ghost use Rattle.std.specs.Prelude.{◌≡◌, length};
 ghost use Rattle.print_text.specs.Pieces.{Room};
 
-use fields::u32_at;
-use patterns::unroll;
+use patterns::{Patterns, unroll};
 use print::{text_buffer, write_text};
 use std::io;
 use std::io::{BufWriter, Read, Write};
@@ -21,16 +20,12 @@ fn answer_all<W: Write>(
 ) -> io::Result<()>
     requires { (length space.old ≡ 65536) × (length out.old ≡ 65536) × Room 196651 0 text.old }
 {
-    let mut p = 0;
-    while p + 4 <= input.len() {
-        let n = u32_at(input, p) as usize;
-        p += 4;
-        if input.len() - p < n {
+    for pattern in Patterns(input) {
+        let Some(pattern) = pattern else {
             return Ok(());
-        }
-        let length = unroll(&input[p..p + n], space);
+        };
+        let length = unroll(pattern, space);
         write_text(&space[..length], out, text, writer)?;
-        p += n;
     }
     Ok(())
 }

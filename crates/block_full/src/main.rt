@@ -1,4 +1,4 @@
-// The block program: reads a sheet from standard input, packs it, and prints its answer and its block.
+// The block program once more, on an input that fills its buffer: a program is run on one standard input alone.
 #![tactic(auto)]
 
 use print::answer_reader;

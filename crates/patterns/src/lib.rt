@@ -2,24 +2,42 @@
 // which fill the run again and again.
 #![tactic(auto)]
 
+ghost use Rattle.std.specs.Prelude.{length};
+ghost use Rattle.std.specs.Iterator.{at_most};
 ghost use Rattle.io.specs.Counts.{IsPrefixLen};
 
-use fields::{u16_at, u32_at};
+// A run, and the bytes that fill it again and again.
+#[derive(Clone, Copy)]
+struct Run<'a> {
+    length: usize,
+    bytes: &'a [u8],
+}
 
-// Puts the bytes into the space from a place on, again and again, as far as `end`.
-fn put_run(bytes: &[u8], space: &mut [u8], at: usize, end: usize) {
-    if bytes.len() == 0 {
-        return;
+// The runs of a pattern, as far as they are all there.
+#[derive(Drop)]
+struct Runs<'a>(&'a [u8]);
+
+impl<'a> Iterator for Runs<'a> {
+    type Item = Run<'a>;
+
+    ghost remaining = { λ s. at_most (length s.0.now) };
+
+    fn next(&mut self) -> Option<Run<'a>> {
+        let (length, rest) = self.0.split_first_chunk::<4>()?;
+        let (n, rest) = rest.split_first_chunk::<2>()?;
+        let (bytes, rest) = rest.split_at_checked(usize::from(u16::from_le_bytes(*n)))?;
+        self.0 = rest;
+        Some(Run {
+            length: u32::from_le_bytes(*length) as usize,
+            bytes,
+        })
     }
-    let mut from = 0;
-    let mut to = at;
-    while to < end {
-        if space.len() <= to {
-            return;
-        }
-        space[to] = bytes[from];
-        from = if from + 1 < bytes.len() { from + 1 } else { 0 };
-        to += 1;
+}
+
+// Puts the bytes into the space, again and again.
+fn fill_again(space: &mut [u8], bytes: &[u8]) {
+    for (place, byte) in space.iter_mut().zip(bytes.iter().cycle()) {
+        *place = *byte;
     }
 }
 
@@ -27,34 +45,37 @@ fn put_run(bytes: &[u8], space: &mut [u8], at: usize, end: usize) {
 pub fn unroll(pattern: &[u8], space: &mut [u8]) -> usize
     ensures { IsPrefixLen result space.new }
 {
-    let mut p = 0;
     let mut at = 0;
-    while p + 6 <= pattern.len() {
-        let run = u32_at(pattern, p) as usize;
-        let n = u16_at(pattern, p + 4);
-        p += 6;
-        if pattern.len() - p < n {
+    for run in Runs(pattern) {
+        if space.len() - at < run.length {
             return at;
         }
-        if space.len() - at < run {
-            return at;
-        }
-        put_run(&pattern[p..p + n], space, at, at + run);
-        at += run;
-        p += n;
+        fill_again(&mut space[at..at + run.length], run.bytes);
+        at += run.length;
     }
     at
 }
 
-// The same of the n bytes at a place of the input.
-pub fn unroll_at(input: &[u8], from: usize, n: usize, space: &mut [u8]) -> usize
-    ensures { IsPrefixLen result space.new }
-{
-    if input.len() < from {
-        return 0;
+// Patterns that stand one after the other, each after its length in four bytes. None stands for a last one that is cut short.
+#[derive(Drop)]
+pub struct Patterns<'a>(pub &'a [u8]);
+
+impl<'a> Iterator for Patterns<'a> {
+    type Item = Option<&'a [u8]>;
+
+    ghost remaining = { λ s. at_most (length s.0.now) };
+
+    fn next(&mut self) -> Option<Option<&'a [u8]>> {
+        let (n, rest) = self.0.split_first_chunk::<4>()?;
+        match rest.split_at_checked(u32::from_le_bytes(*n) as usize) {
+            Some((pattern, rest)) => {
+                self.0 = rest;
+                Some(Some(pattern))
+            }
+            None => {
+                self.0 = &[];
+                Some(None)
+            }
+        }
     }
-    if input.len() - from < n {
-        return 0;
-    }
-    unroll(&input[from..from + n], space)
 }

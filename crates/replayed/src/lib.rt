@@ -1,137 +1,139 @@
-// One record of a list of the oracle's answers: whether packing its sheet gives number, value, action number and every byte of the
-// output as it says, and how long it is.
+// The records of a list of the oracle's answers: whether packing a record's sheet gives number, value, action number and every byte
+// of the output as it says.
 //
 // A record is the lengths of three patterns, the room, the mode, and the answer's number, value and action number, in 30 bytes; then
-// the patterns of the sheet, of its book and of the block.
+// the patterns of the sheet, of its book and of the block. A pattern that is cut short, and each behind it, is empty.
 #![tactic(auto)]
 
-ghost use Rattle.std.specs.Prelude.{◌≤◌, length};
+ghost use Rattle.std.specs.Prelude.{◌≤◌, length, vec_len};
+ghost use Rattle.std.specs.Iterator.{at_most};
 
 use answer::{Answer, action_of, number_of, value_of};
 use fields::{u32_at, u64_at};
 use judge::Mode;
-use patterns::unroll_at;
+use patterns::unroll;
+use std::alloc::{AllocError, Global};
 
 // What every byte of the output holds before a sheet is packed.
 const FRESH: u8 = 0xA5;
 
-fn refresh(out: &mut [u8]) {
-    let mut i = 0;
-    while i < out.len() {
-        out[i] = FRESH;
-        i += 1;
+// Two bytes more than the longest sheet has.
+const SPACE: usize = 1048578;
+
+// What the patterns of a record stand for, one record after the other, and the output that its sheet is packed into.
+#[derive(Drop)]
+pub struct Spaces {
+    sheet: Vec<u8>,
+    book: Vec<u8>,
+    block: Vec<u8>,
+    out: Vec<u8>,
+}
+
+impl Spaces {
+    pub fn new(alloc: Global) -> Result<Spaces, AllocError> {
+        Ok(Spaces {
+            sheet: vec![in alloc; 0; SPACE]?,
+            book: vec![in alloc; 0; SPACE]?,
+            block: vec![in alloc; 0; SPACE]?,
+            out: vec![in alloc; 0; SPACE]?,
+        })
     }
+}
+
+// A record: its patterns, the room and the mode to pack in, and what the answer is to be.
+#[derive(Clone, Copy)]
+pub struct Record<'a> {
+    sheet: &'a [u8],
+    book: &'a [u8],
+    block: &'a [u8],
+    room: u32,
+    mode: Option<Mode>,
+    pub number: u8,
+    value: u64,
+    action: u32,
+}
+
+// The mode of a record's byte, which is 0 to 3: 1 more if it is strict, 2 more if it is contained.
+fn mode_of(byte: u8) -> Option<Mode> {
+    if 3 < byte {
+        return None;
+    }
+    Some(Mode {
+        strict: byte % 2 == 1,
+        contained: 2 <= byte,
+    })
 }
 
 // Whether the output starts with the block and is fresh behind it.
 fn holds(out: &[u8], block: &[u8]) -> bool {
-    let mut i = 0;
-    while i < out.len() {
-        let due = if i < block.len() { block[i] } else { FRESH };
-        if out[i] != due {
+    match out.strip_prefix(block) {
+        Some(rest) => rest.iter().all(|byte| *byte == FRESH),
+        None => false,
+    }
+}
+
+impl Record<'_> {
+    // Whether this is the answer that the record tells.
+    fn tells(&self, answer: Answer) -> bool {
+        number_of(answer) == u32::from(self.number)
+            && value_of(answer) == self.value
+            && action_of(answer) == u64::from(self.action)
+    }
+
+    // Whether packing the sheet gives what the record tells, and leaves the bytes behind the room, of which 64 are looked at.
+    pub fn agrees(&self, spaces: &mut Spaces) -> bool {
+        let sheet = unroll(self.sheet, &mut spaces.sheet);
+        let book = unroll(self.book, &mut spaces.book);
+        let block = unroll(self.block, &mut spaces.block);
+        let room = self.room as usize;
+        let Some(mode) = self.mode else {
             return false;
-        }
-        i += 1;
+        };
+        let Some(out) = spaces.out.get_mut(..room + 64) else {
+            return false;
+        };
+        out.fill(FRESH);
+        let answer = pack::pack(
+            &spaces.sheet[..sheet],
+            &spaces.book[..book],
+            mode,
+            &mut out[..room],
+        );
+        self.tells(answer) && holds(out, &spaces.block[..block])
     }
-    block.len() <= out.len()
 }
 
-// Whether an answer has this number, value and action number.
-fn tells(answer: Answer, number: u8, value: u64, action: u32) -> bool {
-    if number_of(answer) != number as u32 {
-        return false;
-    }
-    if value_of(answer) != value {
-        return false;
-    }
-    action_of(answer) == action as u64
-}
-
-// Whether packing into the first `room` bytes of the output gives this number, value, action number and block, and leaves the bytes
-// behind them.
-fn agrees<'a>(
-    sheet: &'a [u8],
-    book: &'a [u8],
-    mode: Mode,
-    room: usize,
-    number: u8,
-    value: u64,
-    action: u32,
-    block: &[u8],
-    out: &mut [u8],
-) -> bool {
-    if out.len() < room {
-        return false;
-    }
-    refresh(out);
-    let answer = pack::pack(sheet, book, mode, &mut out[..room]);
-    if tells(answer, number, value, action) {
-        return holds(out, block);
-    }
-    false
-}
-
-// Whether packing the sheet gives what the head of a record says, and this block. 64 bytes behind the room are looked at too. The
-// mode is 0 to 3: 1 more if it is strict, 2 more if it is contained.
-fn replay_sheet<'a>(
-    head: &[u8],
-    sheet: &'a [u8],
-    book: &'a [u8],
-    block: &[u8],
-    out: &mut [u8],
-) -> bool
-    requires { 30 ≤ length head.now }
+// The first n bytes and what stands behind them, or nothing and nothing where there are fewer.
+fn split_pattern(bytes: &[u8], n: u32) -> (&[u8], &[u8])
+    ensures { length result.1.now ≤ length bytes.now }
 {
-    let room = u32_at(head, 12) as usize;
-    let mode = head[16];
-    let number = head[17];
-    let value = u64_at(head, 18);
-    let action = u32_at(head, 26);
-    if out.len() < room + 64 {
-        return false;
-    }
-    if 3 < mode {
-        return false;
-    }
-    agrees(
-        sheet,
-        book,
-        Mode {
-            strict: mode % 2 == 1,
-            contained: 2 <= mode,
-        },
-        room,
-        number,
-        value,
-        action,
-        block,
-        &mut out[..room + 64],
-    )
+    bytes.split_at_checked(n as usize).unwrap_or((&[], &[]))
 }
 
-// Whether the record at the front of the input agrees.
-pub fn replay_one(
-    input: &[u8],
-    sheet: &mut [u8],
-    book: &mut [u8],
-    block: &mut [u8],
-    out: &mut [u8],
-) -> bool
-    requires { 30 ≤ length input.now }
-{
-    let n = u32_at(input, 0) as usize;
-    let k = u32_at(input, 4) as usize;
-    let m = u32_at(input, 8) as usize;
-    let long = unroll_at(input, 30, n, sheet);
-    let thick = unroll_at(input, 30 + n, k, book);
-    let wide = unroll_at(input, 30 + n + k, m, block);
-    replay_sheet(input, &sheet[..long], &book[..thick], &block[..wide], out)
-}
+// The records of a list.
+#[derive(Drop)]
+pub struct Records<'a>(pub &'a [u8]);
 
-// The length of the record at the front of the input.
-pub fn record_length(input: &[u8]) -> usize
-    requires { 30 ≤ length input.now }
-    ensures { 30 ≤ result }
-{
-    30 + u32_at(input, 0) as usize + u32_at(input, 4) as usize + u32_at(input, 8) as usize
+impl<'a> Iterator for Records<'a> {
+    type Item = Record<'a>;
+
+    ghost remaining = { λ s. at_most (length s.0.now) };
+
+    fn next(&mut self) -> Option<Record<'a>> {
+        let (head, rest) = self.0.split_first_chunk::<30>()?;
+        let (sheet, rest) = split_pattern(rest, u32_at(head, 0));
+        let (book, rest) = split_pattern(rest, u32_at(head, 4));
+        let (block, rest) = split_pattern(rest, u32_at(head, 8));
+        self.0 = rest;
+        Some(Record {
+            sheet,
+            book,
+            block,
+            room: u32_at(head, 12),
+            mode: mode_of(head[16]),
+            number: head[17],
+            value: u64_at(head, 18),
+            action: u32_at(head, 26),
+        })
+    }
 }

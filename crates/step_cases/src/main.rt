@@ -2,31 +2,24 @@
 // pattern after its length in four bytes.
 #![tactic(auto)]
 
-use fields::u32_at;
-use patterns::unroll_at;
+use patterns::{Patterns, unroll};
 use std::io;
 use std::io::{BufWriter, Read, Write};
 use step::Unclean;
 
-fn write_line<W: Write>(out: &mut W, number: u64, value: usize) -> io::Result<()> {
+fn answer<W: Write>(block: &[u8], out: &mut W) -> io::Result<()> {
+    let (number, value) = match step::step(block) {
+        Ok(count) => (0, count),
+        Err(Unclean { place }) => (13, place),
+    };
     writeln!(out, "{number} {value}")
 }
 
-fn answer<W: Write>(block: &[u8], out: &mut W) -> io::Result<()> {
-    match step::step(block) {
-        Ok(count) => write_line(out, 0, count),
-        Err(Unclean { place }) => write_line(out, 13, place),
-    }
-}
-
-// A block is what its pattern stands for, as far as there is space.
+// A block is what its pattern stands for, as far as there is space; where the pattern is cut short, it is empty.
 fn answer_all<W: Write>(input: &[u8], space: &mut [u8], out: &mut W) -> io::Result<()> {
-    let mut p = 0;
-    while p + 4 <= input.len() {
-        let n = u32_at(input, p) as usize;
-        let length = unroll_at(input, p + 4, n, space);
+    for pattern in Patterns(input) {
+        let length = unroll(pattern.unwrap_or(&[]), space);
         answer(&space[..length], out)?;
-        p += 4 + n;
     }
     Ok(())
 }

@@ -1,54 +1,47 @@
-// The counts of a replay, and their printing. There are 21: places 0 to 18 are the counts of the answers by their numbers, 19 is that
-// of the answers that differ, and 20 the first of these, counted from 1; it is 0 while none does.
+// The counts of a replay, and their printing.
 #![tactic(auto)]
 
-use std::io;
-use std::io::Write;
+ghost use Rattle.std.specs.Prelude.{◌≡◌, ◌+◌, ◌^◌, ◌-◌, min, true, false, Some, MatchOption, slice_index, slice_set};
 
-// One more of a kind.
-fn bump(counts: &mut [usize; 21], kind: usize) {
-    if 21 <= kind {
-        return;
-    }
-    if counts[kind] < 4294967295 {
-        counts[kind] += 1;
+use std::fmt;
+
+// How many answers have each number, how many of all differ, and the first of these.
+#[derive(Default, Drop)]
+pub struct Tally {
+    numbers: [usize; 19],
+    differ: usize,
+    first: Option<usize>,
+}
+
+impl Tally {
+    // Counts an answer by its number, and one that differs. `place` is its place in the list, counted from 1.
+    pub fn count(&mut self, number: u8, agrees: bool, place: usize)
+        ensures numbers { self.new.numbers ≡ slice_set self.old.numbers number (min (slice_index self.old.numbers number + 1) (2 ^ 64 - 1)) }
+        ensures agreed { agrees ≡ true → (self.new.differ ≡ self.old.differ) × (self.new.first ≡ self.old.first) }
+        ensures differ { agrees ≡ false → self.new.differ ≡ min (self.old.differ + 1) (2 ^ 64 - 1) }
+        ensures first { agrees ≡ false → MatchOption self.old.first (self.new.first ≡ Some place) (λ first. self.new.first ≡ Some first) }
+    {
+        let number = number as usize;
+        if number < self.numbers.len() {
+            self.numbers[number] = self.numbers[number].saturating_add(1);
+        }
+        if !agrees {
+            self.differ = self.differ.saturating_add(1);
+            self.first = self.first.or(Some(place));
+        }
     }
 }
 
-// Keeps the first answer that differs.
-fn note_first(counts: &mut [usize; 21], record: usize) {
-    if counts[20] == 0 {
-        counts[20] = record;
+// A line for each number that was met, with its count, and one for the answers that differ: how many, and the first, or 0.
+impl fmt::Display for Tally {
+    fn fmt<W: fmt::Write>(&self, f: &mut fmt::Formatter<W>) -> fmt::Result {
+        for (number, count) in self.numbers.iter().enumerate() {
+            if *count != 0 {
+                writeln!(f, "{number} {count}")?;
+            }
+        }
+        let differ = self.differ;
+        let first = self.first.unwrap_or(0);
+        writeln!(f, "differ {differ}, first {first}")
     }
-}
-
-// Counts an answer by its number, and one that differs. `record` is its place in the list, counted from 1.
-pub fn count(counts: &mut [usize; 21], number: u8, agree: bool, record: usize) {
-    bump(counts, number as usize);
-    if agree {
-        return;
-    }
-    bump(counts, 19);
-    note_first(counts, record);
-}
-
-// The line of a number that was met, with its count.
-fn write_count<W: Write>(out: &mut W, number: usize, count: usize) -> io::Result<()> {
-    if count == 0 {
-        return Ok(());
-    }
-    writeln!(out, "{number} {count}")
-}
-
-// How many answers differ, and the first that does.
-fn write_differ<W: Write>(out: &mut W, n: usize, first: usize) -> io::Result<()> {
-    writeln!(out, "differ {n}, first {first}")
-}
-
-// A line for each number that was met, and one for the answers that differ.
-pub fn write_counts<W: Write>(out: &mut W, counts: &[usize; 21]) -> io::Result<()> {
-    for i in 0..19 {
-        write_count(out, i, counts[i])?;
-    }
-    write_differ(out, counts[19], counts[20])
 }

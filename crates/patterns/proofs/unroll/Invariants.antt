@@ -1,9 +1,6 @@
--- Each run that is put lies in the space, and its bytes in the pattern.
-use Rattle.std.proofs.Common.{◌-◌, ◌≤◌, length}
+-- The runs that are put lie in the space.
+use Rattle.std.proofs.Common.{◌≤◌, length}
 use Rattle.patterns.proofs.unroll.Given as goal
 
-abbrev pub invariant-loop-p : goal.invariant-loop-p
-invariant-loop-p l = (l.p ≤ length l.pattern) × (l.at ≤ length l.space)
-
-abbrev pub decreases-loop-p : goal.decreases-loop-p
-decreases-loop-p l = length l.pattern - l.p
+abbrev pub invariant-loop-run : goal.invariant-loop-run
+invariant-loop-run l = l.at ≤ length l.space
