@@ -5,7 +5,7 @@
 // the patterns of the sheet, of its book and of the block. A pattern that is cut short, and each behind it, is empty.
 #![tactic(auto)]
 
-ghost use Rattle.std.specs.Prelude.{◌≤◌, length, vec_len};
+ghost use Rattle.std.specs.Prelude.{◌≡◌, ◌+◌, ◌≤◌, IfOk, IsSome, IsTrue, length, vec_len};
 ghost use Rattle.std.specs.Iterator.{at_most};
 
 use answer::{Answer, action_of, number_of, value_of};
@@ -29,13 +29,22 @@ pub struct Spaces {
     out: Vec<u8>,
 }
 
+// A space, filled with zeros.
+fn space(alloc: Global) -> Result<Vec<u8>, AllocError>
+    ensures { IfOk result (λ v. SPACE ≡ vec_len v) }
+{
+    vec![in alloc; 0; SPACE]
+}
+
 impl Spaces {
-    pub fn new(alloc: Global) -> Result<Spaces, AllocError> {
+    pub fn new(alloc: Global) -> Result<Spaces, AllocError>
+        ensures { IfOk result (λ s. (SPACE ≡ vec_len s.sheet) × (SPACE ≡ vec_len s.book) × (SPACE ≡ vec_len s.block) × (SPACE ≡ vec_len s.out)) }
+    {
         Ok(Spaces {
-            sheet: vec![in alloc; 0; SPACE]?,
-            book: vec![in alloc; 0; SPACE]?,
-            block: vec![in alloc; 0; SPACE]?,
-            out: vec![in alloc; 0; SPACE]?,
+            sheet: space(alloc)?,
+            book: space(alloc)?,
+            block: space(alloc)?,
+            out: space(alloc)?,
         })
     }
 }
@@ -81,15 +90,16 @@ impl Record<'_> {
     }
 
     // Whether packing the sheet gives what the record tells, and leaves the bytes behind the room, of which 64 are looked at.
-    pub fn agrees(&self, spaces: &mut Spaces) -> bool {
+    pub fn agrees(&self, spaces: &mut Spaces) -> bool
+        ensures mode { IsTrue result → IsSome self.now.mode }
+        ensures room { IsTrue result → self.now.room + 64 ≤ vec_len spaces.old.out }
+    {
         let sheet = unroll(self.sheet, &mut spaces.sheet);
         let book = unroll(self.book, &mut spaces.book);
         let block = unroll(self.block, &mut spaces.block);
         let room = self.room as usize;
-        let Some(mode) = self.mode else {
-            return false;
-        };
-        let Some(out) = spaces.out.get_mut(..room + 64) else {
+        let out = spaces.out.as_mut_slice().get_mut(..room + 64);
+        let (Some(mode), Some(out)) = (self.mode, out) else {
             return false;
         };
         out.fill(FRESH);
