@@ -6,11 +6,13 @@ use native.Mathlib.Nat.{add-zero}
 use native.Mathlib.Numerals.{sub-one, add-one}
 use mathlib.Core.Bool.{Bool, true, false}
 use mathlib.Core.Option.{Option, none, some}
-use mathlib.Core.Logic.{inl}
 use mathlib.Core.List.{List, [], ◌∷◌, ◌++◌, append_assoc, append-nil}
-use lib.ListN.{length, get_or}
+use lib.ListN.{length, get_or, take, drop}
 use lib.Dec.{eqb}
 use borrow.Author.Tests.{lt-ltb}
+use Rattle.std.specs.Prelude as code
+use Rattle.std.specs.Prelude.{Result, Ok, Err, Some, None}
+use Rattle.std.specs.Option.{option_or}
 use Rattle.layout.proofs.Lists.{first_with_lem}
 use Rattle.layout.specs.Numbers.{u16_at}
 use Rattle.layout.specs.Answers.{CutShort, UnknownCode, TooDeep}
@@ -27,48 +29,52 @@ use Rattle.laws.proofs.ReadFits.{good_got}
 use Rattle.laws.specs.Books.{WordsShort}
 use Rattle.laws.proofs.Shares.{action_most, body_most}
 use Rattle.laws.proofs.Begun.{begins_got, body_begins, owner_begins}
-use Rattle.labels.proofs.Labels.{slots_kept, any_number}
-use Rattle.labels.specs.Table.{entries_at, due, Rising, Slots, Tables, record_all, recorded, position_of}
+use Rattle.labels.proofs.Labels.{length-record_all, slots_kept, any_number}
+use Rattle.labels.proofs.Recording.{entries_part}
+use Rattle.labels.specs.declared.EntryNumber.{EntryNumber}
+use Rattle.labels.specs.Table.{slot_of, home_of, entries_in, entry_of, due, Rising, Slots, Tables, held, record_all, recorded, position_of, Recordable}
 use Rattle.positions.specs.declared.BytePosition.{BytePosition}
 use Rattle.opcode.specs.Listed.{listed, is_some}
-use Rattle.positions.specs.declared.Scan.{Scan}
-use Rattle.positions.specs.declared.Scan.TheVariants as scan
+use Rattle.positions.specs.declared.Spot.{Spot}
+use Rattle.positions.specs.declared.Stop.{Stop}
 use Rattle.positions.specs.declared.ActionNumber.{ActionNumber}
-use Rattle.positions.specs.declared.Walked.{Walked}
-use Rattle.positions.specs.declared.Walked.TheVariants as walked
+use Rattle.positions.specs.declared.Cursor.{Cursor}
+use Rattle.positions.specs.declared.Halt.{Halt}
 use Rattle.positions.specs.declared.Fault.{Fault}
-use Rattle.positions.specs.Scanned.{fault_of, scanned, Roomy}
+use Rattle.positions.specs.Scanned.{fault_of, scanned, walks_to, halts_at, Roomy}
+use Rattle.positions.proofs.Answers.{ok_same, err_same, ok_not_err}
 use Rattle.operands.proofs.Scans.{stops_is}
 use Rattle.operands.proofs.Reading.{u8_in, u8_out}
 use Rattle.measure.specs.declared.Laid.{Laid}
 use Rattle.measure.specs.declared.Laid.TheVariants as laid
+use Rattle.measure.specs.declared.Limit.TheVariants.{BlockLen}
+use Rattle.measure.specs.declared.Overflow.{Overflow}
+use Rattle.measure.specs.declared.Notes.{Notes}
 use Rattle.laws.specs.Resolved.{action_size, action_trace, body_length, body_events}
 use Rattle.laws.proofs.Resolved.{count_same}
-use Rattle.measure.specs.Walk.{State, state, standing, in_turn, noted_if, first_long, note_all, run, Outcome, done, fault, outcome, Ran, ran, stopped, in_bodies, body_tests, bodies_events, Owning, Laying, flat, to_label, bodies, function, stops}
-use Rattle.measure.proofs.Longs.{Apt, first_apt, noted_twice}
-use Rattle.measure.proofs.Runs.{outcome_got, run_append, run_none, run_body, noted_short}
+use Rattle.measure.specs.Walk.{State, state, kept_in, overflow, standing, in_turn, noted_if, note_all, run, Outcome, done, fault, outcome, Ran, ran, stopped, in_bodies, body_tests, bodies_events, Owning, Laying, flat, to_label, bodies, function, stops}
+use Rattle.measure.proofs.Runs.{outcome_got, run_append, run_none, run_body, noted_or}
 use Rattle.front.specs.Front.{Front, read_front, Fronted}
 use Rattle.front.proofs.Fronts.{front_fields, FrontRead, front_read}
-use Rattle.bodies.specs.Ready.{Ready}
+use Rattle.bodies.specs.Ready.{next_after, LengthsKept, Ready}
+
+abbrev Walked : Type 0
+Walked = Result Cursor Halt
 
 -- ---- an outcome and the code's answer
 
-pub ran_is : {o : Outcome} {r : Walked} {s : State} {q : ℕ} {w : BytePosition} {k : ActionNumber} → Ran o r s → r ≡ walked.Ends q w k → o ≡ done q w.0 k.0 s
-ran_is ran e = cc
-ran_is stopped e =
-    let z : ◌≡◌ {A = ℕ} 0 1 = cc in
-    absurd (omega arith)
+pub ran_is : {o : Outcome} {r : Walked} {s : State} {x : Cursor} → Ran o r s → r ≡ Ok x → o ≡ done x.at x.pos.0 x.number.0 s
+ran_is ran e = rw (ok_same e)
+ran_is stopped e = ok_not_err (sym e)
 
-pub ran_bad : {o : Outcome} {r : Walked} {s : State} {f : Fault} {p : ℕ} {k : ActionNumber} → Ran o r s → r ≡ walked.Stops f p k → o ≡ fault f p k.0
-ran_bad ran e =
-    let z : ◌≡◌ {A = ℕ} 0 1 = cc in
-    absurd (omega arith)
-ran_bad stopped e = cc
+pub ran_bad : {o : Outcome} {r : Walked} {s : State} {h : Halt} → Ran o r s → r ≡ Err h → o ≡ fault h.fault h.place h.number.0
+ran_bad ran e = ok_not_err e
+ran_bad stopped e = rw (err_same e)
 
-pub ran_done : {o : Outcome} {q : ℕ} {w : BytePosition} {k : ActionNumber} {s : State} → o ≡ done q w.0 k.0 s → Ran o (walked.Ends q w k) s
+pub ran_done : {o : Outcome} {x : Cursor} {s : State} → o ≡ done x.at x.pos.0 x.number.0 s → Ran o (Ok x) s
 ran_done e = rw e ran
 
-pub ran_fault : {o : Outcome} {f : Fault} {p : ℕ} {k : ActionNumber} (s : State) → o ≡ fault f p k.0 → Ran o (walked.Stops f p k) s
+pub ran_fault : {o : Outcome} {h : Halt} (s : State) → o ≡ fault h.fault h.place h.number.0 → Ran o (Err h) s
 ran_fault s e = rw e stopped
 
 -- ---- an outcome and the reading
@@ -100,28 +106,28 @@ module _ {A : Type 0} (sz ct : A → ℕ) (tr : A → Position → List Event) (
 
 -- ---- what a payload's answer tells of the bodies behind it
 
-module _ {bound : ℕ} {read : Reader (ActionsOf Text ℕ) → Read (ActionOf Text ℕ)} {at end pos number : ℕ} {over over' : List ℕ} where
-  pub did_bodies : {l : Laid} {q n : ℕ} {w : BytePosition} → Laying bound read at end pos number over over' l → l ≡ laid.Bodies q w n → Owning read at end pos number over over' q w n (λ home. home)
-  did_bodies {q = q} {n = n} {w = w} y e = go (rw e at y)
+module _ {bound : ℕ} {read : Reader (ActionsOf Text ℕ) → Read (ActionOf Text ℕ)} {at end pos number : ℕ} {over over' : code.Option Overflow} where
+  pub did_bodies : {l : Result Laid Stop} {after : Spot} {n : ℕ} → Laying bound read at end pos number over over' l → l ≡ Ok (laid.Bodies after n) → Owning read at end pos number over over' after n (λ home. home)
+  did_bodies {after = after} {n = n} y e = go (rw e at y)
     where
-      go : Laying bound read at end pos number over over' (laid.Bodies q w n) → Owning read at end pos number over over' q w n (λ home. home)
+      go : Laying bound read at end pos number over over' (Ok (laid.Bodies after n)) → Owning read at end pos number over over' after n (λ home. home)
       go (bodies least o) = o
 
-  pub did_function : {l : Laid} {q : ℕ} {w : BytePosition} → Laying bound read at end pos number over over' l → l ≡ laid.Function q w → Owning read at end pos number over over' q w 1 (λ home. w.0)
-  did_function {q = q} {w = w} y e = go (rw e at y)
+  pub did_function : {l : Result Laid Stop} {after : Spot} → Laying bound read at end pos number over over' l → l ≡ Ok (laid.Function after) → Owning read at end pos number over over' after 1 (λ home. after.pos.0)
+  did_function {after = after} y e = go (rw e at y)
     where
-      go : Laying bound read at end pos number over over' (laid.Function q w) → Owning read at end pos number over over' q w 1 (λ home. w.0)
+      go : Laying bound read at end pos number over over' (Ok (laid.Function after)) → Owning read at end pos number over over' after 1 (λ home. after.pos.0)
       go (function o) = o
 
 -- there is room for them
-pub owned_place : {read : Reader (ActionsOf Text ℕ) → Read (ActionOf Text ℕ)} {b over over' : List ℕ} {at q n number : ℕ} {pos w : BytePosition} {inside : ℕ → ℕ}
-    → Owning read at (length b) pos.0 number over over' q w n inside → Roomy b at pos → Roomy b q w
+pub owned_place : {read : Reader (ActionsOf Text ℕ) → Read (ActionOf Text ℕ)} {b : List ℕ} {over over' : code.Option Overflow} {at n number : ℕ} {pos : BytePosition} {after : Spot} {inside : ℕ → ℕ}
+    → Owning read at (length b) pos.0 number over over' after n inside → Roomy b at pos → Roomy b after.at after.pos
 owned_place o r = record { bytes = r.bytes; inside = o.onward.within; room = omega (arith, r.room, r.inside, o.onward.beyond, o.onward.within, o.onward.written) }
 
 -- ---- an action
 
 -- an opcode that was read before is the byte that stands there
-pub laid_at : (terms : Terms) (b : List ℕ) {op bound at end pos number : ℕ} {over over' : List ℕ} {l : Laid} → op ≡ get_or b at 0
+pub laid_at : (terms : Terms) (b : List ℕ) {op bound at end pos number : ℕ} {over over' : code.Option Overflow} {l : Result Laid Stop} → op ≡ get_or b at 0
     → Laying bound (λ inner. read_fields_if terms b inner (opcode_of op) (placed at) (placed (at + 1))) at end pos number over over' l
     → Laying bound (λ inner. read_fields_if terms b inner (opcode_of (get_or b at 0)) (placed at) (placed (at + 1))) at end pos number over over' l
 laid_at terms b i y = rw i at y
@@ -138,16 +144,16 @@ module _ (terms : Terms) (b : List ℕ) (d at : ℕ) where
   unfolding read_action
   action_in h = rw (u8_in b at (omega arith))
 
-  module _ (pos home : BytePosition) (number : ActionNumber) (tab : Tables) (over : List ℕ) where
+  module _ (pos home : BytePosition) (number : ActionNumber) (tab : Tables) (over : code.Option Overflow) where
     abbrev Out : Outcome
     Out = outcome action_size count action_trace (standing pos home number) (state tab over) the_action
 
-    pub did_out : length b ≤ at → Ran Out (walked.Stops (fault_of CutShort) at number) (state tab over)
+    pub did_out : length b ≤ at → Ran Out (halts_at (fault_of CutShort) at number) (state tab over)
     did_out h = ran_fault _ (outcome_no action_size count action_trace (standing pos home number) _ (action_out h))
 
     module _ (h : at < length b) where
       -- an opcode under 80 hex is a whole action
-      pub did_small : get_or b at 0 < 128 → listed (get_or b at 0) ≡ true → Ran Out (walked.Ends (at + 1) (record { 0 = pos.0 + 1 }) (record { 0 = number.0 + 1 })) (state tab over)
+      pub did_small : get_or b at 0 < 128 → listed (get_or b at 0) ≡ true → Ran Out (walks_to (at + 1) (record { 0 = pos.0 + 1 }) (record { 0 = number.0 + 1 })) (state tab over)
       unfolding outcome count map_action map_flat size trace opcode payload framed headed byte payload_test event_if read_fields is_some read_fields_if
       did_small l e = go (opcode_of (get_or b at 0)) refl (unfold listed in e)
         where
@@ -175,7 +181,7 @@ module _ (terms : Terms) (b : List ℕ) (d at : ℕ) where
           of OpCode.If k = absurd (omega arith)
           of OpCode.GotoFrame2 k = absurd (omega arith)
 
-          go : (o : Option OpCode) → opcode_of (get_or b at 0) ≡ o → is_some o ≡ true → Ran Out (walked.Ends (at + 1) (record { 0 = pos.0 + 1 }) (record { 0 = number.0 + 1 })) (state tab over)
+          go : (o : Option OpCode) → opcode_of (get_or b at 0) ≡ o → is_some o ≡ true → Ran Out (walks_to (at + 1) (record { 0 = pos.0 + 1 }) (record { 0 = number.0 + 1 })) (state tab over)
           go none f k =
               let z : ◌≡◌ {A = ℕ} 0 1 = cc in
               absurd (omega arith)
@@ -183,44 +189,44 @@ module _ (terms : Terms) (b : List ℕ) (d at : ℕ) where
               let y : byte x ≡ get_or b at 0 = unfold opcode_of in first_with_lem byte (get_or b at 0) opcodes x f in
               ran_done (rw (action_in h, f) (of x (omega arith)))
 
-      pub did_unknown : listed (get_or b at 0) ≡ false → Ran Out (walked.Stops (fault_of UnknownCode) at number) (state tab over)
+      pub did_unknown : listed (get_or b at 0) ≡ false → Ran Out (halts_at (fault_of UnknownCode) at number) (state tab over)
       unfolding is_some read_fields_if
       did_unknown e = go (opcode_of (get_or b at 0)) refl (unfold listed in e)
         where
-          go : (o : Option OpCode) → opcode_of (get_or b at 0) ≡ o → is_some o ≡ false → Ran Out (walked.Stops (fault_of UnknownCode) at number) (state tab over)
+          go : (o : Option OpCode) → opcode_of (get_or b at 0) ≡ o → is_some o ≡ false → Ran Out (halts_at (fault_of UnknownCode) at number) (state tab over)
           go none f k = ran_fault _ (outcome_no action_size count action_trace (standing pos home number) _ (action_in h ∙ rw f))
           go (some x) f k =
               let z : ◌≡◌ {A = ℕ} 0 1 = cc in
               absurd (omega arith)
 
-      module _ (l : Laid) (over' : List ℕ)
+      module _ (l : Result Laid Stop) (over' : code.Option Overflow)
           (y : Laying terms.label_bound (λ inner. read_fields_if terms b inner (opcode_of (get_or b at 0)) (placed at) (placed (at + 1))) at (length b) pos.0 number.0 over over' l) where
-        abbrev Here : Laid → Type 0
+        abbrev Here : Result Laid Stop → Type 0
         Here l = Laying terms.label_bound (λ inner. read_fields_if terms b inner (opcode_of (get_or b at 0)) (placed at) (placed (at + 1))) at (length b) pos.0 number.0 over over' l
 
-        pub did_stops : (f : Fault) (q : ℕ) → l ≡ laid.Stops f q → Ran Out (walked.Stops f q number) (state tab over')
-        did_stops f q e = go (rw e at y)
+        pub did_stops : (x : Stop) → l ≡ Err x → Ran Out (halts_at x.fault x.place number) (state tab over')
+        did_stops x e = go (rw e at y)
           where
-            go : Here (laid.Stops f q) → Ran Out (walked.Stops f q number) (state tab over')
+            go : Here (Err x) → Ran Out (halts_at x.fault x.place number) (state tab over')
             go (stops g) = ran_fault _ (rw (action_in h) (g (behind 1 (read_body terms b d)) (state tab over) home.0))
 
-        pub did_flat : (q : ℕ) (w : BytePosition) → l ≡ laid.Flat q w → Ran Out (walked.Ends q w (record { 0 = number.0 + 1 })) (state tab over')
-        did_flat q w e = go (rw e at y)
+        pub did_flat : (after : Spot) → l ≡ Ok (laid.Flat after) → Ran Out (Ok (next_after after number)) (state tab over')
+        did_flat after e = go (rw e at y)
           where
-            go : Here (laid.Flat q w) → Ran Out (walked.Ends q w (record { 0 = number.0 + 1 })) (state tab over')
+            go : Here (Ok (laid.Flat after)) → Ran Out (Ok (next_after after number)) (state tab over')
             go (flat g m) = ran_done (rw (action_in h) (g (behind 1 (read_body terms b d)) tab home.0))
 
-        pub did_branch : (q : ℕ) (w : BytePosition) (n : ℕ) → l ≡ laid.Branch q w n → Ran Out (walked.Ends q w (record { 0 = number.0 + 1 })) (state tab over')
-        did_branch q w n e = go (rw e at y)
+        pub did_branch : (after : Spot) (n : ℕ) → l ≡ Ok (laid.Branch after n) → Ran Out (Ok (next_after after number)) (state tab over')
+        did_branch after n e = go (rw e at y)
           where
-            go : Here (laid.Branch q w n) → Ran Out (walked.Ends q w (record { 0 = number.0 + 1 })) (state tab over')
+            go : Here (Ok (laid.Branch after n)) → Ran Out (Ok (next_after after number)) (state tab over')
             go (to_label {k = k} i u v g) =
                 ran_done (rw (action_in h, ← v) (outcome_got action_size count action_trace (standing pos home number) (state tab over) (g (behind 1 (read_body terms b d))) (unfold size map_action in i) (unfold count in refl) (unfold trace map_action run recorded record_all note_all in refl)))
 
       -- what its bodies come to
-      pub owned_ran : {over' : List ℕ} {q n : ℕ} {w : BytePosition} {inside : ℕ → ℕ}
-          → Owning (λ inner. read_fields_if terms b inner (opcode_of (get_or b at 0)) (placed at) (placed (at + 1))) at (length b) pos.0 number.0 over over' q w n inside
-          → {r : Walked} {s' : State} → Ran (outcome (total body_length) (total body_count) (bodies_events number.0) (position w.0 (inside home.0) (number.0 + 1)) (state tab over') (in_turn (read_body terms b d) n (placed q))) r s' → Ran Out r s'
+      pub owned_ran : {over' : code.Option Overflow} {n : ℕ} {after : Spot} {inside : ℕ → ℕ}
+          → Owning (λ inner. read_fields_if terms b inner (opcode_of (get_or b at 0)) (placed at) (placed (at + 1))) at (length b) pos.0 number.0 over over' after n inside
+          → {r : Walked} {s' : State} → Ran (outcome (total body_length) (total body_count) (bodies_events number.0) (position after.pos.0 (inside home.0) (number.0 + 1)) (state tab over') (in_turn (read_body terms b d) n (placed after.at))) r s' → Ran Out r s'
       owned_ran o k = rw (action_in h, o.runs (read_body terms b d) tab home.0) k
 
 -- ---- the actions of a body, from index i on
@@ -306,25 +312,27 @@ body_step terms b at d = rw (add-one d) (go d)
             second (got es q) = third es (read_u16 b q)
             second (bad f q) = refl
 
--- what the code knows of a body whose front was read
-pub record Facts (terms : Terms) (b : List ℕ) (at end n d : ℕ) : Type 0 where
+-- what the code knows of a body whose front was read, and of its entries
+pub record Facts (terms : Terms) (b : List ℕ) (at end d : ℕ) (es : List Entry) : Type 0 where
   pub inside : end ≤ length b
-  pub place : end ≡ at + 4 + 4 * n
-  pub rising : Rising terms.label_bound 0 (entries_at b n (at + 2))
+  pub place : at + 4 ≤ end
+  pub rising : Rising terms.label_bound 0 es
   pub start : (pos : Position) (s : State)
-      → outcomes (entries_at b n (at + 2)) 0 pos s (read_actions terms b (behind 1 (read_body terms b d)) (u16_at b (end - 2)) (placed end)) ≡ outcome body_length body_count body_events pos s (read_body terms b (d + 1) (placed at))
+      → outcomes es 0 pos s (read_actions terms b (behind 1 (read_body terms b d)) (u16_at b (end - 2)) (placed end)) ≡ outcome body_length body_count body_events pos s (read_body terms b (d + 1) (placed at))
 
-pub facts : (terms : Terms) (b : List ℕ) (at end n d : ℕ) → at ≤ length b → Fronted terms b at end → n ≡ u16_at b at → Facts terms b at end n d
+pub facts : (terms : Terms) (b : List ℕ) (at end d : ℕ) → at ≤ length b → Fronted terms b at end → Facts terms b at end d (entries_in (take (end - 2 - (at + 2)) (drop (at + 2) b)))
 unfolding outcome body_size body_count trace_body map_body
-facts terms b at end n d l f e = go f.front f.reads (front_read terms b at end f.front l f.reads)
+facts terms b at end d l f = go f.front f.reads (front_read terms b at end f.front l f.reads)
   where
-    go : (g : Front) → read_front terms b (placed at) ≡ got g (placed end) → FrontRead terms b at end g → Facts terms b at end n d
-    go g a p = record {
-      inside = p.inside;
-      place = omega (arith, p.place);
-      rising = rw e p.rising;
-      start = λ pos s. rw (body_step terms b at d, a, e, ← p.same, ← p.counted) (last pos s (read_actions terms b (behind 1 (read_body terms b d)) g.count (placed end)));
-    }
+    go : (g : Front) → read_front terms b (placed at) ≡ got g (placed end) → FrontRead terms b at end g → Facts terms b at end d (entries_in (take (end - 2 - (at + 2)) (drop (at + 2) b)))
+    go g a p =
+        let n : end - 2 - (at + 2) ≡ 4 * u16_at b at = omega (arith, p.place) in
+        rw (n, entries_part b (u16_at b at) (at + 2) (omega (arith, p.place, p.inside))) (record {
+          inside = p.inside;
+          place = omega (arith, p.place);
+          rising = p.rising;
+          start = λ pos s. rw (body_step terms b at d, a, ← p.same, ← p.counted) (last pos s (read_actions terms b (behind 1 (read_body terms b d)) g.count (placed end)));
+        })
       where
         last : (pos : Position) (s : State) (x : Read (ActionListOf Text ℕ)) → outcomes g.entries 0 pos s x ≡ outcome body_length body_count body_events pos s (chain x (λ xs r. got (body g.entries xs) r))
         last pos s (got xs r) = refl
@@ -336,19 +344,19 @@ body_less terms b at d h =
     rw e
 
 module _ (terms : Terms) (b : List ℕ) (at d : ℕ) (pos : Position) (s : State) where
-  pub body_stops : (k : ActionNumber) → pos.number ≡ k.0 → (w : ℕ) (r : Scan) (f : Fault) (q : ℕ) (s' : State) → (d ≡ 0 → ⊥) → r ≡ scanned (λ _. 0) w (read_front terms b (placed at)) → r ≡ scan.Stops q f
-      → Ran (outcome body_length body_count body_events pos s (read_body terms b d (placed at))) (walked.Stops f q k) s'
-  body_stops k i w r f q s' h j e = let z = stops_is (λ _. 0) w (front_fields terms b (placed at)) j e in go z.0 z.1 z.2
+  pub body_stops : (k : ActionNumber) → pos.number ≡ k.0 → (w : ℕ) (r : Result Spot Stop) (x : Stop) (s' : State) → (d ≡ 0 → ⊥) → r ≡ scanned (λ _. 0) w (read_front terms b (placed at)) → r ≡ Err x
+      → Ran (outcome body_length body_count body_events pos s (read_body terms b d (placed at))) (halts_at x.fault x.place k) s'
+  body_stops k i w r x s' h j e = let z = stops_is (λ _. 0) w (front_fields terms b (placed at)) j e in go z.0 z.1 z.2
     where
-      go : (g : answers.Fault) → read_front terms b (placed at) ≡ bad g (stop (placed q)) → f ≡ fault_of g → Ran (outcome body_length body_count body_events pos s (read_body terms b d (placed at))) (walked.Stops f q k) s'
-      go g x y = rw y (ran_fault _ (outcome_no body_length body_count body_events pos s (sym (body_less terms b at d h) ∙ body_step terms b at (d - 1) ∙ rw x) ∙ ap (fault (fault_of g) q) i))
+      go : (g : answers.Fault) → read_front terms b (placed at) ≡ bad g (stop (placed x.place)) → x.fault ≡ fault_of g → Ran (outcome body_length body_count body_events pos s (read_body terms b d (placed at))) (halts_at x.fault x.place k) s'
+      go g u v = rw v (ran_fault _ (outcome_no body_length body_count body_events pos s (sym (body_less terms b at d h) ∙ body_step terms b at (d - 1) ∙ rw u) ∙ ap (fault (fault_of g) x.place) i))
 
   pub body_ran : (s' : State) (r : Walked) → (d ≡ 0 → ⊥) → Ran (outcome body_length body_count body_events pos s (read_body terms b (d - 1 + 1) (placed at))) r s'
       → Ran (outcome body_length body_count body_events pos s (read_body terms b d (placed at))) r s'
   body_ran s' r h o = rw (body_less terms b at d h) at o
 
 -- labels note nothing
-labels_quiet : (es : List Entry) (j : ActionIndex) (s : Position) (over : List ℕ) → note_all (labels_at es j s) over ≡ over
+labels_quiet : (es : List Entry) (j : ActionIndex) (s : Position) (over : code.Option Overflow) → note_all (labels_at es j s) over ≡ over
 unfolding labels_at note_all event_if
 labels_quiet [] j s over = refl
 labels_quiet (entry l k ∷ es) j s over = go (eqb j.index k.index) (labels_quiet es j s over)
@@ -357,70 +365,81 @@ labels_quiet (entry l k ∷ es) j s over = go (eqb j.index k.index) (labels_quie
     go true h = h
     go false h = h
 
+-- ---- the tables
+
+pub kept_on : {a b c : Tables} → LengthsKept a b → LengthsKept b c → LengthsKept a c
+kept_on h k = record { positions = k.positions ∙ h.positions; homes = k.homes ∙ h.homes }
+
+pub kept_recorded : (es : List Event) {a b : Tables} → b ≡ recorded es a → LengthsKept a b
+unfolding recorded
+kept_recorded es {a} e = rw e (record { positions = length-record_all slot_of es a.positions; homes = length-record_all home_of es a.homes })
+
 -- ---- the loop over a body's actions: what is left gives what the whole gives
 
-pub record Going (terms : Terms) (b : List ℕ) (at d : ℕ) (pos home : BytePosition) (first : ActionNumber) (s₀ : State) (n many next i p : ℕ) (w : BytePosition) (action : ActionNumber) (tab : Tables) (over : List ℕ) : Type 0 where
-  pub same : outcomes (entries_at b n (at + 2)) i (standing w home action) (state tab over) (read_actions terms b (behind 1 (read_body terms b d)) (many - i) (placed p)) ≡ outcome body_length body_count body_events (standing pos home first) s₀ (read_body terms b (d + 1) (placed at))
-  pub roomy : Roomy b p w
-  pub before : action.0 ≤ p
-  pub counted : i ≤ many
-  pub is_due : next ≡ due (entries_at b n (at + 2)) (65536 * i)
-  pub slots : Slots terms tab.positions
-  pub full : length tab.positions ≡ length s₀.labels.positions
-  pub homes_full : length tab.homes ≡ length s₀.labels.homes
-  pub three : length over ≡ 3
+pub record Going (terms : Terms) (b : List ℕ) (d : ℕ) (home : BytePosition) (es : List Entry) (whole : Outcome) (many : ℕ) (old : Tables) (next : code.Option EntryNumber) (i : ℕ) (here : Cursor) (s : State) : Type 0 where
+  pub same : outcomes es i (standing here.pos home here.number) s (read_actions terms b (behind 1 (read_body terms b d)) (many - i) (placed here.at)) ≡ whole
+  pub roomy : Roomy b here.at here.pos
+  pub before : here.number.0 ≤ here.at
+  pub is_due : next ≡ entry_of (due es (65536 * i))
+  pub slots : Slots terms s.labels.positions
+  pub kept : LengthsKept old s.labels
 
-module _ (terms : Terms) (b : List ℕ) (at d : ℕ) (pos home : BytePosition) (first : ActionNumber) (end n many : ℕ) (tab₀ : Tables) (over₀ : List ℕ) (f : Facts terms b at end n d) where
-  pub going_start : (next : ℕ) → Ready terms b at pos first.0 tab₀.positions over₀ → many ≡ u16_at b (end - 2) → next ≡ due (entries_at b n (at + 2)) 0
-      → Going terms b at d pos home first (state tab₀ over₀) n many next 0 end pos first tab₀ over₀
-  going_start next r e g =
-      let l : many - 0 ≡ u16_at b (end - 2) = omega arith in
-      record {
-        same = rw l (f.start (standing pos home first) (state tab₀ over₀));
-        roomy = record { bytes = r.roomy.bytes; inside = f.inside; room = omega (arith, r.roomy.room, r.roomy.inside, f.inside, f.place) };
-        before = omega (arith, r.before, f.place);
-        counted = omega arith;
-        is_due = g;
-        slots = r.slots;
-        full = refl;
-        homes_full = refl;
-        three = r.three;
-      }
+pub going_start : (terms : Terms) (b : List ℕ) (d : ℕ) (home : BytePosition) (es : List Entry) (from : Cursor) (end many : ℕ) (next : code.Option EntryNumber) (notes : Notes) → Facts terms b from.at end d es → Ready terms b from notes → many ≡ u16_at b (end - 2) → next ≡ entry_of (due es 0)
+    → Going terms b d home es (outcome body_length body_count body_events (standing from.pos home from.number) (kept_in notes) (read_body terms b (d + 1) (placed from.at))) many (held notes.labels) next 0 (record { at = end; pos = from.pos; number = from.number }) (kept_in notes)
+going_start terms b d home es from end many next notes f r e g =
+    let l : many - 0 ≡ u16_at b (end - 2) = omega arith in
+    record {
+      same = rw l (f.start (standing from.pos home from.number) (kept_in notes));
+      roomy = record { bytes = r.roomy.bytes; inside = f.inside; room = omega (arith, r.roomy.room, r.roomy.inside, f.inside, f.place) };
+      before = omega (arith, r.before, f.place);
+      is_due = g;
+      slots = r.slots;
+      kept = record { positions = refl; homes = refl };
+    }
 
-  module _ (next i p : ℕ) (w : BytePosition) (action : ActionNumber) (tab : Tables) (over : List ℕ) (tab₁ : Tables) (g : Going terms b at d pos home first (state tab₀ over₀) n many next i p w action tab over)
-      (m : tab₁ ≡ recorded (labels_at (entries_at b n (at + 2)) (record { index = i }) (position_of w home)) tab) where
-    marked : state tab₁ over ≡ run (labels_at (entries_at b n (at + 2)) (record { index = i }) (standing w home action)) (state tab over)
+module _ {terms : Terms} {b : List ℕ} {d : ℕ} {home : BytePosition} {es : List Entry} {whole : Outcome} {many : ℕ} {old : Tables} {next : code.Option EntryNumber} {i : ℕ} {here : Cursor} {s : State} (g : Going terms b d home es whole many old next i here s) where
+  -- at its end the index is the count
+  pub going_last : i ≡ many → Going terms b d home es whole many old next many here s
+  going_last e = rw e at g
+
+  -- what recording the labels of the next action asks
+  pub going_due : {at end : ℕ} → Facts terms b at end d es → i < 65536 → Recordable es next (record { index = i }) (position_of here.pos home) s.labels.positions
+  going_due f h = record { terms = terms; is_due = g.is_due; rising = f.rising; slots = g.slots; index_fits = h; position_fits = omega (arith, g.roomy.room) }
+
+  module _ {tab : Tables} (m : tab ≡ recorded (labels_at es (record { index = i }) (position_of here.pos home)) s.labels) where
+    marked : state tab s.over ≡ run (labels_at es (record { index = i }) (standing here.pos home here.number)) s
     unfolding run
     marked =
-        ap₂ state (m ∙ sym (any_number (entries_at b n (at + 2)) (record { index = i }) w.0 home.0 action.0 tab))
-        (sym (labels_quiet (entries_at b n (at + 2)) (record { index = i }) (standing w home action) over))
+        ap₂ state (m ∙ sym (any_number es (record { index = i }) here.pos.0 home.0 here.number.0 s.labels)) (sym (labels_quiet es (record { index = i }) (standing here.pos home here.number) s.over))
 
-    module _ (r : Walked) (tab₂ : Tables) (over₂ : List ℕ) (h : i < many) (o : Ran (outcome action_size count action_trace (standing w home action) (state tab₁ over) (the_action terms b d p)) r (state tab₂ over₂)) where
-      pub going_bad : (k : Fault) (v : ℕ) (j : ActionNumber) → r ≡ walked.Stops k v j → Ran (outcome body_length body_count body_events (standing pos home first) (state tab₀ over₀) (read_body terms b (d + 1) (placed at))) (walked.Stops k v j) (state tab₂ over₂)
-      going_bad k v j e = ran_fault _ (sym g.same ∙ step_fault terms b (behind 1 (read_body terms b d)) (entries_at b n (at + 2)) i (standing w home action) (state tab over) (many - i) p k v j.0 (omega arith) (rw marked at (ran_bad o e)))
+    pub going_kept : LengthsKept old tab
+    going_kept = kept_on g.kept (kept_recorded _ m)
 
-      pub going_more : WordsShort terms → (q : ℕ) (x : BytePosition) (j : ActionNumber) (next' : ℕ) → r ≡ walked.Ends q x j → next' ≡ due (entries_at b n (at + 2)) (65536 * (i + 1)) → length tab₂.positions ≡ length tab.positions → length tab₂.homes ≡ length tab.homes → length over₂ ≡ 3
-          → Going terms b at d pos home first (state tab₀ over₀) n many next' (i + 1) q x j tab₂ over₂
-      going_more short q x j next' e a c v t =
+    pub going_slots : Slots terms tab.positions
+    going_slots = slots_kept g.slots (kept_recorded _ m).positions
+
+    module _ (h : i < many) {r : Walked} {s' : State} (o : Ran (outcome action_size count action_trace (standing here.pos home here.number) (state tab s.over) (the_action terms b d here.at)) r s') where
+      pub going_bad : {x : Halt} → r ≡ Err x → Ran whole (Err x) s'
+      going_bad {x} e = ran_fault _ (sym g.same ∙ step_fault terms b (behind 1 (read_body terms b d)) es i (standing here.pos home here.number) s (many - i) here.at x.fault x.place x.number.0 (omega arith) (rw marked at (ran_bad o e)))
+
+      pub going_more : WordsShort terms → {x : Cursor} {next' : code.Option EntryNumber} → r ≡ Ok x → next' ≡ entry_of (due es (65536 * (i + 1))) → LengthsKept tab s'.labels → Going terms b d home es whole many old next' (i + 1) x s'
+      going_more short {x} e a k =
           let o' = rw marked at (ran_is o e) in
-          let z = outcome_is action_size count action_trace (standing w home action) _ (the_action terms b d p) o' in
-          let y = good_got z.0 (placed q) (action_most terms b g.roomy.bytes short d (placed p) g.roomy.inside) z.1 in
-          let c' = begins_got z.0 (placed q) (owner_begins terms b d (placed p)) z.1 in
+          let z = outcome_is action_size count action_trace (standing here.pos home here.number) _ (the_action terms b d here.at) o' in
+          let y = good_got z.0 (placed x.at) (action_most terms b g.roomy.bytes short d (placed here.at) g.roomy.inside) z.1 in
+          let c = begins_got z.0 (placed x.at) (owner_begins terms b d (placed here.at)) z.1 in
           let l : many - (i + 1) ≡ many - i - 1 = omega arith in
           record {
-            same = rw l (sym (step_done terms b (behind 1 (read_body terms b d)) (entries_at b n (at + 2)) i (standing w home action) (state tab over) (many - i) p q x.0 j.0 (state tab₂ over₂) (omega arith) o') ∙ g.same);
+            same = rw l (sym (step_done terms b (behind 1 (read_body terms b d)) es i (standing here.pos home here.number) s (many - i) here.at x.at x.pos.0 x.number.0 s' (omega arith) o') ∙ g.same);
             roomy = record { bytes = g.roomy.bytes; inside = y.1; room = omega (arith, y.0.0, y.0.1, y.1, z.2, g.roomy.room, g.roomy.inside) };
-            before = omega (arith, z.3, c', g.before);
-            counted = omega arith;
+            before = omega (arith, z.3, c, g.before);
             is_due = a;
-            slots = slots_kept g.slots c;
-            full = c ∙ g.full;
-            homes_full = v ∙ g.homes_full;
-            three = t;
+            slots = slots_kept going_slots k.positions;
+            kept = kept_on going_kept k;
           }
 
-    pub going_end : many ≤ i → Ran (outcome body_length body_count body_events (standing pos home first) (state tab₀ over₀) (read_body terms b (d + 1) (placed at))) (walked.Ends p w action) (state tab₁ over)
-    going_end h = ran_done (sym g.same ∙ step_end terms b (behind 1 (read_body terms b d)) (entries_at b n (at + 2)) i (standing w home action) (state tab over) (many - i) p (omega arith) ∙ ap (done p w.0 action.0) (sym marked))
+    pub going_end : many ≤ i → Ran whole (Ok here) (state tab s.over)
+    going_end h = ran_done (sym g.same ∙ step_end terms b (behind 1 (read_body terms b d)) es i (standing here.pos home here.number) s (many - i) here.at (omega arith) ∙ ap (done here.at here.pos.0 here.number.0) (sym marked))
 
 -- ---- the bodies after a payload
 
@@ -435,93 +454,100 @@ unfolding in_turn
 turn_more one zero p h = absurd (omega arith)
 turn_more one (suc n) p h = simp sub-one
 
--- the loop: `waiting` are the tests of the bodies already read
-pub record Bodying (terms : Terms) (one : Reader (ActionsOf Text ℕ)) (b : List ℕ) (n at : ℕ) (pos home : BytePosition) (action : ActionNumber) (s₀ : State) (left p : ℕ) (w : BytePosition) (number : ActionNumber) (kept : ℕ) (tab : Tables) (over : List ℕ) : Type 0 where
+or_none : (over : code.Option Overflow) → over ≡ option_or over None
+or_none None = refl
+or_none (Some o) = refl
+
+-- what the bodies behind a payload come to, where `tested` is where they stand, with their owner's number
+abbrev pub outcome_in : List Event → Position → Position → State → Read (List (ActionsOf Text ℕ)) → Outcome
+outcome_in waiting tested from s x = outcome (total body_length) (total body_count) (λ xs q. in_bodies xs q ++ (waiting ++ body_tests xs tested)) from s x
+
+-- the loop: `waiting` are the tests of the bodies already read, of which `long` is the first that is too long
+pub record Bodying (terms : Terms) (b : List ℕ) (d : ℕ) (tested : Position) (whole : Outcome) (old : Tables) (left : ℕ) (here : Cursor) (long : code.Option Overflow) (s : State) : Type 0 where
   pub waiting : List Event
-  pub same : outcome (total body_length) (total body_count) (λ xs q. in_bodies xs q ++ (waiting ++ body_tests xs (standing pos home action))) (standing w home number) (state tab over) (in_turn one left (placed p)) ≡ outcome (total body_length) (total body_count) (bodies_events action.0) (position pos.0 home.0 (action.0 + 1)) s₀ (in_turn one n (placed at))
-  pub notes : (tab : Tables) (over : List ℕ) → length over ≡ 3 → run waiting (state tab over) ≡ state tab (noted_if 9 kept action.0 over)
-  pub is_apt : Apt kept
-  pub roomy : Roomy b p w
-  pub before : number.0 ≤ p
-  pub slots : Slots terms tab.positions
-  pub full : length tab.positions ≡ length s₀.labels.positions
-  pub homes_full : length tab.homes ≡ length s₀.labels.homes
-  pub three : length over ≡ 3
+  pub same : outcome_in waiting tested (position here.pos.0 tested.home here.number.0) s (in_turn (read_body terms b d) left (placed here.at)) ≡ whole
+  pub noting : (s : State) → run waiting s ≡ state s.labels (option_or s.over long)
+  pub roomy : Roomy b here.at here.pos
+  pub before : here.number.0 ≤ here.at
+  pub slots : Slots terms s.labels.positions
+  pub kept : LengthsKept old s.labels
 
-module _ (terms : Terms) (d : ℕ) (b : List ℕ) (n at : ℕ) (pos home : BytePosition) (action : ActionNumber) (tab₀ : Tables) (over₀ : List ℕ) where
-  pub bodying_start : Ready terms b at pos (action.0 + 1) tab₀.positions over₀ → Bodying terms (read_body terms b d) b n at pos home action (state tab₀ over₀) n at pos (record { 0 = action.0 + 1 }) 0 tab₀ over₀
-  unfolding Apt outcome bodies_events
-  bodying_start r = record {
-    waiting = [];
-    same = same_start (in_turn (read_body terms b d) n (placed at));
-    notes = λ tab over l. run_none (state tab over) ∙ ap (state tab) (noted_short 9 0 action.0 over (omega arith));
-    is_apt = inl refl;
-    roomy = r.roomy;
-    before = r.before;
-    slots = r.slots;
-    full = refl;
-    homes_full = refl;
-    three = r.three;
-  }
-    where
-      same_start : (x : Read (List (ActionsOf Text ℕ)))
-          → outcome (total body_length) (total body_count) (λ xs q. in_bodies xs q ++ ([] ++ body_tests xs (standing pos home action))) (position pos.0 home.0 (action.0 + 1)) (state tab₀ over₀) x ≡ outcome (total body_length) (total body_count) (bodies_events action.0) (position pos.0 home.0 (action.0 + 1)) (state tab₀ over₀) x
-      same_start (got xs q) = refl
-      same_start (bad k q) = refl
+pub bodying_start : {terms : Terms} {b : List ℕ} (d n : ℕ) {after : Spot} {owner : ActionNumber} (home : BytePosition) {notes : Notes} {left : ℕ} {here : Cursor} → left ≡ n → here ≡ next_after after owner → Ready terms b (next_after after owner) notes
+    → Bodying terms b d (standing after.pos home owner) (outcome (total body_length) (total body_count) (bodies_events owner.0) (standing after.pos home (next_after after owner).number) (kept_in notes) (in_turn (read_body terms b d) n (placed after.at))) (held notes.labels) left here None (kept_in notes)
+unfolding outcome bodies_events
+bodying_start {terms} {b} d n {after} {owner} home {notes} e f r =
+    rw (e, f) (record {
+      waiting = [];
+      same = same (in_turn (read_body terms b d) n (placed after.at));
+      noting = λ s. run_none s ∙ ap (state s.labels) (or_none s.over);
+      roomy = r.roomy;
+      before = r.before;
+      slots = r.slots;
+      kept = record { positions = refl; homes = refl };
+    })
+  where
+    same : (x : Read (List (ActionsOf Text ℕ)))
+        → outcome_in [] (standing after.pos home owner) (standing after.pos home (next_after after owner).number) (kept_in notes) x ≡ outcome (total body_length) (total body_count) (bodies_events owner.0) (standing after.pos home (next_after after owner).number) (kept_in notes) x
+    same (got xs q) = refl
+    same (bad k q) = refl
 
-  module _ (left p : ℕ) (w : BytePosition) (number : ActionNumber) (kept : ℕ) (tab : Tables) (over : List ℕ) (g : Bodying terms (read_body terms b d) b n at pos home action (state tab₀ over₀) left p w number kept tab over) where
-    pub bodying_end : left ≤ 0 → (over' : List ℕ) → over' ≡ noted_if 9 kept action.0 over
-        → Ran (outcome (total body_length) (total body_count) (bodies_events action.0) (position pos.0 home.0 (action.0 + 1)) (state tab₀ over₀) (in_turn (read_body terms b d) n (placed at))) (walked.Ends p w number) (state tab over')
-    unfolding outcome total in_bodies body_tests
-    bodying_end h over' e =
-        let x = rw (turn_none (read_body terms b d) left p h) at g.same in
-        let l : w.0 + 0 ≡ w.0 = omega arith in
-        let m : number.0 + 0 ≡ number.0 = omega arith in
-        let y : run (g.waiting ++ []) (state tab over) ≡ state tab over' = rw e (simp append-nil (g.notes tab over g.three)) in
-        ran_done (sym x ∙ rw (l, m, y))
+module _ {terms : Terms} {d : ℕ} {b : List ℕ} {tested : Position} {whole : Outcome} {old : Tables} {left : ℕ} {here : Cursor} {long : code.Option Overflow} {s : State} (g : Bodying terms b d tested whole old left here long s) where
+  pub bodying_end : left ≤ 0 → {over : code.Option Overflow} → over ≡ option_or s.over long → Ran whole (Ok here) (state s.labels over)
+  unfolding outcome total in_bodies body_tests
+  bodying_end h {over} e =
+      let x = rw (turn_none (read_body terms b d) left here.at h) at g.same in
+      let l : here.pos.0 + 0 ≡ here.pos.0 = omega arith in
+      let m : here.number.0 + 0 ≡ here.number.0 = omega arith in
+      let y : run (g.waiting ++ []) s ≡ state s.labels over = rw e (simp append-nil (g.noting s)) in
+      ran_done (sym x ∙ rw (l, m, y))
 
-    module _ (h : 0 < left) (r : Walked) (tab₂ : Tables) (over₂ : List ℕ) (o : Ran (outcome body_length body_count body_events (standing w home number) (state tab over) (read_body terms b d (placed p))) r (state tab₂ over₂)) where
-      pub bodying_bad : (k : Fault) (v : ℕ) (j : ActionNumber) → r ≡ walked.Stops k v j
-          → Ran (outcome (total body_length) (total body_count) (bodies_events action.0) (position pos.0 home.0 (action.0 + 1)) (state tab₀ over₀) (in_turn (read_body terms b d) n (placed at))) (walked.Stops k v j) (state tab₂ over₂)
-      bodying_bad k v j e = ran_fault _ (sym g.same ∙ rw (turn_more (read_body terms b d) left p h) (fault_then body_length body_count body_events (standing w home number) (state tab over) _ _ _ (state tab over) (read_body terms b d (placed p)) _ (ran_bad o e)))
+  abbrev from : Position
+  from = position here.pos.0 tested.home here.number.0
 
-      pub bodying_more : WordsShort terms → (q : ℕ) (x : BytePosition) (j : ActionNumber) (kept' : ℕ) → r ≡ walked.Ends q x j → kept' ≡ first_long kept (x.0 - w.0) → length tab₂.positions ≡ length tab.positions → length tab₂.homes ≡ length tab.homes → length over₂ ≡ 3
-          → Bodying terms (read_body terms b d) b n at pos home action (state tab₀ over₀) (left - 1) q x j kept' tab₂ over₂
-      unfolding outcome total in_bodies body_tests moved
-      bodying_more short q x j kept' e k a u c =
-          let z = outcome_is body_length body_count body_events (standing w home number) _ (read_body terms b d (placed p)) (ran_is o e) in
-          go z.0 z.1 z.2 z.3 z.4
-        where
-          next_same : (t : ActionsOf Text ℕ) → read_body terms b d (placed p) ≡ got t (placed q) → x.0 ≡ w.0 + body_length t → j.0 ≡ number.0 + body_count t → state tab₂ over₂ ≡ run (body_events t (standing w home number)) (state tab over)
-              → (y : Read (List (ActionsOf Text ℕ))) → in_turn (read_body terms b d) (left - 1) (placed q) ≡ y
-              → outcome (total body_length) (total body_count) (λ xs u. in_bodies xs u ++ ((g.waiting ++ body_test (body_length t) (standing pos home action)) ++ body_tests xs (standing pos home action))) (standing x home j) (state tab₂ over₂) y
-              ≡ outcome (total body_length) (total body_count) (λ xs u. in_bodies xs u ++ (g.waiting ++ body_tests xs (standing pos home action))) (standing w home number) (state tab over) (in_turn (read_body terms b d) left (placed p))
-          next_same t f i o₁ j₁ (got xs u) m =
-              let l : x.0 + total body_length xs ≡ w.0 + (body_length t + total body_length xs) = omega arith in
-              let v : (body_events t (standing w home number) ++ in_bodies xs (position (w.0 + body_length t) home.0 (number.0 + body_count t))) ++ (g.waiting ++ (body_test (body_length t) (standing pos home action) ++ body_tests xs (standing pos home action)))
-              ≡ body_events t (standing w home number) ++ (in_bodies xs (position (w.0 + body_length t) home.0 (number.0 + body_count t)) ++ ((g.waiting ++ body_test (body_length t) (standing pos home action)) ++ body_tests xs (standing pos home action))) = simp append_assoc in
-              let k₁ : number.0 + (body_count t + total body_count xs) ≡ number.0 + body_count t + total body_count xs = omega arith in
-              rw (turn_more (read_body terms b d) left p h, f, m, l, k₁, o₁, j₁, i, v, run_append (body_events t (standing w home number)) (in_bodies xs (position (w.0 + body_length t) home.0 (number.0 + body_count t)) ++ ((g.waiting ++ body_test (body_length t) (standing pos home action)) ++ body_tests xs (standing pos home action))) (state tab over))
-          next_same t f i o₁ j₁ (bad k u) m =
-              let k₁ : number.0 + (body_count t + u.begun) ≡ number.0 + body_count t + u.begun = omega arith in
-              rw (turn_more (read_body terms b d) left p h, f, m, o₁, k₁)
+  module _ (h : 0 < left) {r : Walked} {s' : State} (o : Ran (outcome body_length body_count body_events from s (read_body terms b d (placed here.at))) r s') where
+    pub bodying_bad : {x : Halt} → r ≡ Err x → Ran whole (Err x) s'
+    bodying_bad e = ran_fault _ (sym g.same ∙ rw (turn_more (read_body terms b d) left here.at h) (fault_then body_length body_count body_events from s _ _ _ s (read_body terms b d (placed here.at)) _ (ran_bad o e)))
 
-          go : (t : ActionsOf Text ℕ) → read_body terms b d (placed p) ≡ got t (placed q) → x.0 ≡ w.0 + body_length t → j.0 ≡ number.0 + body_count t → state tab₂ over₂ ≡ run (body_events t (standing w home number)) (state tab over)
-              → Bodying terms (read_body terms b d) b n at pos home action (state tab₀ over₀) (left - 1) q x j kept' tab₂ over₂
-          go t f i o₁ j₁ =
-              let y = good_got t (placed q) (body_most terms b g.roomy.bytes short d (placed p) g.roomy.inside) f in
-              let m : x.0 - w.0 ≡ body_length t = omega arith in
-              let c' = begins_got t (placed q) (body_begins terms b d (placed p)) f in
-              let k' : kept' ≡ first_long kept (body_length t) = rw m at k in
-              record {
-                waiting = g.waiting ++ body_test (body_length t) (standing pos home action);
-                same = next_same t f i o₁ j₁ (in_turn (read_body terms b d) (left - 1) (placed q)) refl ∙ g.same;
-                notes = λ tab over l. run_append g.waiting (body_test (body_length t) (standing pos home action)) (state tab over) ∙ ap (run (body_test (body_length t) (standing pos home action))) (g.notes tab over l) ∙ run_body (body_length t) (standing pos home action) tab (noted_if 9 kept action.0 over) ∙ ap (state tab) (noted_twice kept (body_length t) action.0 over l g.is_apt ∙ ap (λ v. noted_if 9 v action.0 over) (sym k'));
-                is_apt = rw k' (first_apt kept (body_length t) g.is_apt);
-                roomy = record { bytes = g.roomy.bytes; inside = y.1; room = omega (arith, y.0.0, y.0.1, y.1, i, g.roomy.room, g.roomy.inside) };
-                before = omega (arith, o₁, c', g.before);
-                slots = slots_kept g.slots a;
-                full = a ∙ g.full;
-                homes_full = u ∙ g.homes_full;
-                three = c;
-              }
+    -- a body ends at or after its start
+    pub bodying_onward : {x : Cursor} → r ≡ Ok x → here.pos.0 ≤ x.pos.0
+    bodying_onward e = omega (arith, (outcome_is body_length body_count body_events from _ (read_body terms b d (placed here.at)) (ran_is o e)).2)
+
+    pub bodying_more : WordsShort terms → {x : Cursor} {long' : code.Option Overflow} → r ≡ Ok x → long' ≡ noted_if (overflow BlockLen (x.pos.0 - here.pos.0) tested.number) long → {left' : ℕ} → left' + 1 ≡ left → LengthsKept s.labels s'.labels
+        → Bodying terms b d tested whole old left' x long' s'
+    unfolding outcome total in_bodies body_tests moved
+    bodying_more short {x} {long'} e k {left'} w v =
+        let z = outcome_is body_length body_count body_events from _ (read_body terms b d (placed here.at)) (ran_is o e) in
+        go z.0 z.1 z.2 z.3 z.4
+      where
+        less : left - 1 ≡ left'
+        less = omega arith
+
+        next_same : (t : ActionsOf Text ℕ) → read_body terms b d (placed here.at) ≡ got t (placed x.at) → x.pos.0 ≡ here.pos.0 + body_length t → x.number.0 ≡ here.number.0 + body_count t → s' ≡ run (body_events t from) s
+            → (y : Read (List (ActionsOf Text ℕ))) → in_turn (read_body terms b d) left' (placed x.at) ≡ y
+            → outcome_in (g.waiting ++ body_test (body_length t) tested) tested (position x.pos.0 tested.home x.number.0) s' y ≡ outcome_in g.waiting tested from s (in_turn (read_body terms b d) left (placed here.at))
+        next_same t f i o₁ j₁ (got xs u) m =
+            let l : x.pos.0 + total body_length xs ≡ here.pos.0 + (body_length t + total body_length xs) = omega arith in
+            let v : (body_events t from ++ in_bodies xs (position (here.pos.0 + body_length t) tested.home (here.number.0 + body_count t))) ++ (g.waiting ++ (body_test (body_length t) tested ++ body_tests xs tested))
+            ≡ body_events t from ++ (in_bodies xs (position (here.pos.0 + body_length t) tested.home (here.number.0 + body_count t)) ++ ((g.waiting ++ body_test (body_length t) tested) ++ body_tests xs tested)) = simp append_assoc in
+            let k₁ : here.number.0 + (body_count t + total body_count xs) ≡ here.number.0 + body_count t + total body_count xs = omega arith in
+            rw (turn_more (read_body terms b d) left here.at h, f, less, m, l, k₁, o₁, j₁, i, v, run_append (body_events t from) (in_bodies xs (position (here.pos.0 + body_length t) tested.home (here.number.0 + body_count t)) ++ ((g.waiting ++ body_test (body_length t) tested) ++ body_tests xs tested)) s)
+        next_same t f i o₁ j₁ (bad k u) m =
+            let k₁ : here.number.0 + (body_count t + u.begun) ≡ here.number.0 + body_count t + u.begun = omega arith in
+            rw (turn_more (read_body terms b d) left here.at h, f, less, m, o₁, k₁)
+
+        go : (t : ActionsOf Text ℕ) → read_body terms b d (placed here.at) ≡ got t (placed x.at) → x.pos.0 ≡ here.pos.0 + body_length t → x.number.0 ≡ here.number.0 + body_count t → s' ≡ run (body_events t from) s
+            → Bodying terms b d tested whole old left' x long' s'
+        go t f i o₁ j₁ =
+            let y = good_got t (placed x.at) (body_most terms b g.roomy.bytes short d (placed here.at) g.roomy.inside) f in
+            let m : x.pos.0 - here.pos.0 ≡ body_length t = omega arith in
+            let c = begins_got t (placed x.at) (body_begins terms b d (placed here.at)) f in
+            let k' : long' ≡ noted_if (overflow BlockLen (body_length t) tested.number) long = rw m at k in
+            record {
+              waiting = g.waiting ++ body_test (body_length t) tested;
+              same = next_same t f i o₁ j₁ (in_turn (read_body terms b d) left' (placed x.at)) refl ∙ g.same;
+              noting = λ s. run_append g.waiting (body_test (body_length t) tested) s ∙ ap (run (body_test (body_length t) tested)) (g.noting s) ∙ run_body (body_length t) tested s.labels (option_or s.over long) ∙ ap (state s.labels) (noted_or (overflow BlockLen (body_length t) tested.number) s.over long ∙ ap (option_or s.over) (sym k'));
+              roomy = record { bytes = g.roomy.bytes; inside = y.1; room = omega (arith, y.0.0, y.0.1, y.1, i, g.roomy.room, g.roomy.inside) };
+              before = omega (arith, o₁, c, g.before);
+              slots = slots_kept g.slots v.positions;
+              kept = kept_on g.kept v;
+            }

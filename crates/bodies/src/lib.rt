@@ -1,230 +1,195 @@
 // The walk of bodies and actions, front to back: it reads and checks (3 to 6), measures, counts, records labels, and notes the
 // first of 8 and 9. `home` is the position at which the function body starts that it is in; only a function's body has another.
-// `number` is that of the next action.
 #![tactic(auto)]
 
 ghost use Rattle.std.specs.Prelude.{◌≡◌, ◌+◌, ◌≤◌, ◌<◌, length, get_or};
 ghost use Rattle.layout.specs.Tree.{count, body_count};
 ghost use Rattle.layout.specs.Read.{placed, behind, read_body, read_action};
-ghost use Rattle.layout.specs.Write.{position};
 ghost use Rattle.layout.specs.Lengths.{total};
 ghost use Rattle.laws.specs.Resolved.{action_size, action_trace, body_length, body_events};
-ghost use Rattle.measure.specs.Walk.{state, standing, outcome, Ran, in_turn, bodies_events};
-ghost use Rattle.labels.specs.Table.{tables};
+ghost use Rattle.positions.specs.Scanned.{halts_at};
+ghost use Rattle.editions.specs.Allowed.{read_by};
+ghost use Rattle.labels.specs.Table.{held};
+ghost use Rattle.measure.specs.Walk.{kept_in, standing, outcome, Ran, in_turn, bodies_events};
 ghost use Rattle.front.specs.Front.{Fronted};
-ghost use Rattle.editions.specs.Allowed.{terms_of};
-ghost use Rattle.bodies.specs.Ready.{Ready};
+ghost use Rattle.bodies.specs.Ready.{next_after, LengthsKept, Ready};
 
-use editions::Terms;
+use editions::MainBody;
 use fields::u16_at;
 use front::scan_front;
 use labels::{due_entry, record_labels};
-use measure::{Laid, first_long, note_long};
+use measure::{Laid, Limit, Notes, Overflow, note_long};
 use opcode::OpCode;
 use payload::scan_payload;
-use positions::{ActionIndex, ActionNumber, BytePosition, Fault, Scan, Walked};
+use positions::{ActionIndex, ActionNumber, BytePosition, Cursor, Fault, Halt, Spot, Walked};
 
-// A body; as many as `depth` may stand one in another, itself included.
-#[cycle(scan_action_scan_actions_scan_bodies_scan_body_scan_large)]
-pub fn scan_body(
-    b: &[u8],
-    words: &[u8],
-    index: &[u32],
-    terms: Terms,
-    at: usize,
-    depth: usize,
-    pos: BytePosition,
-    home: BytePosition,
-    number: ActionNumber,
-    tab: &mut [usize],
-    homes: &mut [usize],
-    over: &mut [usize],
-) -> Walked
-    requires { Ready (terms_of terms words.now index.now) b.now at pos number.0 tab.old over.old }
-    ensures { Ran (outcome body_length body_count body_events (standing pos home number) (state (tables tab.old homes.old) over.old) (read_body (terms_of terms words.now index.now) b.now depth (placed at))) result (state (tables tab.new homes.new) over.new) }
+// As many bodies may stand one in another in a main body.
+pub const DEEPEST: usize = 16;
+
+// A fault, met in the action with a number or before it.
+fn halted(fault: Fault, place: usize, number: ActionNumber) -> Walked
+    ensures { result ≡ halts_at fault place number }
 {
-    if depth == 0 {
-        return Walked::Stops(Fault::TooDeep, at, number);
-    }
-    match scan_front(b, terms, at, pos) {
-        Scan::Stops(p, f) => Walked::Stops(f, p, number),
-        Scan::Ends(front, _) => scan_actions(
-            b,
-            words,
-            index,
-            terms,
-            at,
-            front,
-            depth - 1,
-            pos,
-            home,
-            number,
-            tab,
-            homes,
-            over,
-        ),
+    Err(Halt {
+        fault,
+        place,
+        number,
+    })
+}
+
+// Where a walk stands behind the payload of an action: its bodies have the numbers after the action's own.
+pub fn next_after(after: Spot, owner: ActionNumber) -> Cursor
+    requires { owner.0 < 18446744073709551615 }
+    ensures { result ≡ next_after after owner }
+{
+    Cursor {
+        at: after.at,
+        pos: after.pos,
+        number: ActionNumber(owner.0 + 1),
     }
 }
 
-// The actions of the body at a place, whose front ends at `front`; bodies of `depth` may stand in them.
-#[cycle(scan_action_scan_actions_scan_bodies_scan_body_scan_large)]
+// A body; as many as `depth` may stand one in another, itself included.
+#[cycle(scanning)]
+pub fn scan_body(
+    m: &MainBody<'_>,
+    from: Cursor,
+    depth: usize,
+    home: BytePosition,
+    notes: &mut Notes<'_>,
+) -> Walked
+    requires { Ready (read_by m.now) m.now.b.now from notes.old }
+    ensures ran { Ran (outcome body_length body_count body_events (standing from.pos home from.number) (kept_in notes.old) (read_body (read_by m.now) m.now.b.now depth (placed from.at))) result (kept_in notes.new) }
+    ensures kept { LengthsKept (held notes.old.labels) (held notes.new.labels) }
+{
+    if depth == 0 {
+        return halted(Fault::TooDeep, from.at, from.number);
+    }
+    let start = Spot {
+        at: from.at,
+        pos: from.pos,
+    };
+    match scan_front(m, start) {
+        Err(stop) => halted(stop.fault, stop.place, from.number),
+        Ok(front) => scan_actions(m, from, front.at, depth - 1, home, notes),
+    }
+}
+
+// The actions of a body whose front ends at place `front`; bodies of `depth` may stand in them.
+#[cycle(scanning)]
 fn scan_actions(
-    b: &[u8],
-    words: &[u8],
-    index: &[u32],
-    terms: Terms,
-    at: usize,
+    m: &MainBody<'_>,
+    from: Cursor,
     front: usize,
     depth: usize,
-    pos: BytePosition,
     home: BytePosition,
-    number: ActionNumber,
-    tab: &mut [usize],
-    homes: &mut [usize],
-    over: &mut [usize],
+    notes: &mut Notes<'_>,
 ) -> Walked
-    requires { Ready (terms_of terms words.now index.now) b.now at pos number.0 tab.old over.old × Fronted (terms_of terms words.now index.now) b.now at front }
-    ensures { Ran (outcome body_length body_count body_events (standing pos home number) (state (tables tab.old homes.old) over.old) (read_body (terms_of terms words.now index.now) b.now (depth + 1) (placed at))) result (state (tables tab.new homes.new) over.new) }
+    requires { Ready (read_by m.now) m.now.b.now from notes.old × Fronted (read_by m.now) m.now.b.now from.at front × (from.at + 4 ≤ front) × (front ≤ length m.now.b.now) }
+    ensures ran { Ran (outcome body_length body_count body_events (standing from.pos home from.number) (kept_in notes.old) (read_body (read_by m.now) m.now.b.now (depth + 1) (placed from.at))) result (kept_in notes.new) }
+    ensures kept { LengthsKept (held notes.old.labels) (held notes.new.labels) }
 {
-    let n = u16_at(b, at);
-    let list = at + 2;
-    let count = u16_at(b, front - 2) as u32;
-    let mut next = due_entry(b, list, n, 0);
-    let mut i = 0;
-    let mut p = front;
-    let mut w = pos;
-    let mut action = number;
-    while i < count {
-        next = record_labels(b, list, n, next, ActionIndex(i), w, home, tab, homes);
-        match scan_action(
-            b, words, index, terms, p, depth, w, home, action, tab, homes, over,
-        ) {
-            Walked::Stops(f, q, k) => {
-                return Walked::Stops(f, q, k);
-            }
-            Walked::Ends(q, x, k) => {
-                p = q;
-                w = x;
-                action = k;
-            }
-        }
-        i += 1;
+    let entries = &m.b[from.at + 2..front - 2];
+    let count = u16_at(m.b, front - 2) as u32;
+    let mut due = due_entry(entries, 0);
+    let mut here = Cursor { at: front, ..from };
+    for i in 0..count {
+        let labels = &mut notes.labels;
+        due = record_labels(entries, due, ActionIndex(i), here.pos, home, labels);
+        here = scan_action(m, here, depth, home, notes)?;
     }
-    record_labels(b, list, n, next, ActionIndex(i), w, home, tab, homes);
-    Walked::Ends(p, w, action)
+    let labels = &mut notes.labels;
+    record_labels(entries, due, ActionIndex(count), here.pos, home, labels);
+    Ok(here)
 }
 
 // The n bodies after the payload of an action; their lengths are tested when all are measured.
-#[cycle(scan_action_scan_actions_scan_bodies_scan_body_scan_large)]
+#[cycle(scanning)]
 fn scan_bodies(
-    b: &[u8],
-    words: &[u8],
-    index: &[u32],
-    terms: Terms,
-    at: usize,
-    depth: usize,
-    pos: BytePosition,
-    home: BytePosition,
-    action: ActionNumber,
+    m: &MainBody<'_>,
+    after: Spot,
     n: usize,
-    tab: &mut [usize],
-    homes: &mut [usize],
-    over: &mut [usize],
+    owner: ActionNumber,
+    depth: usize,
+    home: BytePosition,
+    notes: &mut Notes<'_>,
 ) -> Walked
-    requires { Ready (terms_of terms words.now index.now) b.now at pos (action.0 + 1) tab.old over.old }
-    ensures { Ran (outcome (total body_length) (total body_count) (bodies_events action.0) (position pos.0 home.0 (action.0 + 1)) (state (tables tab.old homes.old) over.old) (in_turn (read_body (terms_of terms words.now index.now) b.now depth) n (placed at))) result (state (tables tab.new homes.new) over.new) }
+    requires { Ready (read_by m.now) m.now.b.now (next_after after owner) notes.old }
+    ensures ran { Ran (outcome (total body_length) (total body_count) (bodies_events owner.0) (standing after.pos home (next_after after owner).number) (kept_in notes.old) (in_turn (read_body (read_by m.now) m.now.b.now depth) n (placed after.at))) result (kept_in notes.new) }
+    ensures kept { LengthsKept (held notes.old.labels) (held notes.new.labels) }
 {
-    let mut left = n;
-    let mut p = at;
-    let mut w = pos;
-    let mut number = ActionNumber(action.0 + 1);
-    let mut long = 0;
-    while 0 < left {
-        match scan_body(
-            b, words, index, terms, p, depth, w, home, number, tab, homes, over,
-        ) {
-            Walked::Stops(f, q, k) => {
-                return Walked::Stops(f, q, k);
-            }
-            Walked::Ends(q, x, k) => {
-                long = first_long(long, x.0 - w.0);
-                p = q;
-                w = x;
-                number = k;
-            }
-        }
-        left -= 1;
+    let mut here = next_after(after, owner);
+    let mut long = None;
+    for _ in 0..n {
+        let next = scan_body(m, here, depth, home, notes)?;
+        let len = next.pos.0 - here.pos.0;
+        note_long(
+            &mut long,
+            Overflow {
+                limit: Limit::BlockLen,
+                len,
+                action: owner,
+            },
+        );
+        here = next;
     }
-    note_long(over, 9, long, action);
-    Walked::Ends(p, w, number)
+    notes.over = notes.over.or(long);
+    Ok(here)
 }
 
 // An action; bodies of `depth` may stand in it.
-#[cycle(scan_action_scan_actions_scan_bodies_scan_body_scan_large)]
+#[cycle(scanning)]
 fn scan_action(
-    b: &[u8],
-    words: &[u8],
-    index: &[u32],
-    terms: Terms,
-    at: usize,
+    m: &MainBody<'_>,
+    from: Cursor,
     depth: usize,
-    pos: BytePosition,
     home: BytePosition,
-    number: ActionNumber,
-    tab: &mut [usize],
-    homes: &mut [usize],
-    over: &mut [usize],
+    notes: &mut Notes<'_>,
 ) -> Walked
-    requires { Ready (terms_of terms words.now index.now) b.now at pos number.0 tab.old over.old }
-    ensures { Ran (outcome action_size count action_trace (standing pos home number) (state (tables tab.old homes.old) over.old) (read_action (terms_of terms words.now index.now) b.now (behind 1 (read_body (terms_of terms words.now index.now) b.now depth)) (placed at))) result (state (tables tab.new homes.new) over.new) }
+    requires { Ready (read_by m.now) m.now.b.now from notes.old }
+    ensures ran { Ran (outcome action_size count action_trace (standing from.pos home from.number) (kept_in notes.old) (read_action (read_by m.now) m.now.b.now (behind 1 (read_body (read_by m.now) m.now.b.now depth)) (placed from.at))) result (kept_in notes.new) }
+    ensures kept { LengthsKept (held notes.old.labels) (held notes.new.labels) }
 {
-    if b.len() <= at {
-        return Walked::Stops(Fault::CutShort, at, number);
+    if m.b.len() <= from.at {
+        return halted(Fault::CutShort, from.at, from.number);
     }
-    let op = b[at];
-    if op < 0x80 {
-        if OpCode::is_listed(op) {
-            let after = pos.0 + OpCode::SMALL_LEN;
-            let next = number.0 + 1;
-            return Walked::Ends(at + 1, BytePosition(after), ActionNumber(next));
-        }
-        return Walked::Stops(Fault::UnknownCode, at, number);
+    let op = m.b[from.at];
+    if 0x80 <= op {
+        return scan_large(m, op, from, depth, home, notes);
     }
-    scan_large(
-        b, words, index, terms, op, at, depth, pos, home, number, tab, homes, over,
-    )
+    if !OpCode::is_listed(op) {
+        return halted(Fault::UnknownCode, from.at, from.number);
+    }
+    let pos = BytePosition(from.pos.0 + OpCode::SMALL_LEN);
+    Ok(next_after(
+        Spot {
+            at: from.at + 1,
+            pos,
+        },
+        from.number,
+    ))
 }
 
 // An action from opcode 80 on: its payload, then its bodies, of which `depth` may stand one in another.
-#[cycle(scan_action_scan_actions_scan_bodies_scan_body_scan_large)]
+#[cycle(scanning)]
 fn scan_large(
-    b: &[u8],
-    words: &[u8],
-    index: &[u32],
-    terms: Terms,
+    m: &MainBody<'_>,
     op: u8,
-    at: usize,
+    from: Cursor,
     depth: usize,
-    pos: BytePosition,
     home: BytePosition,
-    number: ActionNumber,
-    tab: &mut [usize],
-    homes: &mut [usize],
-    over: &mut [usize],
+    notes: &mut Notes<'_>,
 ) -> Walked
-    requires { (128 ≤ op) × (at < length b.now) × (op ≡ get_or b.now at 0) × Ready (terms_of terms words.now index.now) b.now at pos number.0 tab.old over.old }
-    ensures { Ran (outcome action_size count action_trace (standing pos home number) (state (tables tab.old homes.old) over.old) (read_action (terms_of terms words.now index.now) b.now (behind 1 (read_body (terms_of terms words.now index.now) b.now depth)) (placed at))) result (state (tables tab.new homes.new) over.new) }
+    requires { (128 ≤ op) × (from.at < length m.now.b.now) × (op ≡ get_or m.now.b.now from.at 0) × Ready (read_by m.now) m.now.b.now from notes.old }
+    ensures ran { Ran (outcome action_size count action_trace (standing from.pos home from.number) (kept_in notes.old) (read_action (read_by m.now) m.now.b.now (behind 1 (read_body (read_by m.now) m.now.b.now depth)) (placed from.at))) result (kept_in notes.new) }
+    ensures kept { LengthsKept (held notes.old.labels) (held notes.new.labels) }
 {
-    let next = number.0 + 1;
-    match scan_payload(b, op, at, pos, terms, words, index, number, over) {
-        Laid::Stops(f, p) => Walked::Stops(f, p, number),
-        Laid::Flat(p, w) => Walked::Ends(p, w, ActionNumber(next)),
-        Laid::Branch(p, w, _) => Walked::Ends(p, w, ActionNumber(next)),
-        Laid::Bodies(p, w, n) => scan_bodies(
-            b, words, index, terms, p, depth, w, home, number, n, tab, homes, over,
-        ),
-        Laid::Function(p, w) => scan_bodies(
-            b, words, index, terms, p, depth, w, w, number, 1, tab, homes, over,
-        ),
+    let number = from.number;
+    match scan_payload(m, op, from, &mut notes.over) {
+        Err(stop) => halted(stop.fault, stop.place, number),
+        Ok(Laid::Flat(after)) => Ok(next_after(after, number)),
+        Ok(Laid::Branch(after, _)) => Ok(next_after(after, number)),
+        Ok(Laid::Bodies(after, n)) => scan_bodies(m, after, n, number, depth, home, notes),
+        Ok(Laid::Function(after)) => scan_bodies(m, after, 1, number, depth, after.pos, notes),
     }
 }
