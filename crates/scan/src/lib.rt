@@ -1,48 +1,46 @@
 // The walk of a whole main body: 3 to 7, where each label stands, and the first of 8 and 9.
 #![tactic(auto)]
 
-ghost use Rattle.std.specs.Prelude.{◌≤◌, length};
+ghost use Rattle.std.specs.Prelude.{◌≡◌, ◌≤◌, length};
 ghost use Rattle.layout.specs.Read.{deepest, read_main};
-ghost use Rattle.editions.specs.Allowed.{terms_of};
+ghost use Rattle.laws.specs.Fits.{Bytes};
+ghost use Rattle.labels.specs.Table.{held};
+ghost use Rattle.editions.specs.Allowed.{read_by};
+ghost use Rattle.bodies.specs.Ready.{LengthsKept};
 ghost use Rattle.scan.specs.Mains.{Empty, MainScanned};
 
-use bodies::scan_body;
-use editions::Terms;
-use positions::{ActionNumber, BytePosition, Fault, Walked};
+use bodies::{DEEPEST, scan_body};
+use editions::MainBody;
+use measure::Notes;
+use positions::{ActionNumber, BytePosition, Cursor, Fault, Halt, Walked};
+
+// How many bytes these are. That each is under 256 is said here: no proof sees it through the struct that lends them.
+fn byte_count(b: &[u8]) -> usize
+    ensures { (result ≡ length b.now) × Bytes b.now }
+{
+    b.len()
+}
 
 // A whole main body: no byte of it is left over.
-pub fn scan_main(
-    b: &[u8],
-    words: &[u8],
-    index: &[u32],
-    terms: Terms,
-    tab: &mut [usize],
-    homes: &mut [usize],
-    over: &mut [usize],
-) -> Walked
-    requires { (length b.now ≤ 1048576) × Empty (terms_of terms words.now index.now) tab.old homes.old over.old }
-    ensures { MainScanned tab.new homes.new over.new (read_main (terms_of terms words.now index.now) b.now deepest) result }
+pub fn scan_main(m: &MainBody<'_>, notes: &mut Notes<'_>) -> Walked
+    requires { (length m.now.b.now ≤ 1048576) × Empty (read_by m.now) notes.old }
+    ensures scanned { MainScanned notes.new (read_main (read_by m.now) m.now.b.now deepest) result }
+    ensures bytes { Bytes m.now.b.now }
+    ensures kept { LengthsKept (held notes.old.labels) (held notes.new.labels) }
 {
-    match scan_body(
-        b,
-        words,
-        index,
-        terms,
-        0,
-        16,
-        BytePosition(0),
-        BytePosition(0),
-        ActionNumber(0),
-        tab,
-        homes,
-        over,
-    ) {
-        Walked::Stops(f, p, number) => Walked::Stops(f, p, number),
-        Walked::Ends(p, w, number) => {
-            if p < b.len() {
-                return Walked::Stops(Fault::LeftOver, p, number);
-            }
-            Walked::Ends(p, w, number)
-        }
+    let count = byte_count(m.b);
+    let start = Cursor {
+        at: 0,
+        pos: BytePosition(0),
+        number: ActionNumber(0),
+    };
+    let end = scan_body(m, start, DEEPEST, BytePosition(0), notes)?;
+    if end.at < count {
+        return Err(Halt {
+            fault: Fault::LeftOver,
+            place: end.at,
+            number: end.number,
+        });
     }
+    Ok(end)
 }

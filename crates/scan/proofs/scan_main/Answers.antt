@@ -1,19 +1,19 @@
-use Rattle.laws.proofs.Fits.{all_bytes}
-use Rattle.editions.proofs.Listed.{terms_short}
-use Rattle.scan.proofs.Mains.{ready, main_stops, main_left, main_whole}
-use Rattle.positions.specs.Scanned.{fault_of}
 use native.Mathlib.Omega.{arith}
+use Rattle.editions.proofs.Listed.{terms_short}
+use Rattle.positions.specs.Scanned.{fault_of}
+use Rattle.operands.proofs.Scans.{passed}
+use Rattle.scan.proofs.Mains.{ready, main_stops, main_left, main_whole}
 use Rattle.scan.proofs.scan_main.Goals as goal
 
 pub scan_body-requires : goal.scan_body-requires
-scan_body-requires c = ready _ _ _ _ _ (all_bytes c.args.b.now (λ i l. omega (arith, c.shared_slice_known-1.given i))) c.requires.1 c.requires.0
+scan_body-requires c = ready c.byte_count-count.ensures.1 c.requires.1 c.requires.0
 
-pub returns-then-p-b : goal.returns-then-p-b
+pub returns-in_err-end-clause-scanned : goal.returns-in_err-end-clause-scanned
+returns-in_err-end-clause-scanned c = rw (passed c.from_residual.result c.from_residual.ensures.1) (main_stops _ _ c.args.notes.now c.scan_body.new.notes c.byte_count-count.ensures.1 c.requires.1 _ c.scan_body.ensures.ran _ c.in_err-end.was)
+
+pub returns-then-end-count-clause-scanned : goal.returns-then-end-count-clause-scanned
 unfolding fault_of
-returns-then-p-b c = main_left _ _ _ _ _ (all_bytes c.args.b.now (λ i l. omega (arith, c.shared_slice_known-1.given i))) c.requires.1 _ _ _ _ c.scan_body.ensures _ _ _ c.in-Ends.is c.if-p-b.true
+returns-then-end-count-clause-scanned c = main_left _ _ c.args.notes.now c.scan_body.new.notes c.byte_count-count.ensures.1 c.requires.1 _ c.scan_body.ensures.ran _ c.in_ok-end.was (omega arith)
 
-pub returns-in-Stops : goal.returns-in-Stops
-returns-in-Stops c = main_stops _ _ _ _ _ (all_bytes c.args.b.now (λ i l. omega (arith, c.shared_slice_known-1.given i))) c.requires.1 _ _ _ _ c.scan_body.ensures _ _ _ c.in-Stops.is
-
-pub returns-else-p-b : goal.returns-else-p-b
-returns-else-p-b c = main_whole _ _ _ _ _ (all_bytes c.args.b.now (λ i l. omega (arith, c.shared_slice_known-1.given i))) c.requires.1 _ _ _ _ c.scan_body.ensures _ _ _ c.in-Ends.is (terms_short c.args.terms _ _) c.if-p-b.false
+pub returns-clause-scanned : goal.returns-clause-scanned
+returns-clause-scanned c = main_whole _ _ c.args.notes.now c.scan_body.new.notes c.byte_count-count.ensures.1 c.requires.1 _ c.scan_body.ensures.ran _ c.in_ok-end.was (terms_short c.args.m.now.terms _ _) (omega arith)
