@@ -1,5 +1,5 @@
 -- What reading the main body of a sheet comes to, and that a packer answers the same where it is refused. Assumes nothing.
-use Rattle.std.specs.Prelude.{◌≡◌, ℕ, ◌+◌, List}
+use Rattle.std.specs.Prelude.{◌≡◌, ℕ, ◌+◌, List, Result, Ok, Err}
 use Rattle.std.proofs.Common.{arith}
 use Rattle.std.proofs.Math.Option.{Option, none, some}
 use Rattle.layout.specs.Answers.{Refusal, ReadingFault, Refused}
@@ -9,9 +9,9 @@ use Rattle.layout.specs.Judge.{Mode}
 use Rattle.layout.specs.Pack.{fault_action, pack_read}
 use Rattle.positions.specs.Scanned.{meant}
 use Rattle.positions.specs.declared.BytePosition.{BytePosition}
+use Rattle.positions.specs.declared.Halt.{Halt}
+use Rattle.measure.specs.declared.Notes.{Notes}
 use Rattle.scan.specs.Mains.{MainWhole}
-use Rattle.reading.specs.declared.Reading.{Reading}
-use Rattle.reading.specs.declared.Reading.TheVariants as reading
 
 -- by the definitions: the refusal with a number from 3 to 7, or none. "A place counts from the input's byte 0": the main body starts
 -- at `start`
@@ -20,15 +20,14 @@ fault_in start (got t p) = none
 fault_in start (bad f s) = some (ReadingFault f (start + s.at) (fault_action f s.begun))
 
 -- by the code
-unfoldable pub said : Reading → Option Refusal
-said (reading.Whole w) = none
-said (reading.Stops f p k) = some (ReadingFault (meant f) p k.0)
+unfoldable pub said : Result BytePosition Halt → Option Refusal
+said (Ok w) = none
+said (Err h) = some (ReadingFault (meant h.fault) h.place h.number.0)
 
--- the answer to a main body that starts at `start` in its sheet, with what is left in the tables and the three numbers where it
--- reads whole
-pub data MainRead (terms : Terms) (b : List ℕ) (start : ℕ) (tab homes over : List ℕ) : Reading → Type 0 where
-  whole : {w : BytePosition} → MainWhole terms b w tab homes over → MainRead terms b start tab homes over (reading.Whole w)
-  refused : {r : Reading} {x : Refusal} → said r ≡ some x → fault_in start (read_main terms b deepest) ≡ some x → MainRead terms b start tab homes over r
+-- the answer to a main body that starts at `start` in its sheet, with what is left in the notes where it reads whole
+pub data MainRead (terms : Terms) (b : List ℕ) (start : ℕ) (notes : Notes) : Result BytePosition Halt → Type 0 where
+  whole : {w : BytePosition} → MainWhole terms b w notes → MainRead terms b start notes (Ok w)
+  refused : {r : Result BytePosition Halt} {x : Refusal} → said r ≡ some x → fault_in start (read_main terms b deepest) ≡ some x → MainRead terms b start notes r
 
 -- what is refused here is refused so by the packer, whatever its mode and room
 pub read_refused : (m : Mode) (start : ℕ) (x : Read (ActionsOf Text ℕ)) (r : Refusal) (room : ℕ) → fault_in start x ≡ some r → pack_read m start x room ≡ Refused r
