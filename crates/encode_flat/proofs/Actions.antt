@@ -7,7 +7,7 @@ use mathlib.Core.Option.{none, some}
 use mathlib.Core.List.{List, [], ◌∷◌}
 use lib.ListN.{get_or}
 use lib.Dec.{leb, ltb, eqb}
-use borrow.Author.Tests.{lt-ltb, le-ltb, ltb-true, ltb-false, leb-true}
+use borrow.Author.Tests.{lt-ltb, le-ltb, leb-true}
 use Rattle.layout.specs.Numbers.{le16, bits64}
 use Rattle.layout.specs.Tree.{GetUrl2, GotoFrame2}
 use Rattle.layout.specs.Payload.{payload, get_url2_bits, goto_frame2_bytes, headed}
@@ -16,7 +16,7 @@ use Rattle.layout.specs.Judge.{judged, distance, is_near, far_unless}
 use Rattle.labels.specs.Table.{record_of, record_at}
 use Rattle.encode_flat.specs.Branches.{table_bits}
 use Rattle.stores.proofs.Stores.{le16_low}
-use Rattle.labels.proofs.Distances.{distance_ahead, distance_back}
+use Rattle.labels.proofs.Distances.{distance_some}
 use Rattle.encode_values.proofs.Puts.{bit_is}
 
 -- ---- by a test
@@ -44,15 +44,7 @@ near_bits (suc n) end bits h j e = go (leb n (end + 32767)) (leb end (n + 32768)
     go true true k l f =
         let i = leb-true n (end + 32767) k in
         let m = leb-true end (n + 32768) l in
-        side (ltb end (suc n)) refl i m
-      where
-        side : (t : Bool) → ltb end (suc n) ≡ t → n ≤ end + 32767 → end ≤ n + 32768 → bits % 65536 ≡ (n + 65536 - end) % 65536
-        side true d i m =
-            let k = ltb-true end (suc n) d in
-            omega (arith, distance_ahead (suc n) end (omega arith) k)
-        side false d i m =
-            let k = ltb-false end (suc n) d in
-            omega (arith, distance_back (suc n) end (λ z. omega arith) (omega arith) k)
+        omega (arith, i, m, distance_some (suc n) end (λ z. omega arith) (omega arith) (omega arith))
     go true false k l f =
         let z : ◌≡◌ {A = ℕ} 0 1 = unfold far_unless in cc in
         absurd (omega arith)
