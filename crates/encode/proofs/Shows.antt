@@ -12,8 +12,8 @@ use borrow.Author.Tests.{ltb-true, eqb-true, eqb-false}
 use Rattle.layout.specs.Lists.{each}
 use Rattle.layout.specs.Numbers.{le16, bit}
 use Rattle.layout.specs.OpCode.{byte}
-use Rattle.layout.specs.Tree.{PushValueOf, FunctionParamOf, function_param, Small, GotoFrame, GetUrl, StoreRegister, ConstantPool, WaitForFrame, SetTarget, GotoLabel, WaitForFrame2, Push, GetUrl2, GotoFrame2, With, DefineFunction, DefineFunction2, Jump, If, CatchTargetOf, Variable, Register, ActionOf, Try, ActionsOf, CatchOf, no_catch, catch, FinallyOf, no_finally, finally}
-use Rattle.layout.specs.Read.{Text, Terms, Place, placed, Read, got, bad, Reader, chain, repeat, has_catch, has_finally, has_register, is_shape, read_string, read_param, read_catch, read_finally}
+use Rattle.layout.specs.Tree.{PushValueOf, FunctionParamOf, function_param, GetUrl, WaitForFrame, GetUrl2, GotoFrame2, CatchTargetOf, Variable, Register, ActionOf, ActionsOf, CatchOf, no_catch, catch, FinallyOf, no_finally, finally}
+use Rattle.layout.specs.Read.{Text, Place, placed, Read, got, bad, Reader, chain, repeat, has_catch, has_finally, has_register, is_shape, read_string, read_param, read_catch, read_finally}
 use Rattle.layout.specs.Payload.{zero_ended, strings_bytes, pushes_bytes, opcode, payload, owner_op_code, params_bytes, owner_fields, owner_payload, branch_op_code, catch_shape, finally_shape, catch_name, try_payload, headed, framed}
 use Rattle.layout.specs.Strings.{map_value, map_param, map_flat, map_owner, map_target, map_action, map_catch, map_finally}
 use Rattle.layout.specs.Pack.{spelling}
@@ -24,7 +24,10 @@ use Rattle.pcode.specs.declared.CatchTarget.{CatchTarget}
 use Rattle.pcode.specs.declared.Action.{Action}
 use Rattle.pcode.specs.declared.Action.TheVariants as code
 use Rattle.pcode.specs.Shown.{span_of, Held, ShownTarget, nothing, variable, register, Shown, small, goto_frame, get_url, store_register, constant_pool, wait_for_frame, set_target, goto_label, wait_for_frame2, define_function2, try, with, push, jump, get_url2, define_function, if, goto_frame2}
-use Rattle.positions.specs.declared.Ends.{Ends}
+use Rattle.editions.specs.Allowed.{read_by}
+use Rattle.editions.specs.declared.MainBody.{MainBody}
+use Rattle.positions.specs.declared.Spot.{Spot}
+use Rattle.std.specs.Prelude as std
 use Rattle.encode.specs.Heads.{head_bytes, head_of, CatchFrom, FinallyFrom, BodiesFrom, NotFar, Writable, WroteHead}
 use Rattle.encode_values.specs.Pieces.{Piece, piece, action, written, next_of, string_bytes, param_bytes, value_bytes, joined, strings_at, values_at, Room, Put}
 use Rattle.encode_values.specs.Pieces.{flat_piece}
@@ -103,9 +106,9 @@ unfolding has_register bit
 register_bit shape true h = eqb-true (shape / 4 % 2) 1 h
 register_bit shape false h = omega (arith, eqb-false (shape / 4 % 2) 1 h)
 
-module _ (terms : Terms) (b : List ℕ) (inner : Reader (ActionsOf Text ℕ)) where
+module _ (m : MainBody) (inner : Reader (ActionsOf Text ℕ)) where
   -- a catch that was read, and none
-  caught : (x : CatchTargetOf Text) (r s : Place) (c : CatchOf Text ℕ) → read_catch terms b inner true x r ≡ got c s → (a : ActionsOf Text ℕ) × (inner r ≡ got a s) × (c ≡ catch x a)
+  caught : (x : CatchTargetOf Text) (r s : Place) (c : CatchOf Text ℕ) → read_catch (read_by m) m.b.now inner true x r ≡ got c s → (a : ActionsOf Text ℕ) × (inner r ≡ got a s) × (c ≡ catch x a)
   unfolding read_catch
   caught x r s c e =
       let d = parts (inner r) (λ a q. got (catch x a) q) c s e in
@@ -114,38 +117,38 @@ module _ (terms : Terms) (b : List ℕ) (inner : Reader (ActionsOf Text ℕ)) wh
       (d.0, rw g at d.2, f)
 
   -- and none
-  uncaught : (x : CatchTargetOf Text) (r s : Place) (c : CatchOf Text ℕ) → read_catch terms b inner false x r ≡ got c s → (s ≡ r) × (c ≡ no_catch)
+  uncaught : (x : CatchTargetOf Text) (r s : Place) (c : CatchOf Text ℕ) → read_catch (read_by m) m.b.now inner false x r ≡ got c s → (s ≡ r) × (c ≡ no_catch)
   unfolding read_catch
   uncaught x r s c e = (cc, cc)
 
   -- the catch's body, its name and its bits
-  catch_shown : (e : List ℕ) {shape : ℕ} {t : CatchTarget} {x : CatchTargetOf Text} (r s : Place) (c : CatchOf Text ℕ) → is_shape shape ≡ true → ShownTarget b e shape t x
-      → read_catch terms b inner (has_catch shape) x r ≡ got c s
-      → CatchFrom inner r c s × (catch_name (map_catch spelling c) ≡ target_bytes b e t) × (catch_shape (map_catch spelling c) ≡ shape % 2 + 4 * (shape / 4 % 2))
+  catch_shown : {shape : ℕ} {t : std.Option CatchTarget} {x : CatchTargetOf Text} (r s : Place) (c : CatchOf Text ℕ) → is_shape shape ≡ true → ShownTarget m shape t x
+      → read_catch (read_by m) m.b.now inner (has_catch shape) x r ≡ got c s
+      → CatchFrom inner r c s × (catch_name (map_catch spelling c) ≡ target_bytes m t) × (catch_shape (map_catch spelling c) ≡ shape % 2 + 4 * (shape / 4 % 2))
   unfolding catch_name catch_shape map_catch map_target target_bytes bit
-  catch_shown e {shape} r s c i (nothing {t} h) g =
+  catch_shown {shape} r s c i (nothing {t} h) g =
       let k = uncaught t r s c (rw h at g) in
-      let m = catch_bit shape false h in
+      let o = catch_bit shape false h in
       let n = register_bit shape false ((shape_bits shape i).1 h) in
       rw k.1 (k.0, refl, omega arith)
-  catch_shown e {shape} r s c i (variable {t = t} h j l) g =
+  catch_shown {shape} r s c i (variable {t = t} h j l) g =
       let k = caught (Variable t) r s c (rw h at g) in
-      let m = catch_bit shape true h in
+      let o = catch_bit shape true h in
       let n = register_bit shape false j in
       rw k.2 (k.1, ap (λ (x : List ℕ). zero_ended x) l.is, omega arith)
-  catch_shown e {shape} r s c i (register {r = n} h j) g =
-      let k = caught (Register n) r s c (rw h at g) in
-      let m = catch_bit shape true h in
-      let o = register_bit shape true j in
+  catch_shown {shape} r s c i (register {r = p} h j) g =
+      let k = caught (Register p) r s c (rw h at g) in
+      let o = catch_bit shape true h in
+      let n = register_bit shape true j in
       rw k.2 (k.1, refl, omega arith)
 
   -- the finally's body and its bit
-  finally_shown : (shape : ℕ) (s q : Place) (f : FinallyOf Text ℕ) → read_finally terms b inner (has_finally shape) s ≡ got f q
+  finally_shown : (shape : ℕ) (s q : Place) (f : FinallyOf Text ℕ) → read_finally (read_by m) m.b.now inner (has_finally shape) s ≡ got f q
       → FinallyFrom inner s f q × (finally_shape (map_finally spelling f) ≡ 2 * (shape / 2 % 2))
   unfolding has_finally read_finally finally_shape map_finally
   finally_shown shape s q f e = go (eqb (shape / 2 % 2) 1) refl e
     where
-      go : (t : Bool) → eqb (shape / 2 % 2) 1 ≡ t → read_finally terms b inner t s ≡ got f q → FinallyFrom inner s f q × (finally_shape (map_finally spelling f) ≡ 2 * (shape / 2 % 2))
+      go : (t : Bool) → eqb (shape / 2 % 2) 1 ≡ t → read_finally (read_by m) m.b.now inner t s ≡ got f q → FinallyFrom inner s f q × (finally_shape (map_finally spelling f) ≡ 2 * (shape / 2 % 2))
       go true h e =
           let d = parts (inner s) (λ a q. got (finally a) q) f q e in
           let g : f ≡ finally d.0 = cc d.3 in
@@ -158,25 +161,25 @@ module _ (terms : Terms) (b : List ℕ) (inner : Reader (ActionsOf Text ℕ)) wh
 
 -- ---- the cases
 
-module _ (terms : Terms) (b e tab : List ℕ) (at pos : ℕ) where
+module _ (m : MainBody) (tab : List ℕ) (at pos : ℕ) where
   -- what the code writes for a case, and where it reads on
   abbrev coded : Action → Piece
   coded (code.Small n) = piece (headed (ltb n 128) n []) (at + 1)
   coded (code.GotoFrame n) = action 0x81 (le16 n) (at + 1 + 2)
-  coded (code.GetUrl u t) = flat_piece (GetUrl (span_of b e u) (span_of b e t)) t.next
+  coded (code.GetUrl u t) = flat_piece (GetUrl (span_of m u) (span_of m t)) t.next
   coded (code.StoreRegister r) = action 0x87 (r ∷ []) (at + 1 + 1)
-  coded (code.ConstantPool n i) = written (λ q. headed false 0x88 (le16 n ++ q)) (strings_at terms b n i)
+  coded (code.ConstantPool n i) = written (λ q. headed false 0x88 (le16 n ++ q)) (strings_at m n i)
   coded (code.WaitForFrame n k) = flat_piece (WaitForFrame n k) (at + 1 + 3)
-  coded (code.SetTarget s) = action 0x8B (zero_ended (span_of b e s)) s.next
-  coded (code.GotoLabel s) = action 0x8C (zero_ended (span_of b e s)) s.next
+  coded (code.SetTarget s) = action 0x8B (zero_ended (span_of m s)) s.next
+  coded (code.GotoLabel s) = action 0x8C (zero_ended (span_of m s)) s.next
   coded (code.WaitForFrame2 k) = action 0x8D (k ∷ []) (at + 1 + 1)
-  coded (code.DefineFunction2 f) = function2 terms b e f
-  coded (code.Try shape t i) = action 0x8F (try_payload shape 0 0 0 (target_bytes b e t)) i
+  coded (code.DefineFunction2 f) = function2 m f
+  coded (code.Try shape t i) = action 0x8F (try_payload shape 0 0 0 (target_bytes m t)) i
   coded (code.With i) = action 0x94 (le16 0) i
-  coded (code.Push n i) = written (λ q. headed false 0x96 q) (values_at terms b n i)
+  coded (code.Push n i) = written (λ q. headed false 0x96 q) (values_at m n i)
   coded (code.Jump l) = action 0x99 (le16 (table_bits tab l (pos + 5))) (at + 1 + 2)
-  coded (code.GetUrl2 v t m) = flat_piece (GetUrl2 (eqb v 1) (eqb t 1) m) (at + 1 + 3)
-  coded (code.DefineFunction f) = function terms b e f
+  coded (code.GetUrl2 v t n) = flat_piece (GetUrl2 (eqb v 1) (eqb t 1) n) (at + 1 + 3)
+  coded (code.DefineFunction f) = function m f
   coded (code.If l) = action 0x9D (le16 (table_bits tab l (pos + 5))) (at + 1 + 2)
   coded (code.GotoFrame2 n k) = flat_piece (GotoFrame2 n (eqb k 1)) (at + 1 + 3)
 
@@ -188,25 +191,25 @@ module _ (terms : Terms) (b e tab : List ℕ) (at pos : ℕ) where
   abbrev Within : Action → Type 0
   Within (code.Small n) = Unit {0}
   Within (code.GotoFrame n) = Unit {0}
-  Within (code.GetUrl u t) = Held b e u × Held b e t
+  Within (code.GetUrl u t) = Held m u × Held m t
   Within (code.StoreRegister r) = Unit {0}
   Within (code.ConstantPool n i) = Unit {0}
   Within (code.WaitForFrame n k) = Unit {0}
-  Within (code.SetTarget s) = Held b e s
-  Within (code.GotoLabel s) = Held b e s
+  Within (code.SetTarget s) = Held m s
+  Within (code.GotoLabel s) = Held m s
   Within (code.WaitForFrame2 k) = Unit {0}
-  Within (code.DefineFunction2 f) = Held b e f.name × (next_of (function2 terms b e f) ≤ length b)
-  Within (code.Try shape t i) = TargetWithin b e t
+  Within (code.DefineFunction2 f) = Held m f.name × (next_of (function2 m f) ≤ length m.b.now)
+  Within (code.Try shape t i) = TargetWithin m t
   Within (code.With i) = Unit {0}
   Within (code.Push n i) = Unit {0}
   Within (code.Jump l) = Reaches l
-  Within (code.GetUrl2 v t m) = (v < 2) × (t < 2)
-  Within (code.DefineFunction f) = Held b e f.name
+  Within (code.GetUrl2 v t n) = (v < 2) × (t < 2)
+  Within (code.DefineFunction f) = Held m f.name
   Within (code.If l) = Reaches l
   Within (code.GotoFrame2 n k) = k < 2
 
   -- it holds of a case that shows an action
-  is_within : {inner : Reader (ActionsOf Text ℕ)} {a : Action} {x : ActionOf Text ℕ} {q : Place} → Shown terms b e inner (at + 1) a x q → terms.label_bound ≤ length tab → NotFar tab x pos → Within a
+  is_within : {inner : Reader (ActionsOf Text ℕ)} {a : Action} {x : ActionOf Text ℕ} {q : Place} → Shown m inner (at + 1) a x q → m.terms.label_bound ≤ length tab → NotFar tab x pos → Within a
   unfolding TargetWithin
   is_within (small e) k n = tt
   is_within goto_frame k n = tt
@@ -234,46 +237,46 @@ module _ (terms : Terms) (b e tab : List ℕ) (at pos : ℕ) where
   Heads inner a x q = (n : ℕ) × (coded a ≡ got (head_of tab x pos) (placed n)) × BodiesFrom inner n x q
 
   -- it holds of a case that shows an action
-  is_head : {inner : Reader (ActionsOf Text ℕ)} {a : Action} {x : ActionOf Text ℕ} {q : Place} → Shown terms b e inner (at + 1) a x q → Heads inner a x q
+  is_head : {inner : Reader (ActionsOf Text ℕ)} {a : Action} {x : ActionOf Text ℕ} {q : Place} → Shown m inner (at + 1) a x q → Heads inner a x q
   unfolding head_of head_bytes map_action map_flat map_owner opcode payload framed byte branch_op_code owner_op_code owner_fields owner_payload function_payload function2_payload
   is_head (small g) = (at + 1, ap (λ (k : ℕ). piece (headed (ltb k 128) k []) (at + 1)) (sym g), refl)
   is_head goto_frame = (at + 1 + 2, refl, refl)
   is_head (get_url {t = t} h i) = (t.next, rw (h.is, i.is), refl)
   is_head store_register = (at + 1 + 1, refl, refl)
   is_head (constant_pool {n} {i} {xs} {q} g) =
-      (q.at, rw (g, strings_joined xs, length_each spelling xs, count_is (read_string terms b) n (placed i) q xs g), refl)
+      (q.at, rw (g, strings_joined xs, length_each spelling xs, count_is (read_string (read_by m) m.b.now) n (placed i) q xs g), refl)
   is_head wait_for_frame = (at + 1 + 3, refl, refl)
   is_head (set_target {s} h) = (s.next, rw h.is, refl)
   is_head (goto_label {s} h) = (s.next, rw h.is, refl)
   is_head wait_for_frame2 = (at + 1 + 1, refl, refl)
   is_head (define_function2 {f} {ps = ps} {r = r} h d i j g) =
-      (r.at + 3, rw (d, params_joined ps, length_each (map_param spelling) ps, count_is (read_param terms b) f.count (placed f.at) r ps d, h.is), g)
+      (r.at + 3, rw (d, params_joined ps, length_each (map_param spelling) ps, count_is (read_param (read_by m) m.b.now) f.count (placed f.at) r ps d, h.is), g)
   is_head {inner} (try {shape} {i} {t} {c = c} {f = f} {r = r} {s = s} {q = q} h target d g k) =
-      let l = catch_shown terms b inner e r s c h target g in
-      let m = finally_shown terms b inner shape s q f k in
-      let n : shape ≡ catch_shape (map_catch spelling c) + finally_shape (map_finally spelling f) = shape_sum shape (shape_bits shape h).0 ∙ ap₂ (λ (i j : ℕ). i + j) (sym l.2) (sym m.1) in
-      (i, rw (← n, l.1), (r, s, d, l.0, m.0))
+      let l = catch_shown m inner r s c h target g in
+      let o = finally_shown m inner shape s q f k in
+      let n : shape ≡ catch_shape (map_catch spelling c) + finally_shape (map_finally spelling f) = shape_sum shape (shape_bits shape h).0 ∙ ap₂ (λ (i j : ℕ). i + j) (sym l.2) (sym o.1) in
+      (i, rw (← n, l.1), (r, s, d, l.0, o.0))
   is_head (with {i} g) = (i, refl, g)
   is_head (push {n} {i} {xs} {q} g) = (q.at, rw (g, values_joined xs), refl)
   is_head (jump h) = (at + 1 + 2, refl, refl)
   is_head (get_url2 h i) = (at + 1 + 3, refl, refl)
   is_head (define_function {f} {ps = ps} {r = r} h d g) =
-      (r.at, rw (d, strings_joined ps, length_each spelling ps, count_is (read_string terms b) f.count (placed f.at) r ps d, h.is), g)
+      (r.at, rw (d, strings_joined ps, length_each spelling ps, count_is (read_string (read_by m) m.b.now) f.count (placed f.at) r ps d, h.is), g)
   is_head (if h) = (at + 1 + 2, refl, refl)
   is_head (goto_frame2 h) = (at + 1 + 3, refl, refl)
 
   module _ {a a' : Action} {out : List ℕ} where
     -- what a case asks, where the action may be written
-    pub case_room : Writable terms b e at a pos tab out → a ≡ a' → Within a' × Room (coded a') pos out
+    pub case_room : Writable m at a pos tab out → a ≡ a' → Within a' × Room (coded a') pos out
     case_room w g =
         let h = is_head w.shown in
         let r : Room (coded a) pos out = rw h.1 (record { known = tt; room = w.room; sums = w.sums }) in
         (rw g at (is_within w.shown w.slots w.near), rw g at r)
 
     -- what it leaves
-    pub case_put : {out' : List ℕ} {r : Ends} → a ≡ a' → Put (coded a') pos out out' r → WroteHead terms b e at a pos tab out out' r.next r.pos.0
+    pub case_put : {out' : List ℕ} {r : Spot} → a ≡ a' → Put (coded a') pos out out' r → WroteHead m at a pos tab out out' r
     case_put {out'} {r} d p = record { wrote = λ inner x q s. go inner x q (is_head s) (rw (← d) at p) }
       where
         go : (inner : Reader (ActionsOf Text ℕ)) (x : ActionOf Text ℕ) (q : Place) → Heads inner a x q → Put (coded a) pos out out' r
-            → (out' ≡ sets out pos (head_of tab x pos)) × (r.pos.0 ≡ pos + length (head_of tab x pos)) × BodiesFrom inner r.next x q
+            → (out' ≡ sets out pos (head_of tab x pos)) × (r.pos.0 ≡ pos + length (head_of tab x pos)) × BodiesFrom inner r.at x q
         go inner x q (n, f, g) p = (rw f at p.wrote, rw f at p.end, rw (rw f at p.next) g)

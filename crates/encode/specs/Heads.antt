@@ -5,13 +5,15 @@ use Rattle.std.proofs.lemmas.List.Edits.{sets}
 use Rattle.layout.specs.Numbers.{le16}
 use Rattle.layout.specs.OpCode.{OpCode}
 use Rattle.layout.specs.Tree.{Action, ActionOf, ActionsOf, CatchOf, FinallyOf, flat, branch, owner, Try, no_catch, catch, no_finally, finally}
-use Rattle.layout.specs.Read.{Text, Terms, Place, placed, Reader, got}
+use Rattle.layout.specs.Read.{Text, Place, placed, Reader, got}
 use Rattle.layout.specs.Strings.{map_action}
 use Rattle.layout.specs.Payload.{opcode, payload, owner_op_code, owner_payload, branch_op_code, catch_shape, finally_shape, catch_name, try_payload, framed}
 use Rattle.layout.specs.Judge.{judged}
 use Rattle.layout.specs.Pack.{spelling}
 use Rattle.laws.specs.Fits.{Bytes}
 use Rattle.labels.specs.Table.{record_at}
+use Rattle.editions.specs.declared.MainBody.{MainBody}
+use Rattle.positions.specs.declared.Spot.{Spot}
 use Rattle.pcode.specs.Shown.{Shown}
 use Rattle.pcode.specs.declared.Action as code
 use Rattle.encode_flat.specs.Branches.{table_bits}
@@ -52,20 +54,20 @@ NotFar tab (Try a c f) p = Unit {0}
 
 -- What the writing of a head asks: the case a shows the action that the definitions read at a place, its branch is not too far,
 -- its head has room, and the sums fit
-pub record Writable (terms : Terms) (b e : List ℕ) (at : ℕ) (a : code.Action) (pos : ℕ) (tab out : List ℕ) : Type 0 where
-  pub bytes : Bytes b
+pub record Writable (m : MainBody) (at : ℕ) (a : code.Action) (pos : ℕ) (tab out : List ℕ) : Type 0 where
+  pub bytes : Bytes m.b.now
   pub inner : Reader (ActionsOf Text ℕ)
   pub action : ActionOf Text ℕ
   pub next : Place
-  pub shown : Shown terms b e inner (at + 1) a action next
-  pub slots : terms.label_bound ≤ length tab
+  pub shown : Shown m inner (at + 1) a action next
+  pub slots : m.terms.label_bound ≤ length tab
   pub near : NotFar tab action pos
   pub room : pos + length (head_of tab action pos) ≤ length out
   pub sums : length out ≤ 1099511627776
   pub places : at ≤ 1099511627776
 
--- What it leaves, for every action that the case shows: that action's head from the position on, the position after it, and the
--- place where its bodies stand
-pub record WroteHead (terms : Terms) (b e : List ℕ) (at : ℕ) (a : code.Action) (pos : ℕ) (tab out out' : List ℕ) (next end : ℕ) : Type 0 where
-  pub wrote : (inner : Reader (ActionsOf Text ℕ)) (x : ActionOf Text ℕ) (q : Place) → Shown terms b e inner (at + 1) a x q
-      → (out' ≡ sets out pos (head_of tab x pos)) × (end ≡ pos + length (head_of tab x pos)) × BodiesFrom inner next x q
+-- What it leaves, for every action that the case shows: that action's head from the position on, and r, the position after it and
+-- the place where its bodies stand
+pub record WroteHead (m : MainBody) (at : ℕ) (a : code.Action) (pos : ℕ) (tab out out' : List ℕ) (r : Spot) : Type 0 where
+  pub wrote : (inner : Reader (ActionsOf Text ℕ)) (x : ActionOf Text ℕ) (q : Place) → Shown m inner (at + 1) a x q
+      → (out' ≡ sets out pos (head_of tab x pos)) × (r.pos.0 ≡ pos + length (head_of tab x pos)) × BodiesFrom inner r.at x q
