@@ -54,7 +54,7 @@ pub fn scan_get_url(m: &MainBody<'_>, from: Spot) -> Scan
     scan_string(m, target)
 }
 
-// ConstantPool: its strings; their count is not measured.
+// ConstantPool: its strings; `from` has the position after the written count.
 pub fn scan_constant_pool(m: &MainBody<'_>, from: Spot) -> Scan
     requires { Roomy m.now.b.now from.at from.pos }
     ensures { result ≡ scanned (total (named_size 0)) from.pos.0 (read_counted m.now.b.now (read_named (read_by m.now) m.now.b.now 0) (placed from.at)) }

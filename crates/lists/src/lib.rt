@@ -22,7 +22,7 @@ pub fn scan_named(m: &MainBody<'_>, from: Spot, skip: usize) -> Scan
     scan_string(m, after(from, skip, skip))
 }
 
-// A count, then that many strings, each after `skip` bytes; the count is not measured.
+// A count, then that many strings, each after `skip` bytes; `from` has the position after the written count.
 pub fn scan_strings(m: &MainBody<'_>, from: Spot, skip: usize) -> Scan
     requires { Roomy m.now.b.now from.at from.pos × (skip ≤ 1) }
     ensures { result ≡ scanned (total (named_size skip)) from.pos.0 (read_counted m.now.b.now (read_named (read_by m.now) m.now.b.now skip) (placed from.at)) }
@@ -57,7 +57,7 @@ pub fn scan_push_value(m: &MainBody<'_>, from: Spot) -> Scan
     }
 }
 
-// A count, then that many push values; the count is not measured.
+// A count, then that many push values; `from` has the position after the written count.
 pub fn scan_push(m: &MainBody<'_>, from: Spot) -> Scan
     requires { Roomy m.now.b.now from.at from.pos }
     ensures { result ≡ scanned (total value_size) from.pos.0 (read_counted m.now.b.now (read_value (read_by m.now) m.now.b.now) (placed from.at)) }
