@@ -9,7 +9,7 @@ ghost use Rattle.editions.specs.Allowed.{read_by};
 ghost use Rattle.lists.specs.Elements.{named_size, read_named, constant_size, value_size};
 
 use editions::MainBody;
-use opcode::OpCode;
+use opcode::{OpCode, PushKind};
 use operands::{after, read_u8, read_u16, scan_bytes, scan_flag, scan_string, stops, whole};
 use positions::{Fault, Scan, Spot};
 
@@ -45,15 +45,17 @@ pub fn scan_push_value(m: &MainBody<'_>, from: Spot) -> Scan
     requires { Roomy m.now.b.now from.at from.pos }
     ensures { result ≡ scanned value_size from.pos.0 (read_value (read_by m.now) m.now.b.now (placed from.at)) }
 {
-    match read_u8(m, from.at)? {
-        0 => scan_string(m, after(from, 1, OpCode::PUSH_KIND_LEN)),
-        2 | 3 => Ok(after(from, 1, OpCode::PUSH_KIND_LEN)),
-        4 => scan_bytes(m, after(from, 1, OpCode::PUSH_U8_LEN), 1),
-        5 => scan_flag(m, after(from, 1, OpCode::PUSH_U8_LEN)),
-        6 => scan_bytes(m, after(from, 1, OpCode::PUSH_FLOAT_LEN), 8),
-        7 => scan_bytes(m, after(from, 1, OpCode::PUSH_INTEGER_LEN), 4),
-        8 => scan_constant(m, after(from, 1, 0)),
-        _ => stops(Fault::UnknownCode, from.at),
+    let byte = read_u8(m, from.at)?;
+    match PushKind::of(byte) {
+        None => stops(Fault::UnknownCode, from.at),
+        Some(PushKind::String) => scan_string(m, after(from, 1, OpCode::PUSH_KIND_LEN)),
+        Some(PushKind::Null) => Ok(after(from, 1, OpCode::PUSH_KIND_LEN)),
+        Some(PushKind::Undefined) => Ok(after(from, 1, OpCode::PUSH_KIND_LEN)),
+        Some(PushKind::Register) => scan_bytes(m, after(from, 1, OpCode::PUSH_U8_LEN), 1),
+        Some(PushKind::Boolean) => scan_flag(m, after(from, 1, OpCode::PUSH_U8_LEN)),
+        Some(PushKind::Float) => scan_bytes(m, after(from, 1, OpCode::PUSH_FLOAT_LEN), 8),
+        Some(PushKind::Integer) => scan_bytes(m, after(from, 1, OpCode::PUSH_INTEGER_LEN), 4),
+        Some(PushKind::Constant) => scan_constant(m, after(from, 1, 0)),
     }
 }
 

@@ -1,2 +1,3 @@
 pub mod Listed
 pub mod PayloadLengths
+pub mod Kinds

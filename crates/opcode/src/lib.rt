@@ -1,4 +1,4 @@
-// The opcodes of source 000: their bytes, and the lengths of their payloads.
+// The opcodes of source 000: their bytes, and the lengths of their payloads; and the kinds of a push value.
 #![tactic(auto)]
 
 ghost use Rattle.std.specs.Prelude.{◌≡◌, ◌+◌, ◌≤◌};
@@ -7,6 +7,7 @@ ghost use Rattle.layout.specs.OpCode.{byte, opcodes};
 ghost use Rattle.layout.specs.Tree.{Constant};
 ghost use Rattle.layout.specs.Lengths.{push_length, goto_frame2_length};
 ghost use Rattle.opcode.specs.Listed.{listed};
+ghost use Rattle.opcode.specs.Kinds.{IsKind};
 
 // An opcode's byte. Its constants are those of OpCode of source 000, in that order.
 #[derive(Clone, Copy)]
@@ -441,5 +442,38 @@ impl OpCode {
         ensures { result ≡ goto_frame2_length bias }
     {
         if bias == 0 { 1 } else { 3 }
+    }
+}
+
+// The kind of a push value, with its byte in a sheet.
+#[derive(Clone, Copy)]
+pub enum PushKind {
+    String = 0,
+    Null = 2,
+    Undefined = 3,
+    Register = 4,
+    Boolean = 5,
+    Float = 6,
+    Integer = 7,
+    Constant = 8,
+}
+
+impl PushKind {
+    // The kind that a byte stands for.
+    #[tactic(auto, unfolding(crate::specs::Kinds::meant, layout::specs::PushKind::kind_of, layout::specs::PushKind::kind_byte, layout::specs::PushKind::push_kinds, layout::specs::Lists::first_with, layout::specs::Lists::pick))]
+    pub fn of(byte: u8) -> Option<PushKind>
+        ensures { IsKind byte result }
+    {
+        match byte {
+            0 => Some(PushKind::String),
+            2 => Some(PushKind::Null),
+            3 => Some(PushKind::Undefined),
+            4 => Some(PushKind::Register),
+            5 => Some(PushKind::Boolean),
+            6 => Some(PushKind::Float),
+            7 => Some(PushKind::Integer),
+            8 => Some(PushKind::Constant),
+            _ => None,
+        }
     }
 }

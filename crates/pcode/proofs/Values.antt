@@ -1,12 +1,12 @@
 -- Push values: what the code takes for each kind shows what the definitions read. Assumes nothing.
 use mathlib.Core.Path.{◌≡◌, refl, sym, ap, ◌∙◌}
 use Prim.Native.Nat.{ℕ, ◌+◌, ◌≤◌}
-use mathlib.Core.Option.{Option, none, some}
-use mathlib.Core.List.{List, [], ◌∷◌}
+use mathlib.Core.Option.{Option, none, some, none-ne-some}
+use mathlib.Core.List.{List}
 use lib.ListN.{length, get_or}
-use Rattle.layout.specs.Lists.{first_with, pick}
-use Rattle.layout.proofs.Lists.{first_with_lem}
-use Rattle.layout.specs.PushKind.{PushKind, kind_byte, push_kinds, kind_of}
+use Rattle.layout.specs.PushKind.{PushKind, kind_of}
+use Rattle.opcode.specs.declared.PushKind as code
+use Rattle.opcode.specs.Kinds.{meant}
 use Rattle.layout.specs.Tree.{PushValueOf}
 use Rattle.layout.specs.Read.{Text, Terms, Place, placed, read_value_of, read_value_if, read_value}
 use Rattle.editions.specs.Allowed.{read_by}
@@ -14,7 +14,7 @@ use Rattle.editions.specs.declared.MainBody.{MainBody}
 use Rattle.pcode.specs.declared.PushAt.{PushAt}
 use Rattle.pcode.specs.Shown.{value_at, ShownValue, string, null, undefined, register, boolean, float, integer, constant, ValueReads, TakesValue}
 use Rattle.pcode.proofs.Readings as reading
-use Rattle.pcode.proofs.Arms.{Found, found, found_once, NoneOf, is_one, barred}
+use Rattle.pcode.proofs.Arms.{Found, found, found_once}
 use Rattle.pcode.proofs.Readings.{Gives, gives, refuses, given, next, next_text, anyway, first, u8}
 
 -- a value and the place after it are those that r shows, and the place lies within the main body
@@ -34,45 +34,26 @@ module _ (m : MainBody) (p : ℕ) (l : p ≤ length m.b.now) where
   kind_shown PushKind.Integer = next _ (reading.u32 m.b.now p) (λ h. gives (integer, refl, h))
   kind_shown PushKind.Constant = next _ (reading.u16 m.b.now p) (λ h. gives (constant, refl, h))
 
--- the kinds, each by its byte, as a match on the byte has them
-pub data KindArm : ℕ → PushKind → Type 0 where
-  is_string : KindArm 0 PushKind.String
-  is_null : KindArm 2 PushKind.Null
-  is_undefined : KindArm 3 PushKind.Undefined
-  is_register : KindArm 4 PushKind.Register
-  is_boolean : KindArm 5 PushKind.Boolean
-  is_float : KindArm 6 PushKind.Float
-  is_integer : KindArm 7 PushKind.Integer
-  is_constant : KindArm 8 PushKind.Constant
-
--- each byte stands for its kind
-kind_listed : {n : ℕ} {k : PushKind} → KindArm n k → kind_of n ≡ some k
-unfolding kind_of kind_byte push_kinds first_with pick
-kind_listed is_string = refl
-kind_listed is_null = refl
-kind_listed is_undefined = refl
-kind_listed is_register = refl
-kind_listed is_boolean = refl
-kind_listed is_float = refl
-kind_listed is_integer = refl
-kind_listed is_constant = refl
-
 -- what the code takes for the kind that stands at p shows the value there, and the place after it
-pushed : (m : MainBody) (p : ℕ) {n : ℕ} {k : PushKind} → KindArm n k → get_or m.b.now p 0 ≡ n
+pushed : (m : MainBody) (p : ℕ) (k : PushKind) → kind_of (get_or m.b.now p 0) ≡ some k
     → Gives (Pushed m (value_at m k (p + 1))) (read_value (read_by m) m.b.now (placed p))
 unfolding read_value read_value_if
-pushed m p {k = k} arm h = next _ (u8 m.b.now p) (λ l. rw (h, kind_listed arm) (kind_shown m (p + 1) l k))
+pushed m p k h = next _ (u8 m.b.now p) (λ l. rw h (kind_shown m (p + 1) l k))
 
-module _ {m : MainBody} {p n : ℕ} {k : PushKind} where
-  pub value_shown : KindArm n k → get_or m.b.now p 0 ≡ n → TakesValue m p (value_at m k (p + 1))
-  value_shown arm h = record {
-    is = λ kind g. ap (λ k. value_at m k (p + 1)) (found_once (ap kind_of h ∙ kind_listed arm) g);
-    shows = record { shows = λ x q r. let g = given (pushed m p arm h) r in (g.0, g.1) };
+-- a kind that the code found, and matched as j
+stands : (n : ℕ) {k j : code.PushKind} → kind_of n ≡ some (meant k) → k ≡ j → kind_of n ≡ some (meant j)
+stands n h i = h ∙ ap (λ x. some (meant x)) i
+
+module _ {m : MainBody} {p : ℕ} {k j : code.PushKind} (h : kind_of (get_or m.b.now p 0) ≡ some (meant k)) (i : k ≡ j) where
+  pub value_shown : TakesValue m p (value_at m (meant j) (p + 1))
+  value_shown = record {
+    is = λ kind g. ap (λ k. value_at m k (p + 1)) (found_once (stands _ h i) g);
+    shows = record { shows = λ x q r. let g = given (pushed m p (meant j) (stands _ h i)) r in (g.0, g.1) };
   }
 
   -- it ends within the main body
-  pub value_room : KindArm n k → get_or m.b.now p 0 ≡ n → ValueReads m p → (value_at m k (p + 1)).next ≤ length m.b.now
-  value_room arm h reads = (given (pushed m p arm h) reads.reads).2
+  pub value_room : ValueReads m p → (value_at m (meant j) (p + 1)).next ≤ length m.b.now
+  value_room reads = (given (pushed m p (meant j) (stands _ h i)) reads.reads).2
 
 -- there is a kind at p
 pub kind_room : {m : MainBody} {p : ℕ} → ValueReads m p → p + 1 ≤ length m.b.now
@@ -96,27 +77,9 @@ same_value {m} {p} {r} {s} reads h j = go (kind_at reads)
     go : Found (kind_of (get_or m.b.now p 0)) → r ≡ s
     go (found kind e) = h.is kind e ∙ sym (j.is kind e)
 
--- ---- the last kind
-
--- the bytes of all kinds but a constant's, the last first
-abbrev pub other_kinds : List ℕ
-other_kinds = 7 ∷ 6 ∷ 5 ∷ 4 ∷ 3 ∷ 2 ∷ 0 ∷ []
-
--- a kind's byte is a constant's if it is no other kind's
-last_kind : {n : ℕ} (kind : PushKind) → kind_byte kind ≡ n → NoneOf other_kinds n → n ≡ 8
-unfolding kind_byte is_one pick
-last_kind PushKind.String e h = absurd (barred other_kinds h e refl)
-last_kind PushKind.Null e h = absurd (barred other_kinds h e refl)
-last_kind PushKind.Undefined e h = absurd (barred other_kinds h e refl)
-last_kind PushKind.Register e h = absurd (barred other_kinds h e refl)
-last_kind PushKind.Boolean e h = absurd (barred other_kinds h e refl)
-last_kind PushKind.Float e h = absurd (barred other_kinds h e refl)
-last_kind PushKind.Integer e h = absurd (barred other_kinds h e refl)
-last_kind PushKind.Constant e h = sym e
-
--- the kind at p is a constant's if it is no other
-pub constant_kind : {m : MainBody} {p : ℕ} → ValueReads m p → NoneOf other_kinds (get_or m.b.now p 0) → get_or m.b.now p 0 ≡ 8
-constant_kind {m} {p} reads h = go (kind_at reads)
+-- one is listed there
+pub kind_stands : {m : MainBody} {p : ℕ} → ValueReads m p → kind_of (get_or m.b.now p 0) ≡ none → ⊥
+kind_stands {m} {p} reads h = go (kind_at reads)
   where
-    go : Found (kind_of (get_or m.b.now p 0)) → get_or m.b.now p 0 ≡ 8
-    go (found kind e) = last_kind kind (unfold kind_of in first_with_lem kind_byte (get_or m.b.now p 0) push_kinds kind e) h
+    go : Found (kind_of (get_or m.b.now p 0)) → ⊥
+    go (found kind e) = none-ne-some kind (sym h ∙ e)

@@ -6,7 +6,7 @@ ghost use Rattle.pcode.specs.Shown.{span_at, function_at, get_url_at, after_try,
 
 use editions::MainBody;
 use fields::{u16_at, u32_at, u64_at};
-use opcode::OpCode;
+use opcode::{OpCode, PushKind};
 use words::word_at;
 
 // A run of bytes of the main body, or of the words of a book, and the place in the main body after the string.
@@ -108,19 +108,22 @@ pub fn push_value_at(m: &MainBody<'_>, at: usize) -> PushAt
     requires { ValueReads m.now at }
     ensures { TakesValue m.now at result }
 {
+    let Some(kind) = PushKind::of(m.b[at]) else {
+        unreachable!()
+    };
     let p = at + 1;
-    let (value, next) = match m.b[at] {
-        0 => {
+    let (value, next) = match kind {
+        PushKind::String => {
             let string = span_at(m, p);
             (PushValue::String(string), string.next)
         }
-        2 => (PushValue::Null, p),
-        3 => (PushValue::Undefined, p),
-        4 => (PushValue::Register(m.b[p]), p + 1),
-        5 => (PushValue::Boolean(m.b[p]), p + 1),
-        6 => (PushValue::Float(u64_at(m.b, p)), p + 8),
-        7 => (PushValue::Integer(u32_at(m.b, p)), p + 4),
-        _ => (PushValue::Constant(u16_at(m.b, p)), p + 2),
+        PushKind::Null => (PushValue::Null, p),
+        PushKind::Undefined => (PushValue::Undefined, p),
+        PushKind::Register => (PushValue::Register(m.b[p]), p + 1),
+        PushKind::Boolean => (PushValue::Boolean(m.b[p]), p + 1),
+        PushKind::Float => (PushValue::Float(u64_at(m.b, p)), p + 8),
+        PushKind::Integer => (PushValue::Integer(u32_at(m.b, p)), p + 4),
+        PushKind::Constant => (PushValue::Constant(u16_at(m.b, p)), p + 2),
     };
     PushAt { value, next }
 }

@@ -1,52 +1,90 @@
 -- `push_value_at` meets its contract, kind by kind. Assumes nothing.
-use native.Mathlib.Omega.{arith}
-use Rattle.pcode.proofs.Values.{is_string, is_null, is_undefined, is_register, is_boolean, is_float, is_integer, is_constant, value_shown, value_room, kind_room, constant_kind}
+use Rattle.std.proofs.Common.{arith}
+use Rattle.opcode.specs.Kinds.{meant}
+use Rattle.pcode.proofs.Values.{value_shown, value_room, kind_room, kind_stands}
 use Rattle.pcode.proofs.push_value_at.Goals as goal
-
-pub overflow_add-p : goal.overflow_add-p
-overflow_add-p c = omega (arith, kind_room c.requires)
 
 pub bounds-m-at : goal.bounds-m-at
 bounds-m-at c = omega (arith, kind_room c.requires)
 
+pub unreachable-requires : goal.unreachable-requires
+unreachable-requires c = kind_stands c.requires c.in_default.ensures
+
+pub overflow_add-p : goal.overflow_add-p
+overflow_add-p c = omega (arith, kind_room c.requires)
+
 pub span_at-string-requires : goal.span_at-string-requires
-span_at-string-requires c = omega (arith, value_room is_string c.in-0.is c.requires)
+unfolding meant
+span_at-string-requires c = omega (arith, value_room c.in-Some.ensures c.in-String.is c.requires)
 
 pub bounds-m-p : goal.bounds-m-p
-bounds-m-p c = omega (arith, value_room is_register c.in-4.is c.requires)
+unfolding meant
+bounds-m-p c = omega (arith, value_room c.in-Some.ensures c.in-Register.is c.requires)
 
-pub bounds-m-p-in-5 : goal.bounds-m-p-in-5
-bounds-m-p-in-5 c = omega (arith, value_room is_boolean c.in-5.is c.requires)
+pub overflow_add-value : goal.overflow_add-value
+unfolding meant
+overflow_add-value c = omega (arith, value_room c.in-Some.ensures c.in-Register.is c.requires)
+
+pub bounds-m-p-in-Boolean : goal.bounds-m-p-in-Boolean
+unfolding meant
+bounds-m-p-in-Boolean c = omega (arith, value_room c.in-Some.ensures c.in-Boolean.is c.requires)
+
+pub overflow_add-value-in-Boolean : goal.overflow_add-value-in-Boolean
+unfolding meant
+overflow_add-value-in-Boolean c = omega (arith, value_room c.in-Some.ensures c.in-Boolean.is c.requires)
 
 pub u64_at-requires : goal.u64_at-requires
-u64_at-requires c = value_room is_float c.in-6.is c.requires
+unfolding meant
+u64_at-requires c = omega (arith, value_room c.in-Some.ensures c.in-Float.is c.requires)
+
+pub overflow_add-value-in-Float : goal.overflow_add-value-in-Float
+unfolding meant
+overflow_add-value-in-Float c = omega (arith, value_room c.in-Some.ensures c.in-Float.is c.requires)
 
 pub u32_at-requires : goal.u32_at-requires
-u32_at-requires c = value_room is_integer c.in-7.is c.requires
+unfolding meant
+u32_at-requires c = omega (arith, value_room c.in-Some.ensures c.in-Integer.is c.requires)
+
+pub overflow_add-value-in-Integer : goal.overflow_add-value-in-Integer
+unfolding meant
+overflow_add-value-in-Integer c = omega (arith, value_room c.in-Some.ensures c.in-Integer.is c.requires)
 
 pub u16_at-requires : goal.u16_at-requires
-u16_at-requires c = value_room is_constant (constant_kind c.requires c.in_default.in_default-own.rest) c.requires
+unfolding meant
+u16_at-requires c = omega (arith, value_room c.in-Some.ensures c.in-Constant.is c.requires)
 
-pub returns-in-0 : goal.returns-in-0
-returns-in-0 c = rw c.span_at-string.ensures (value_shown is_string c.in-0.is)
+pub overflow_add-value-in-Constant : goal.overflow_add-value-in-Constant
+unfolding meant
+overflow_add-value-in-Constant c = omega (arith, value_room c.in-Some.ensures c.in-Constant.is c.requires)
 
-pub returns-in-2 : goal.returns-in-2
-returns-in-2 c = value_shown is_null c.in-2.is
+pub returns-in-String : goal.returns-in-String
+unfolding meant
+returns-in-String c = rw c.span_at-string.ensures (value_shown c.in-Some.ensures c.in-String.is)
 
-pub returns-in-3 : goal.returns-in-3
-returns-in-3 c = value_shown is_undefined c.in-3.is
+pub returns-in-Null : goal.returns-in-Null
+unfolding meant
+returns-in-Null c = value_shown c.in-Some.ensures c.in-Null.is
 
-pub returns-in-4 : goal.returns-in-4
-returns-in-4 c = value_shown is_register c.in-4.is
+pub returns-in-Undefined : goal.returns-in-Undefined
+unfolding meant
+returns-in-Undefined c = value_shown c.in-Some.ensures c.in-Undefined.is
 
-pub returns-in-5 : goal.returns-in-5
-returns-in-5 c = value_shown is_boolean c.in-5.is
+pub returns-in-Register : goal.returns-in-Register
+unfolding meant
+returns-in-Register c = value_shown c.in-Some.ensures c.in-Register.is
 
-pub returns-in-6 : goal.returns-in-6
-returns-in-6 c = rw c.u64_at.ensures (value_shown is_float c.in-6.is)
+pub returns-in-Boolean : goal.returns-in-Boolean
+unfolding meant
+returns-in-Boolean c = value_shown c.in-Some.ensures c.in-Boolean.is
 
-pub returns-in-7 : goal.returns-in-7
-returns-in-7 c = rw c.u32_at.ensures (value_shown is_integer c.in-7.is)
+pub returns-in-Float : goal.returns-in-Float
+unfolding meant
+returns-in-Float c = rw c.u64_at.ensures (value_shown c.in-Some.ensures c.in-Float.is)
 
-pub returns-in_default : goal.returns-in_default
-returns-in_default c = rw c.u16_at.ensures.0 (value_shown is_constant (constant_kind c.requires c.in_default.in_default-own.rest))
+pub returns-in-Integer : goal.returns-in-Integer
+unfolding meant
+returns-in-Integer c = rw c.u32_at.ensures (value_shown c.in-Some.ensures c.in-Integer.is)
+
+pub returns-in-Constant : goal.returns-in-Constant
+unfolding meant
+returns-in-Constant c = rw c.u16_at.ensures.0 (value_shown c.in-Some.ensures c.in-Constant.is)
