@@ -11,7 +11,7 @@ ghost use Rattle.encode_values.specs.Cases.{case_bytes, CaseHeld};
 ghost use Rattle.encode_values.specs.Joins.{Joins, strings_join, params_join, values_join};
 
 use editions::MainBody;
-use opcode::OpCode;
+use opcode::{OpCode, PushKind};
 use pcode::{PushAt, PushValue, Span, push_value_at, span_at};
 use positions::{BytePosition, Spot};
 use stores::{Double, Low16, Store, ZeroEnded};
@@ -57,15 +57,18 @@ pub fn write_action<T: Store>(
     end
 }
 
+// In a block, the kind of a constant whose number takes two bytes.
+const WIDE_CONSTANT: u8 = 9;
+
 // A constant's number in one byte behind one kind, or in two behind another.
 fn write_constant(out: &mut [u8], pos: BytePosition, n: usize, next: usize) -> Spot
     requires { Room (piece (constant_bytes (ltb n 256) n) next) pos.0 out.old }
     ensures { Put (piece (constant_bytes (ltb n 256) n) next) pos.0 out.old out.new result }
 {
     if n < 256 {
-        write_piece(out, pos, (8u8, n as u8), next)
+        write_piece(out, pos, (PushKind::Constant as u8, n as u8), next)
     } else {
-        write_piece(out, pos, (9u8, Low16(n)), next)
+        write_piece(out, pos, (WIDE_CONSTANT, Low16(n)), next)
     }
 }
 
@@ -76,13 +79,23 @@ fn write_push_value(out: &mut [u8], m: &MainBody<'_>, pos: BytePosition, v: Push
 {
     let PushAt { value, next } = v;
     match value {
-        PushValue::String(s) => write_piece(out, pos, (0u8, string_of(m, s)), next),
-        PushValue::Null => write_piece(out, pos, 2u8, next),
-        PushValue::Undefined => write_piece(out, pos, 3u8, next),
-        PushValue::Register(r) => write_piece(out, pos, (4u8, r), next),
-        PushValue::Boolean(t) => write_piece(out, pos, (5u8, t), next),
-        PushValue::Float(bits) => write_piece(out, pos, (6u8, Double(bits)), next),
-        PushValue::Integer(n) => write_piece(out, pos, (7u8, n), next),
+        PushValue::String(s) => write_piece(
+            out,
+            pos,
+            (PushKind::String as u8, string_of(m, s)),
+            next,
+        ),
+        PushValue::Null => write_piece(out, pos, PushKind::Null as u8, next),
+        PushValue::Undefined => write_piece(out, pos, PushKind::Undefined as u8, next),
+        PushValue::Register(r) => write_piece(out, pos, (PushKind::Register as u8, r), next),
+        PushValue::Boolean(t) => write_piece(out, pos, (PushKind::Boolean as u8, t), next),
+        PushValue::Float(bits) => write_piece(
+            out,
+            pos,
+            (PushKind::Float as u8, Double(bits)),
+            next,
+        ),
+        PushValue::Integer(n) => write_piece(out, pos, (PushKind::Integer as u8, n), next),
         PushValue::Constant(n) => write_constant(out, pos, n, next),
     }
 }
