@@ -36,8 +36,8 @@ impl<'a> Iterator for Runs<'a> {
 
 // Puts the bytes into the space, again and again.
 fn fill_again(space: &mut [u8], bytes: &[u8]) {
-    for (place, byte) in space.iter_mut().zip(bytes.iter().cycle()) {
-        *place = *byte;
+    for (slot, byte) in space.iter_mut().zip(bytes.iter().cycle()) {
+        *slot = *byte;
     }
 }
 

@@ -4,12 +4,11 @@ use Prim.Native.Nat.{ℕ, ◌+◌, ◌≤◌, ◌<◌}
 use native.Mathlib.Omega.{arith}
 use mathlib.Core.Bool.{Bool, true, false}
 use mathlib.Core.List.{List}
-use lib.ListN.{length, get_or}
+use lib.ListN.{length}
 use lib.Dec.{leb}
-use borrow.Author.Tests.{lt-ltb, le-ltb, le-leb, lt-leb, leb-true, leb-false}
+use borrow.Author.Tests.{leb-true, leb-false}
 use Rattle.layout.specs.Lists.{pick}
-use Rattle.layout.specs.Numbers.{u16_at}
-use Rattle.layout.specs.Step.{reach, onward, end_at, ended, step_from, step}
+use Rattle.layout.specs.Step.{onward, end_at, ended, step_from, step}
 use Rattle.layout.proofs.Stepping.{forward, from_out, from_cut, from_step}
 use Rattle.step.specs.Steps.{look_at, told}
 use Rattle.std.specs.Prelude.{Option, Some, None, Ok, Err}
@@ -17,22 +16,6 @@ use Rattle.std.specs.Prelude.{Option, Some, None, Ok, Err}
 -- ---- how far a step goes
 
 module _ (s : List ℕ) (p : ℕ) where
-  pub is_small : get_or s p 0 < 128 → p < length s → Some (p + 1) ≡ look_at s p
-  unfolding look_at pick reach
-  is_small k l =
-      let m : p + 1 ≤ length s = omega (arith, l) in
-      rw (lt-ltb (get_or s p 0) 128 k, le-leb (p + 1) (length s) m)
-
-  module _ (k : 128 ≤ get_or s p 0) where
-    pub is_cut : length s < p + (3 + u16_at s (p + 1)) → None ≡ look_at s p
-    unfolding look_at pick reach
-    is_cut l = rw (le-ltb (get_or s p 0) 128 k, lt-leb (p + (3 + u16_at s (p + 1))) (length s) l)
-
-    pub is_next : p + (3 + u16_at s (p + 1)) ≤ length s → Some (p + (3 + u16_at s (p + 1))) ≡ look_at s p
-    unfolding look_at pick reach
-    is_next l = rw (le-ltb (get_or s p 0) 128 k, le-leb (p + (3 + u16_at s (p + 1))) (length s) l)
-
-  -- and the other way
   pub next_is : (q : ℕ) → Some q ≡ look_at s p → (q ≡ onward s p) × (onward s p ≤ length s)
   unfolding look_at
   next_is q e = go (leb (onward s p) (length s)) refl e

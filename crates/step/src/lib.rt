@@ -14,6 +14,7 @@ pub struct Unclean {
 }
 
 // The place that the step at a place goes to, or None where it passes the end.
+#[tactic(auto, unfolding(crate::specs::Steps::look_at, layout::specs::Step::reach, layout::specs::Lists::pick))]
 fn look_at(block: &[u8], at: usize) -> Option<usize>
     requires { at < length block.now }
     ensures { result ≡ look_at block.now at }

@@ -14,12 +14,12 @@ pub struct Tally {
 }
 
 impl Tally {
-    // Counts an answer by its number, and one that differs. `place` is its place in the list, counted from 1.
-    pub fn count(&mut self, number: u8, agrees: bool, place: usize)
+    // Counts an answer by its number, and one that differs. `ordinal` counts the answers from 1.
+    pub fn count(&mut self, number: u8, agrees: bool, ordinal: usize)
         ensures numbers { self.new.numbers ≡ slice_set self.old.numbers number (min (slice_index self.old.numbers number + 1) (2 ^ 64 - 1)) }
         ensures agreed { agrees ≡ true → (self.new.differ ≡ self.old.differ) × (self.new.first ≡ self.old.first) }
         ensures differ { agrees ≡ false → self.new.differ ≡ min (self.old.differ + 1) (2 ^ 64 - 1) }
-        ensures first { agrees ≡ false → MatchOption self.old.first (self.new.first ≡ Some place) (λ first. self.new.first ≡ Some first) }
+        ensures first { agrees ≡ false → MatchOption self.old.first (self.new.first ≡ Some ordinal) (λ first. self.new.first ≡ Some first) }
     {
         let number = number as usize;
         if number < self.numbers.len() {
@@ -27,7 +27,7 @@ impl Tally {
         }
         if !agrees {
             self.differ = self.differ.saturating_add(1);
-            self.first = self.first.or(Some(place));
+            self.first = self.first.or(Some(ordinal));
         }
     }
 }
