@@ -1,16 +1,19 @@
 -- Laws of the entry that is due next, and of the loop that records. Assumes nothing.
 use mathlib.Core.Path.{◌≡◌, refl, sym, ap, ◌∙◌}
 use mathlib.Core.Bool.{Bool, true, false}
-use mathlib.Core.List.{List, [], ◌∷◌}
+use mathlib.Core.List.{List, [], ◌∷◌, ◌++◌}
 use mathlib.Core.Logic.{⊎_elim}
 use Prim.Native.Nat.{ℕ, zero, suc, min, ◌+◌, ◌-◌, ◌*◌, ◌/◌, ◌%◌, ◌≤◌, ◌<◌}
 use native.Mathlib.Nat.{eq-or-lt_of_le}
 use native.Mathlib.Omega.{arith}
 use borrow.Author.Tests.{le-ltb, lt-ltb, ltb-true, ltb-false, eq-eqb, ne_eqb, eqb-true, eqb-false}
 use lib.Dec.{ltb, eqb}
-use lib.ListN.{length, set, take, drop, length-set, length-take, length-drop}
-use Rattle.std.proofs.lemmas.List.{get_or-take, get_or-drop}
+use lib.ListN.{length, get_or, set, take, drop, get_or-append, length-append, length-set, length-take, length-drop}
+use Rattle.std.proofs.lemmas.List.{get_or-take, get_or-drop, get_or-append-add}
 use Rattle.std.specs.Prelude.{Option, Some, None}
+use Rattle.std.specs.Borrow.{Bor}
+use Rattle.std.specs.Slice.Iter.{chunks_exact_rest, chunks_exact_size, chunks_exact_steps}
+use Rattle.std.specs.declared.slice.ChunksExact.{ChunksExact}
 use Rattle.std.proofs.lemmas.Option.{none-some}
 use Rattle.layout.specs.Lists.{pick}
 use Rattle.layout.specs.Numbers.{u16_at, u32_at}
@@ -196,24 +199,62 @@ entries_part b n at h =
 
 -- ---- the loop that reads entries
 
-module _ (b : List ℕ) (n p from : ℕ) where
-  one_more : (m : ℕ) → due (entries_at b (suc m) p) from ≡ min (unless_under from (u32_at b p)) (due (entries_at b m (p + 4)) from)
-  unfolding due entries_at key
-  one_more m = refl
+-- four bytes are an entry
+module _ (x r : List ℕ) (four : length x ≡ 4) where
+  u16_first : (p : ℕ) → p + 2 ≤ 4 → u16_at (x ++ r) p ≡ u16_at x p
+  u16_first p h = rw (get_or-append x r 0 p (omega arith), get_or-append x r 0 (p + 1) (omega arith)) refl
 
-  -- a turn: e is read, x is what counts of it, and `less` is the lesser of x and the least so far
-  pub due_more : {e x less m q : ℕ} (least : ℕ) → e ≡ u32_at b p → x ≡ unless_under from e → less ≡ min x least → n ≡ suc m → q ≡ p + 4
-      → min less (due (entries_at b m q) from) ≡ min least (due (entries_at b n p) from)
-  due_more {m = m} least d f g h k =
+  at_rest : (p q : ℕ) → q ≡ 4 + p → get_or (x ++ r) q 0 ≡ get_or r p 0
+  at_rest p q e =
+      let behind : q ≡ length x + p = omega (arith, four, e) in
+      rw behind (get_or-append-add x r p 0)
+
+  entries_rest : (n p q : ℕ) → q ≡ 4 + p → entries_at (x ++ r) n q ≡ entries_at r n p
+  unfolding entries_at
+  entries_rest zero p q e = refl
+  entries_rest (suc n) p q e = rw (at_rest p q e, at_rest (p + 1) (q + 1) (omega arith), at_rest (p + 2) (q + 2) (omega arith), at_rest (p + 2 + 1) (q + 2 + 1) (omega arith), entries_rest n (p + 4) (q + 4) (omega arith)) refl
+
+  entries_next : entries_in (x ++ r) ≡ entry (u16_at x 0) (record { index = u16_at x 2 }) ∷ entries_in r
+  entries_next =
+      let count : length (x ++ r) / 4 ≡ suc (length r / 4) = omega (arith, length-append x r) in
+      rw count (unfold entries_at in rw (u16_first 0 (omega arith), u16_first 2 (omega arith), entries_rest (length r / 4) 0 4 refl) refl)
+
+  -- a turn: e is read, y is what counts of it, and `less` is the lesser of y and the least so far
+  pub due_more : {e y less : ℕ} (from least : ℕ) → e ≡ u32_at x 0 → y ≡ unless_under from e → less ≡ min y least → min less (due (entries_in r) from) ≡ min least (due (entries_in (x ++ r)) from)
+  due_more from least d f g =
       let counted = f ∙ ap (unless_under from) d in
-      rw (h, k) (omega (arith, counted, one_more m))
+      rw entries_next (omega (arith, counted, first))
+    where
+      first : due (entry (u16_at x 0) (record { index = u16_at x 2 }) ∷ entries_in r) from ≡ min (unless_under from (u32_at x 0)) (due (entries_in r) from)
+      first = unfold due key in refl
 
-  -- no entry is left to read
-  pub due_end : n ≤ 0 → due (entries_at b n p) from ≡ none_left
-  unfolding due entries_at
-  due_end h =
-      let z : n ≡ 0 = omega arith in
-      rw z
+-- fewer are none
+pub due_end : (r : List ℕ) (from : ℕ) → length r < 4 → due (entries_in r) from ≡ none_left
+unfolding due entries_at
+due_end r from h =
+    let none : length r / 4 ≡ 0 = omega arith in
+    rw none refl
+
+-- the lesser of `least` and what is due among the entries left is what is due among all
+pub record Counting (entries : List ℕ) (from least : ℕ) (left : ChunksExact ℕ) : Type 0 where
+  pub size : chunks_exact_size left ≡ 4
+  pub both : min least (due (entries_in (chunks_exact_rest left)) from) ≡ due (entries_in entries) from
+  pub most : least ≤ none_left
+
+module _ {entries : List ℕ} {from least : ℕ} {left : ChunksExact ℕ} (at : Counting entries from least left) where
+  pub counting : (x : Bor (List ℕ)) {e y less : ℕ} {left' : ChunksExact ℕ} → chunks_exact_steps left (Some x) left' → e ≡ u32_at x.now 0 → y ≡ unless_under from e → less ≡ min y least
+      → Counting entries from less left'
+  counting x {left' = left'} h d f g =
+      record {
+        size = h.0 ∙ at.size;
+        both = due_more x.now (chunks_exact_rest left') (h.1.1 ∙ at.size) from least d f g ∙ ap (λ (r : List ℕ). min least (due (entries_in r) from)) (sym h.1.0) ∙ at.both;
+        most = omega (arith, g, at.most);
+      }
+
+  pub counted : {left' : ChunksExact ℕ} → chunks_exact_steps left None left' → least ≡ due (entries_in entries) from
+  counted h =
+      let end = due_end (chunks_exact_rest left) from (omega (arith, h.1.0, at.size)) in
+      omega (arith, end, at.both, at.most)
 
 module _ (from k : ℕ) where
   -- what counts of a number under `from`, and of another

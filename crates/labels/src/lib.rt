@@ -43,10 +43,10 @@ pub fn due_entry(entries: &[u8], from: u32) -> Option<EntryNumber>
     ensures { result ≡ entry_of (due (entries_in entries.now) from) }
 {
     let mut least = 4294967295;
-    for i in 0..entries.len() / 4 {
-        let number = u32_at(entries, 4 * i);
+    for entry in entries.chunks_exact(4) {
+        let number = u32_at(entry, 0);
         let counted = if number < from { 4294967295 } else { number };
-        least = if counted < least { counted } else { least };
+        least = counted.min(least);
     }
     if least == 4294967295 {
         return None;
