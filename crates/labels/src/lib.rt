@@ -12,6 +12,7 @@ use fields::u32_at;
 use positions::{ActionIndex, BytePosition};
 
 // Both tables. A slot is a number and no Option, which would take twice the memory that is cleared for each sheet.
+#[derive(Drop)]
 pub struct Tables<'a> {
     pub tab: &'a mut [usize],
     pub homes: &'a mut [usize],

@@ -24,6 +24,7 @@ pub struct Overflow {
 }
 
 // What a walk keeps: the label tables, and the first overflow.
+#[derive(Drop)]
 pub struct Notes<'a> {
     pub labels: Tables<'a>,
     pub over: Option<Overflow>,
