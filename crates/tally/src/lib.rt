@@ -1,7 +1,8 @@
 // The counts of a replay, and their printing.
 #![tactic(auto)]
 
-ghost use Rattle.std.specs.Prelude.{◌≡◌, ◌+◌, ◌^◌, ◌-◌, min, true, false, Some, MatchOption, slice_index, slice_set};
+ghost use Rattle.std.specs.Prelude.{◌≡◌, ◌+◌, ◌^◌, ◌-◌, min, true, false, Some, MatchOption, slice_index, slice_set, ◌++◌};
+ghost use Rattle.tally.specs.Text.{number_lines, differ_line};
 
 use std::fmt;
 
@@ -34,6 +35,9 @@ impl Tally {
 
 // A line for each number that was met, with its count, and one for the answers that differ: how many, and the first, or 0.
 impl fmt::Display for Tally {
+    ghost output = { λ t. Some (number_lines t.numbers 19 ++ differ_line t.differ t.first) };
+
+    #[tactic(auto, unfolding(crate::specs::Text::number_lines))]
     fn fmt<W: fmt::Write>(&self, f: &mut fmt::Formatter<W>) -> fmt::Result {
         for (number, count) in self.numbers.iter().enumerate() {
             if *count != 0 {
