@@ -2,9 +2,10 @@
 use mathlib.Core.Path.{◌≡◌, refl, sym, ap, ap₂, ◌∙◌, subst}
 use Prim.Native.Nat.{ℕ, zero, suc, ◌+◌, ◌*◌, ◌≤◌, ◌<◌}
 use native.Mathlib.Omega.{arith}
-use native.Mathlib.Nat.{add-zero}
+use native.Mathlib.Nat.{add-zero, eq-or-lt_of_le}
 use mathlib.Core.Bool.{Bool, true, false, false≢true, ◌||◌, ◌&&◌}
 use mathlib.Core.Option.{Option, none, some}
+use mathlib.Core.Logic.{◌⊎◌, inl, inr, ⊎_elim}
 use mathlib.Core.List.{List, [], ◌∷◌}
 use lib.ListN.{length, get_or}
 use lib.Dec.{ltb, eqb}
@@ -282,14 +283,12 @@ module _ (terms : Terms) (b : List ℕ) (op at pos number : ℕ) (over : Answer 
   arm_get_url {over'} o e n m =
       named 0x83 OpCode.GetUrl over' codes.1 o (lay_long (fields_of OpCode.GetUrl) (λ f. f) at (length b) pos number over flat_size (pos + 3) (λ a. refl) (read_get_url terms b (placed (at + 1))) (url_own terms b (placed (at + 1))) (url_fields terms b (placed (at + 1))) (url_long terms b (placed (at + 1))) over' r l e (m ∙ ap (laid_by laid.Flat) n.0) n.1)
 
-  pub arm_store_register : op ≡ 0x87 → r ≡ scanned (λ _. 0) (pos + 3 + 1) (read_bytes b 1 (placed (at + 1))) → l ≡ laid_by laid.Flat r → Here over
+  -- StoreRegister and WaitForFrame2: a byte
+  pub arm_byte : (op ≡ 0x87) ⊎ (op ≡ 0x8D) → r ≡ scanned (λ _. 0) (pos + 3 + 1) (read_bytes b 1 (placed (at + 1))) → l ≡ laid_by laid.Flat r → Here over
   unfolding read_fields read_bytes read_u8 flat_size map_flat payload_length opcode byte
-  arm_store_register o e m =
+  arm_byte (inl o) e m =
       named 0x87 OpCode.StoreRegister over codes.2 o (lay_flat _ StoreRegister at (length b) pos number over (λ _. 0) (pos + 3 + 1) (λ a. omega arith) (read_u8 b (placed (at + 1))) (u8_fields b (placed (at + 1))) (λ inner. refl) (λ a q g. (refl, omega arith)) r l (e ∙ number_as _ _ _ _ _ _) m)
-
-  pub arm_wait_for_frame_2 : op ≡ 0x8D → r ≡ scanned (λ _. 0) (pos + 3 + 1) (read_bytes b 1 (placed (at + 1))) → l ≡ laid_by laid.Flat r → Here over
-  unfolding read_fields read_bytes read_u8 flat_size map_flat payload_length opcode byte
-  arm_wait_for_frame_2 o e m =
+  arm_byte (inr o) e m =
       named 0x8D OpCode.WaitForFrame2 over codes.7 o (lay_flat _ WaitForFrame2 at (length b) pos number over (λ _. 0) (pos + 3 + 1) (λ a. omega arith) (read_u8 b (placed (at + 1))) (u8_fields b (placed (at + 1))) (λ inner. refl) (λ a q g. (refl, omega arith)) r l (e ∙ number_as _ _ _ _ _ _) m)
 
   pub arm_wait_for_frame : op ≡ 0x8A → r ≡ scanned flat_size (pos + 3) (read_wait_for_frame b (placed (at + 1))) → l ≡ laid_by laid.Flat r → Here over
@@ -304,14 +303,12 @@ module _ (terms : Terms) (b : List ℕ) (op at pos number : ℕ) (over : Answer 
   arm_get_url_2 o e m =
       named 0x9A OpCode.GetUrl2 over codes.13 o (lay_flat (fields_of OpCode.GetUrl2) (λ f. f) at (length b) pos number over flat_size (pos + 3) (λ a. refl) (read_get_url2 b (placed (at + 1))) (url2_own b (placed (at + 1))) (url2_fields terms b (placed (at + 1))) (url2_fixed terms b (placed (at + 1))) r l e m)
 
-  pub arm_set_target : {over' : Answer Overflow} {r' : Result Spot code.Stop} → op ≡ 0x8B → r ≡ scanned string_size (pos + 3) (read_string terms b (placed (at + 1))) → (r' ≡ r) × (over' ≡ noted_from (pos + 3) number r over) → l ≡ laid_by laid.Flat r' → Here over'
+  -- SetTarget and GotoLabel: a string
+  pub arm_string : {over' : Answer Overflow} {r' : Result Spot code.Stop} → (op ≡ 0x8B) ⊎ (op ≡ 0x8C) → r ≡ scanned string_size (pos + 3) (read_string terms b (placed (at + 1))) → (r' ≡ r) × (over' ≡ noted_from (pos + 3) number r over) → l ≡ laid_by laid.Flat r' → Here over'
   unfolding read_fields flat_size map_flat payload_length opcode byte string_size string_length
-  arm_set_target {over'} o e n m =
+  arm_string {over'} (inl o) e n m =
       named 0x8B OpCode.SetTarget over' codes.5 o (lay_long (fields_of OpCode.SetTarget) SetTarget at (length b) pos number over string_size (pos + 3) (λ a. omega arith) (read_string terms b (placed (at + 1))) (string_fields terms b (placed (at + 1))) (λ inner. refl) (λ a q g. refl) over' r l e (m ∙ ap (laid_by laid.Flat) n.0) n.1)
-
-  pub arm_goto_label : {over' : Answer Overflow} {r' : Result Spot code.Stop} → op ≡ 0x8C → r ≡ scanned string_size (pos + 3) (read_string terms b (placed (at + 1))) → (r' ≡ r) × (over' ≡ noted_from (pos + 3) number r over) → l ≡ laid_by laid.Flat r' → Here over'
-  unfolding read_fields flat_size map_flat payload_length opcode byte string_size string_length
-  arm_goto_label {over'} o e n m =
+  arm_string {over'} (inr o) e n m =
       named 0x8C OpCode.GotoLabel over' codes.6 o (lay_long (fields_of OpCode.GotoLabel) GotoLabel at (length b) pos number over string_size (pos + 3) (λ a. omega arith) (read_string terms b (placed (at + 1))) (string_fields terms b (placed (at + 1))) (λ inner. refl) (λ a q g. refl) over' r l e (m ∙ ap (laid_by laid.Flat) n.0) n.1)
 
   -- a list is measured from a position w on: that of an action whose list is empty
@@ -347,14 +344,12 @@ module _ (terms : Terms) (b : List ℕ) (op at pos number : ℕ) (over : Answer 
   abbrev Led : Type 0
   Led = Laying terms.label_bound (λ inner. read_fields_if terms b inner (opcode_of op) (placed at) (placed (at + 1))) at (length b) pos number over over l
 
-  pub arm_jump : op ≡ 0x99 → l ≡ branch_laid (pos + 3) (read_label terms b 0 (placed (at + 1))) → Led
+  -- Jump and If: a label
+  pub arm_branch : (op ≡ 0x99) ⊎ (op ≡ 0x9D) → l ≡ branch_laid (pos + 3) (read_label terms b 0 (placed (at + 1))) → Led
   unfolding read_fields_if read_fields
-  arm_jump o m =
+  arm_branch (inl o) m =
       rw (o, codes.12) (lay_branch (λ inner. read_fields terms b inner OpCode.Jump (placed (at + 1))) Jump (read_label terms b 0 (placed (at + 1))) (λ inner. refl) (λ n q e. (label_here terms b (at + 1) inside n q e).1) (label_fields terms b 0 (placed (at + 1))) at (length b) pos number (pos + 3) over l refl m)
-
-  pub arm_if : op ≡ 0x9D → l ≡ branch_laid (pos + 3) (read_label terms b 0 (placed (at + 1))) → Led
-  unfolding read_fields_if read_fields
-  arm_if o m =
+  arm_branch (inr o) m =
       rw (o, codes.15) (lay_branch (λ inner. read_fields terms b inner OpCode.If (placed (at + 1))) If (read_label terms b 0 (placed (at + 1))) (λ inner. refl) (λ n q e. (label_here terms b (at + 1) inside n q e).1) (label_fields terms b 0 (placed (at + 1))) at (length b) pos number (pos + 3) over l refl m)
 
 -- ---- opcodes whose bodies follow at once, or that have no field
@@ -396,6 +391,10 @@ module _ (terms : Terms) (b : List ℕ) (op at pos number : ℕ) (over : Answer 
   arm_unknown o = rw o (Laying.stops {s = record { fault = fault.UnknownCode; place = at }} (λ inner t home. rw (add-zero number)))
 
 -- ---- which opcodes from 80 on are listed
+
+-- one of two that stand side by side
+pub beside : {n : ℕ} (k : ℕ) → k ≤ n → n < k + 2 → (n ≡ k) ⊎ (n ≡ k + 1)
+beside k h l = ⊎_elim (λ e. inl (sym e)) (λ m. inr (omega arith)) (eq-or-lt_of_le h)
 
 -- the keys of the match
 abbrev pub keys : List ℕ

@@ -65,15 +65,15 @@ pub fn scan_payload(m: &MainBody<'_>, op: u8, from: Cursor, over: &mut Option<Ov
     match op {
         OpCode::GOTO_FRAME => scan_bytes(m, word, 2).map(Laid::Flat),
         OpCode::GET_URL => note_payload(scan_get_url(m, start), payload, over).map(Laid::Flat),
-        OpCode::STORE_REGISTER => scan_bytes(m, byte, 1).map(Laid::Flat),
+        OpCode::STORE_REGISTER | OpCode::WAIT_FOR_FRAME2 => scan_bytes(m, byte, 1).map(Laid::Flat),
         OpCode::CONSTANT_POOL => {
             let list = after(start, 0, OpCode::constant_pool_len(0));
             note_payload(scan_constant_pool(m, list), payload, over).map(Laid::Flat)
         }
         OpCode::WAIT_FOR_FRAME => scan_wait_for_frame(m, start).map(Laid::Flat),
-        OpCode::SET_TARGET => note_payload(scan_string(m, start), payload, over).map(Laid::Flat),
-        OpCode::GOTO_LABEL => note_payload(scan_string(m, start), payload, over).map(Laid::Flat),
-        OpCode::WAIT_FOR_FRAME2 => scan_bytes(m, byte, 1).map(Laid::Flat),
+        OpCode::SET_TARGET | OpCode::GOTO_LABEL => {
+            note_payload(scan_string(m, start), payload, over).map(Laid::Flat)
+        }
         OpCode::DEFINE_FUNCTION2 => {
             note_payload(scan_define_function_2(m, start), payload, over).map(Laid::Function)
         }
@@ -83,12 +83,11 @@ pub fn scan_payload(m: &MainBody<'_>, op: u8, from: Cursor, over: &mut Option<Ov
             let list = after(start, 0, OpCode::push_len(0));
             note_payload(scan_push(m, list), payload, over).map(Laid::Flat)
         }
-        OpCode::JUMP => scan_branch(m, start),
+        OpCode::JUMP | OpCode::IF => scan_branch(m, start),
         OpCode::GET_URL2 => scan_get_url_2(m, start).map(Laid::Flat),
         OpCode::DEFINE_FUNCTION => {
             note_payload(scan_define_function(m, start), payload, over).map(Laid::Function)
         }
-        OpCode::IF => scan_branch(m, start),
         OpCode::CALL => Ok(Laid::Flat(after(start, 0, OpCode::CALL_LEN))),
         OpCode::GOTO_FRAME2 => scan_goto_frame_2(m, start).map(Laid::Flat),
         _ => Err(Stop {

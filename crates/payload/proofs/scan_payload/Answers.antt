@@ -22,9 +22,6 @@ note_payload-requires-in-136 c = ends_from _ _ _ _ _ c.scan_constant_pool.ensure
 pub note_payload-requires-in-139 : goal.note_payload-requires-in-139
 note_payload-requires-in-139 c = ends_from _ _ _ _ _ c.scan_string.ensures (omega arith)
 
-pub note_payload-requires-in-140 : goal.note_payload-requires-in-140
-note_payload-requires-in-140 c = ends_from _ _ _ _ _ c.scan_string-in-140.ensures (omega arith)
-
 pub note_payload-requires-in-142 : goal.note_payload-requires-in-142
 note_payload-requires-in-142 c = ends_from _ _ _ _ _ c.scan_define_function_2.ensures (omega arith)
 
@@ -47,7 +44,7 @@ returns-in-131 c =
 pub returns-in-135 : goal.returns-in-135
 returns-in-135 c =
     let laid : c.map-in-135.result ≡ laid_by laid.Flat c.scan_bytes-in-135.result = search rules in
-    arms.arm_store_register _ _ _ _ _ _ _ _ _ c.in-135.is (from_spot (λ _. 0) (read_bytes _ 1) (omega (arith, c.after-byte.ensures.0)) c.after-byte.ensures.1 c.scan_bytes-in-135.ensures) laid
+    arms.arm_byte _ _ _ _ _ _ _ _ _ c.in-135.is (from_spot (λ _. 0) (read_bytes _ 1) (omega (arith, c.after-byte.ensures.0)) c.after-byte.ensures.1 c.scan_bytes-in-135.ensures) laid
 
 pub returns-in-136 : goal.returns-in-136
 returns-in-136 c =
@@ -62,17 +59,7 @@ returns-in-138 c =
 pub returns-in-139 : goal.returns-in-139
 returns-in-139 c =
     let laid : c.map-in-139.result ≡ laid_by laid.Flat c.note_payload-in-139.result = search rules in
-    arms.arm_set_target _ _ _ _ _ _ _ _ _ c.in-139.is c.scan_string.ensures c.note_payload-in-139.ensures laid
-
-pub returns-in-140 : goal.returns-in-140
-returns-in-140 c =
-    let laid : c.map-in-140.result ≡ laid_by laid.Flat c.note_payload-in-140.result = search rules in
-    arms.arm_goto_label _ _ _ _ _ _ _ _ _ c.in-140.is c.scan_string-in-140.ensures c.note_payload-in-140.ensures laid
-
-pub returns-in-141 : goal.returns-in-141
-returns-in-141 c =
-    let laid : c.map-in-141.result ≡ laid_by laid.Flat c.scan_bytes-in-141.result = search rules in
-    arms.arm_wait_for_frame_2 _ _ _ _ _ _ _ _ _ c.in-141.is (from_spot (λ _. 0) (read_bytes _ 1) (omega (arith, c.after-byte.ensures.0)) c.after-byte.ensures.1 c.scan_bytes-in-141.ensures) laid
+    arms.arm_string _ _ _ _ _ _ _ _ _ (arms.beside 139 (omega arith) (omega arith)) c.scan_string.ensures c.note_payload-in-139.ensures laid
 
 pub returns-in-142 : goal.returns-in-142
 returns-in-142 c =
@@ -106,13 +93,13 @@ pub returns-in-148 : goal.returns-in-148
 returns-in-148 c = arms.arm_with _ _ _ _ _ _ _ (omega (arith, c.after-word.ensures.0)) c.in-148.is (omega arith) c.after-word.ensures.1
 
 pub returns-in-153 : goal.returns-in-153
-returns-in-153 c = arms.arm_jump _ _ _ _ _ _ _ _ (omega arith) c.in-153.is (c.scan_branch.ensures _)
-
-pub returns-in-157 : goal.returns-in-157
-returns-in-157 c = arms.arm_if _ _ _ _ _ _ _ _ (omega arith) c.in-157.is (c.scan_branch-in-157.ensures _)
+returns-in-153 c = arms.arm_branch _ _ _ _ _ _ _ _ (omega arith) c.in-153.is (c.scan_branch.ensures _)
 
 pub returns-in-158 : goal.returns-in-158
 returns-in-158 c = arms.arm_call _ _ _ _ _ _ _ (omega (arith, c.after.ensures.0)) c.in-158.is (omega (arith, c.after.ensures.1))
 
 pub returns-in_default : goal.returns-in_default
-returns-in_default c = let r = c.in_default.in_default-own.rest in arms.arm_unknown _ _ _ _ _ _ _ (arms.unlisted _ c.requires.0 (omega arith) (r.0.0.0.0.0.0.0.0.0.0.0.0.0.0.0.0.0.1, (r.0.0.0.0.0.0.0.0.0.0.0.0.0.0.0.0.1, (r.0.0.0.0.0.0.0.0.0.0.0.0.0.0.0.1, (r.0.0.0.0.0.0.0.0.0.0.0.0.0.0.1, (r.0.0.0.0.0.0.0.0.0.0.0.0.0.1, (r.0.0.0.0.0.0.0.0.0.0.0.0.1, (r.0.0.0.0.0.0.0.0.0.0.0.1, (r.0.0.0.0.0.0.0.0.0.0.1, (r.0.0.0.0.0.0.0.0.0.1, (r.0.0.0.0.0.0.0.0.1, (r.0.0.0.0.0.0.0.1, (r.0.0.0.0.0.0.1, (r.0.0.0.0.0.1, (r.0.0.0.0.1, (r.0.0.0.1, (r.0.0.1, (r.0.1, (r.1, tt)))))))))))))))))))
+returns-in_default c = arms.arm_unknown _ _ _ _ _ _ _ (arms.unlisted _ c.requires.0 (omega arith) (search rules))
+
+pub returns-in_default-2 : goal.returns-in_default-2
+returns-in_default-2 c = arms.arm_unknown _ _ _ _ _ _ _ (arms.unlisted _ c.requires.0 (omega arith) (search rules))
