@@ -8,6 +8,9 @@ use mathlib.Core.Option.{Option, none, some}
 use mathlib.Core.List.{List, [], ◌∷◌, ◌++◌}
 use lib.ListN.{length, get_or}
 use lib.Dec.{ltb, eqb}
+use Rattle.std.specs.Prelude.{Result, Ok, Err, None}
+use Rattle.std.specs.Result.{IsErrAnd}
+use Rattle.std.specs.Prelude as code
 use borrow.Author.Tests.{ltb-true, ltb-false}
 use Rattle.layout.specs.Answers.{Refusal}
 use Rattle.layout.specs.Answers as answers
@@ -17,38 +20,35 @@ use Rattle.layout.specs.Tree.{ActionIndex, next_action, first_action, Entry, ent
 use Rattle.layout.specs.Read.{Text, Terms, Place, placed, Stop, stop, Read, got, bad, Reader, chain, more_begun, behind, repeat, read_action, read_actions, read_body, read_fields_if}
 use Rattle.layout.specs.Strings.{map_action, map_actions, map_body}
 use Rattle.layout.specs.Write.{size, sizes, body_size, Position, position, moved, Event, event_if, label_at, branch_at, labels_at, trace, traces, trace_body}
-use Rattle.layout.specs.Judge.{Mode, or_else, judged_in, first_refused, bad_by}
+use Rattle.layout.specs.Judge.{or_else, judged_in, first_refused}
 use Rattle.layout.specs.Lengths.{total}
 use Rattle.layout.specs.Pack.{spelling}
 use Rattle.laws.proofs.ReadFits.{good_got}
 use Rattle.laws.specs.Books.{WordsShort}
 use Rattle.laws.proofs.Shares.{action_most, body_most}
 use Rattle.laws.proofs.Begun.{begins_got, body_begins, owner_begins}
-use Rattle.labels.specs.Table.{tables, record_in}
-use Rattle.positions.specs.declared.ActionNumber.{ActionNumber}
+use Rattle.labels.specs.Table.{tables}
 use Rattle.positions.specs.declared.BytePosition.{BytePosition}
 use Rattle.positions.specs.Scanned.{Roomy}
 use Rattle.positions.specs.declared.Fault.{Fault}
+use Rattle.positions.specs.declared.Spot.{Spot}
+use Rattle.positions.specs.declared.Stop as spot
+use Rattle.positions.specs.declared.Cursor.{Cursor}
 use Rattle.laws.specs.Resolved.{action_size, action_trace, body_length, body_events}
 use Rattle.laws.proofs.Resolved.{count_same}
-use Rattle.measure.specs.Walk.{State, state, fault, outcome, in_bodies, Measure, measure, branches, measured, Owning, Laying, flat, to_label, standing, in_turn, uncounted}
+use Rattle.measure.specs.Walk.{State, state, fault, outcome, in_bodies, Measure, measure, branches, measured, Owning, Laying, flat, to_label, bodies, function, stops, standing, in_turn, uncounted}
+use Rattle.measure.specs.declared.Overflow.{Overflow}
 use Rattle.measure.specs.declared.Laid.{Laid}
 use Rattle.measure.specs.declared.Laid.TheVariants as laid
 use Rattle.measure.proofs.Runs.{branches_append, branches_payload}
 use Rattle.opcode.specs.Listed.{listed}
 use Rattle.front.specs.Front.{Front, read_front}
 use Rattle.front.proofs.Fronts.{FrontRead, front_read}
-use Rattle.bodies.proofs.Walks.{body_deep, body_less, body_step, action_out, action_in, did_small, did_unknown, did_stops, did_bodies, did_function, owned_place, ran_is, ran_bad, outcome_is}
-use Rattle.judge.specs.declared.Judged.{Judged}
-use Rattle.judge.specs.declared.Judged.TheVariants as code
-use Rattle.judge.specs.Judging.{BranchJudged, Judgeable, Judging, passed, refused}
-use Rattle.judge.proofs.Loops.{in_each, Looping}
-
--- what was refused was not read
-no_reading : {A X : Type 0} {x : Read A} {f : answers.Fault} {p : Stop} {q : Place} {a : A} → x ≡ bad f p → x ≡ got a q → X
-no_reading e g =
-    let z : ◌≡◌ {A = ℕ} 0 1 = cc in
-    absurd (omega arith)
+use Rattle.bodies.proofs.Walks.{body_deep, body_less, body_step, action_out, action_in, did_small, did_unknown, owned_place, ran_is, ran_bad, outcome_is}
+use Rattle.judge.specs.declared.Refused.{Refused}
+use Rattle.judge.specs.declared.Rules.{Rules}
+use Rattle.judge.specs.Judging.{mode_of, refusal_of, record_by, refused_by, Judgeable, Judging}
+use Rattle.judge.proofs.Loops.{not_refused, in_each, Looping}
 
 -- ---- every byte read is written in at most 196,608
 
@@ -76,10 +76,7 @@ body_passes terms b d p a q e = begins_got a q (body_begins terms b d (placed p)
 given_so : {A : Type 0} (x : Read A) {y : Read A} {a : A} {q : Place} → uncounted x ≡ uncounted y → y ≡ got a q → x ≡ got a q
 unfolding uncounted
 given_so (got c r) e f = e ∙ rw f
-given_so (bad g s) e f =
-    let i = rw f at e in
-    let z : ◌≡◌ {A = ℕ} 0 1 = cc in
-    absurd (omega arith)
+given_so (bad g s) e f = not_refused (sym (rw f at e))
 
 -- ---- a body is its actions, one after the other
 
@@ -99,12 +96,8 @@ actions_as terms b inner (suc n) p = go (read_action terms b inner p) (λ q. act
         let i : ys ≡ list_of xs = cc in
         let k : q ≡ r = cc in
         rw (i, k)
-    then a (got ys q) (bad f r) e =
-        let z : ◌≡◌ {A = ℕ} 0 1 = cc in
-        absurd (omega arith)
-    then a (bad f q) (got xs r) e =
-        let z : ◌≡◌ {A = ℕ} 0 1 = cc in
-        absurd (omega arith)
+    then a (got ys q) (bad f r) e = not_refused e
+    then a (bad f q) (got xs r) e = not_refused (sym e)
     then a (bad f q) (bad g r) e = e
 
     go : (x : Read (ActionOf Text ℕ)) → ((q : Place) → uncounted (read_actions terms b inner n q) ≡ uncounted (chain (repeat (read_action terms b inner) n q) (λ xs q. got (list_of xs) q)))
@@ -149,8 +142,8 @@ module _ (terms : Terms) (b : List ℕ) (d : ℕ) where
   abbrev pub One : Reader (ActionOf Text ℕ)
   One = read_action terms b (behind 1 (read_body terms b d))
 
-  abbrev pub Acting : WordsShort terms → (home : BytePosition) (mode : Mode) (tab homes : List ℕ) → (Judged → Type 0) → ℕ → ℕ → BytePosition → ActionNumber → Type 0
-  Acting short home mode tab homes = Looping terms One action_size count action_trace b home mode tab homes (action_onward terms short b d) (action_passes terms b d)
+  abbrev pub Acting : BytePosition → Rules → (Result Cursor Refused → Type 0) → ℕ → Cursor → Type 0
+  Acting = Looping terms One action_size count action_trace b
 
   list_each : (es : List Entry) (pos : Position) (x : Read (ActionListOf Text ℕ)) (y : Read (List (ActionOf Text ℕ))) → uncounted x ≡ uncounted (chain y (λ xs q. got (list_of xs) q))
       → measured body_length body_count body_events pos (chain x (λ xs r. got (body es xs) r)) ≡ measured (total action_size) (total count) (in_each action_size count action_trace) pos y
@@ -159,12 +152,8 @@ module _ (terms : Terms) (b : List ℕ) (d : ℕ) where
       let i : ys ≡ list_of xs = cc in
       let k : q ≡ r = cc in
       rw (i, k, sizes_as xs, counts_as xs, traces_as xs es first_action pos)
-  list_each es pos (got ys q) (bad f r) e =
-      let z : ◌≡◌ {A = ℕ} 0 1 = cc in
-      absurd (omega arith)
-  list_each es pos (bad f q) (got xs r) e =
-      let z : ◌≡◌ {A = ℕ} 0 1 = cc in
-      absurd (omega arith)
+  list_each es pos (got ys q) (bad f r) e = not_refused e
+  list_each es pos (bad f q) (got xs r) e = not_refused (sym e)
   list_each es pos (bad f q) (bad g r) e =
       let i : f ≡ g = cc in
       let k : stop (placed q.at) ≡ stop (placed r.at) = cc in
@@ -194,55 +183,54 @@ module _ (terms : Terms) (b : List ℕ) (d : ℕ) where
       go (got g p) k = at_end p.at k (front_read terms b at p.at g h k)
       go (bad f p) k =
           let y : read_body terms b (d + 1) (placed at) ≡ bad f p = body_step terms b at d ∙ rw k in
-          no_reading y e
+          not_refused (sym e ∙ y)
 
 -- a measure that was made is of something that was read
 module _ {A : Type 0} (s c : A → ℕ) (t : A → Position → List Event) (pos : Position) where
   measured_read : (x : Read A) {m : Measure} {q : Place} → measured s c t pos x ≡ got m q → (a : A) × (x ≡ got a q)
   unfolding measured uncounted
   measured_read (got a p) e = (a, ap (got a) (cc))
-  measured_read (bad f p) e =
-      let z : ◌≡◌ {A = ℕ} 0 1 = cc in
-      absurd (omega arith)
+  measured_read (bad f p) e = not_refused (sym e)
 
   measured_of : {x : Read A} {a : A} {q : Place} → x ≡ got a q → measured s c t pos x ≡ got (measure (pos.at + s a) (pos.number + c a) (branches (t a pos))) q
   unfolding measured uncounted
   measured_of e = rw e
 
 -- the loop over a body's actions
-module _ (terms : Terms) (b : List ℕ) (d at : ℕ) (pos : BytePosition) (number : ActionNumber) (mode : Mode) (tab homes : List ℕ) (j : Judgeable terms (read_body terms b d (placed at)) b at pos number.0 mode tab homes) where
+module _ {terms : Terms} {b : List ℕ} (d : ℕ) {from : Cursor} {rules : Rules} (j : Judgeable terms (read_body terms b d (placed from.at)) b from rules) where
   pub is_deep : 0 < d
   is_deep = go d refl
     where
       go : (n : ℕ) → d ≡ n → 0 < d
-      go zero e = no_reading (body_deep terms b at d e) j.reads
+      go zero e = not_refused (sym j.reads ∙ body_deep terms b from.at d e)
       go (suc n) e = omega (arith, e)
 
-  whole : read_body terms b (d - 1 + 1) (placed at) ≡ read_body terms b d (placed at)
-  whole = body_less terms b at d (λ e. omega (arith, e, is_deep))
+  whole : read_body terms b (d - 1 + 1) (placed from.at) ≡ read_body terms b d (placed from.at)
+  whole = body_less terms b from.at d (λ e. omega (arith, e, is_deep))
 
-  opened : Opened terms b (d - 1) at
-  opened = open_body terms b (d - 1) at j.roomy.inside j.value j.next (whole ∙ j.reads)
+  opened : Opened terms b (d - 1) from.at
+  opened = open_body terms b (d - 1) from.at j.roomy.inside j.value j.next (whole ∙ j.reads)
 
-  pub front_inside : at + 4 + 4 * u16_at b at ≤ length b
+  pub front_inside : from.at + 4 + 4 * u16_at b from.at ≤ length b
   front_inside = opened.inside
 
-  pub body_start : (short : WordsShort terms) (home : BytePosition) (n front many p : ℕ) → n ≡ u16_at b at → front ≡ at + 2 + 4 * n → many ≡ u16_at b front → p ≡ front + 2
-      → Acting terms b (d - 1) short home mode tab homes (λ r. Judging mode tab homes (measured body_length body_count body_events (standing pos home number) (read_body terms b d (placed at))) r) many p pos number
-  body_start short home n front many p e f g h =
-      let k : front ≡ at + 2 + 4 * u16_at b at = omega (arith, e, f) in
-      let c : u16_at b (at + 2 + 4 * u16_at b at) ≡ many = sym (g ∙ ap (u16_at b) k) in
-      let m : at + 2 + 4 * u16_at b at + 2 ≡ p = omega (arith, h, k) in
-      let i : measured body_length body_count body_events (standing pos home number) (read_body terms b d (placed at)) ≡ measured (total action_size) (total count) (in_each action_size count action_trace) (standing pos home number) (repeat (One terms b (d - 1)) many (placed p)) = ap (measured body_length body_count body_events (standing pos home number)) (sym whole) ∙ opened.each (standing pos home number) ∙ ap₂ (λ (i j : ℕ). measured (total action_size) (total count) (in_each action_size count action_trace) (standing pos home number) (repeat (One terms b (d - 1)) i (placed j))) c m in
-      let y = measured_read (total action_size) (total count) (in_each action_size count action_trace) (standing pos home number) (repeat (One terms b (d - 1)) many (placed p)) (sym i ∙ measured_of body_length body_count body_events (standing pos home number) j.reads) in
+  pub body_start : (home : BytePosition) (n front many : ℕ) → n ≡ u16_at b from.at → front ≡ from.at + 2 + 4 * n → many ≡ u16_at b front
+      → Acting terms b (d - 1) home rules (λ r. Judging rules (measured body_length body_count body_events (standing from.pos home from.number) (read_body terms b d (placed from.at))) r) (many - 0) (record { at = front + 2; pos = from.pos; number = from.number })
+  body_start home n front many e f g =
+      let k : front ≡ from.at + 2 + 4 * u16_at b from.at = omega (arith, e, f) in
+      let c : u16_at b (from.at + 2 + 4 * u16_at b from.at) ≡ many - 0 = omega (arith, g, ap (u16_at b) k) in
+      let m : from.at + 2 + 4 * u16_at b from.at + 2 ≡ front + 2 = omega (arith, k) in
+      let here : Position = standing from.pos home from.number in
+      let all : Read (List (ActionOf Text ℕ)) = repeat (One terms b (d - 1)) (many - 0) (placed (front + 2)) in
+      let i : measured body_length body_count body_events here (read_body terms b d (placed from.at)) ≡ measured (total action_size) (total count) (in_each action_size count action_trace) here all =
+      ap (measured body_length body_count body_events here) (sym whole) ∙ opened.each here ∙ ap₂ (λ (i j : ℕ). measured (total action_size) (total count) (in_each action_size count action_trace) here (repeat (One terms b (d - 1)) i (placed j))) c m in
+      let y = measured_read (total action_size) (total count) (in_each action_size count action_trace) here all (sym i ∙ measured_of body_length body_count body_events here j.reads) in
       record {
         rest = λ r v. rw i v;
         judgeable = record {
           roomy = record { bytes = j.roomy.bytes; inside = omega (arith, front_inside, m); room = omega (arith, j.roomy.room, j.roomy.inside, front_inside, m) };
           before = omega (arith, j.before, m);
-          slots = j.slots;
-          small = j.small;
-          lent = j.lent;
+          fitting = j.fitting;
           value = y.0;
           next = j.next;
           reads = y.1;
@@ -265,9 +253,7 @@ turn_as one (suc n) p = go (one p) (λ q. turn_as one n q)
     then : (a : ActionsOf Text ℕ) (x y : Read (List (ActionsOf Text ℕ))) → uncounted x ≡ uncounted y
         → uncounted (chain (more_begun (body_count a) x) (λ xs r. got (a ∷ xs) r)) ≡ uncounted (chain y (λ xs r. got (a ∷ xs) r))
     then a (got xs q) y e = ap (λ (z : Read (List (ActionsOf Text ℕ))). uncounted (chain z (λ xs r. got (a ∷ xs) r))) (sym (given_so y (sym e) refl))
-    then a (bad f q) (got xs r) e =
-        let z : ◌≡◌ {A = ℕ} 0 1 = cc in
-        absurd (omega arith)
+    then a (bad f q) (got xs r) e = not_refused (sym e)
     then a (bad f q) (bad g r) e = cc
 
     go : (x : Read (ActionsOf Text ℕ)) → ((q : Place) → uncounted (in_turn one n q) ≡ uncounted (repeat one n q))
@@ -276,33 +262,37 @@ turn_as one (suc n) p = go (one p) (λ q. turn_as one n q)
     go (bad f q) h = refl
 
 module _ (terms : Terms) (b : List ℕ) (d : ℕ) where
-  abbrev pub Inner : WordsShort terms → (home : BytePosition) (mode : Mode) (tab homes : List ℕ) → (Judged → Type 0) → ℕ → ℕ → BytePosition → ActionNumber → Type 0
-  Inner short home mode tab homes = Looping terms (read_body terms b d) body_length body_count body_events b home mode tab homes (body_onward terms short b d) (body_passes terms b d)
+  abbrev pub Inner : BytePosition → Rules → (Result Cursor Refused → Type 0) → ℕ → Cursor → Type 0
+  Inner = Looping terms (read_body terms b d) body_length body_count body_events b
 
-  pub bodies_start : (short : WordsShort terms) (n at : ℕ) (pos home : BytePosition) (number : ActionNumber) (mode : Mode) (tab homes : List ℕ) → Judgeable terms (in_turn (read_body terms b d) n (placed at)) b at pos number.0 mode tab homes
-      → Inner short home mode tab homes (λ r. Judging mode tab homes (measured (total body_length) (total body_count) in_bodies (standing pos home number) (in_turn (read_body terms b d) n (placed at))) r) n at pos number
-  bodies_start short n at pos home number mode tab homes j = record {
-    rest = λ r v. rw (same (in_turn (read_body terms b d) n (placed at)) ∙ alike) v;
-    judgeable = record {
-      roomy = j.roomy;
-      before = j.before;
-      slots = j.slots;
-      small = j.small;
-      lent = j.lent;
-      value = j.value;
-      next = j.next;
-      reads = given_so (repeat (read_body terms b d) n (placed at)) (sym (turn_as (read_body terms b d) n (placed at))) j.reads;
-    };
-  }
-    where
-      same : (x : Read (List (ActionsOf Text ℕ)))
-          → measured (total body_length) (total body_count) in_bodies (standing pos home number) x ≡ measured (total body_length) (total body_count) (in_each body_length body_count body_events) (standing pos home number) x
-      same (got xs q) = unfold measured uncounted in ap (λ (l : List Event). got (measure (pos.0 + total body_length xs) (number.0 + total body_count xs) (branches l)) q) (bodies_as xs (standing pos home number))
-      same (bad f q) = unfold measured uncounted in refl
+pub bodies_start : {terms : Terms} {b : List ℕ} (d n : ℕ) {from : Cursor} {rules : Rules} (home : BytePosition) → Judgeable terms (in_turn (read_body terms b d) n (placed from.at)) b from rules
+    → Inner terms b d home rules (λ r. Judging rules (measured (total body_length) (total body_count) in_bodies (standing from.pos home from.number) (in_turn (read_body terms b d) n (placed from.at))) r) (n - 0) from
+bodies_start {terms} {b} d n {from} {rules} home j = record {
+  rest = λ r v. rw (same (in_turn (read_body terms b d) n (placed from.at)) ∙ alike, ← all) v;
+  judgeable = record {
+    roomy = j.roomy;
+    before = j.before;
+    fitting = j.fitting;
+    value = j.value;
+    next = j.next;
+    reads = rw all (given_so (repeat (read_body terms b d) n (placed from.at)) (sym (turn_as (read_body terms b d) n (placed from.at))) j.reads);
+  };
+}
+  where
+    all : n - 0 ≡ n
+    all = omega arith
 
-      alike : measured (total body_length) (total body_count) (in_each body_length body_count body_events) (standing pos home number) (in_turn (read_body terms b d) n (placed at))
-          ≡ measured (total body_length) (total body_count) (in_each body_length body_count body_events) (standing pos home number) (repeat (read_body terms b d) n (placed at))
-      alike = unfold measured in rw (turn_as (read_body terms b d) n (placed at))
+    here : Position
+    here = standing from.pos home from.number
+
+    same : (x : Read (List (ActionsOf Text ℕ)))
+        → measured (total body_length) (total body_count) in_bodies here x ≡ measured (total body_length) (total body_count) (in_each body_length body_count body_events) here x
+    same (got xs q) = unfold measured uncounted in ap (λ (l : List Event). got (measure (here.at + total body_length xs) (here.number + total body_count xs) (branches l)) q) (bodies_as xs here)
+    same (bad f q) = unfold measured uncounted in refl
+
+    alike : measured (total body_length) (total body_count) (in_each body_length body_count body_events) here (in_turn (read_body terms b d) n (placed from.at))
+        ≡ measured (total body_length) (total body_count) (in_each body_length body_count body_events) here (repeat (read_body terms b d) n (placed from.at))
+    alike = unfold measured in rw (turn_as (read_body terms b d) n (placed from.at))
 
 -- ---- an action
 
@@ -323,127 +313,116 @@ one_byte (branch k l) pos e = absurd (omega (arith, e))
 one_byte (owner o x) pos e = absurd (omega (arith, e))
 one_byte (Try x c f) pos e = absurd (omega (arith, e))
 
-module _ (terms : Terms) (b : List ℕ) (d at : ℕ) (pos : BytePosition) (number : ActionNumber) (mode : Mode) (tab homes : List ℕ) (j : Judgeable terms (read_action terms b (behind 1 (read_body terms b d)) (placed at)) b at pos number.0 mode tab homes) where
-  abbrev Goal : BytePosition → Judged → Type 0
-  Goal home r = Judging mode tab homes (measured action_size count action_trace (standing pos home number) (read_action terms b (behind 1 (read_body terms b d)) (placed at))) r
+module _ {terms : Terms} {b : List ℕ} (d : ℕ) {from : Cursor} {rules : Rules} (j : Judgeable terms (read_action terms b (behind 1 (read_body terms b d)) (placed from.at)) b from rules) where
+  abbrev the_action : Read (ActionOf Text ℕ)
+  the_action = read_action terms b (behind 1 (read_body terms b d)) (placed from.at)
 
-  pub opcode_inside : at < length b
-  opcode_inside = go (ltb at (length b)) refl
+  abbrev the_measure : BytePosition → Read Measure
+  the_measure home = measured action_size count action_trace (standing from.pos home from.number) the_action
+
+  pub opcode_inside : from.at < length b
+  opcode_inside = go (ltb from.at (length b)) refl
     where
-      go : (t : Bool) → ltb at (length b) ≡ t → at < length b
-      go true e = ltb-true at (length b) e
-      go false e = no_reading (action_out terms b d at (ltb-false at (length b) e)) j.reads
+      go : (t : Bool) → ltb from.at (length b) ≡ t → from.at < length b
+      go true e = ltb-true from.at (length b) e
+      go false e = not_refused (sym j.reads ∙ action_out terms b d from.at (ltb-false from.at (length b) e))
 
-  module _ (home : BytePosition) where
-    abbrev here : Position
-    here = standing pos home number
+  -- nothing else was read
+  no_fault : {X : Type 0} (home : BytePosition) (s : State) {f : Fault} {p k : ℕ} → outcome action_size count action_trace (standing from.pos home from.number) s the_action ≡ fault f p k → X
+  unfolding outcome
+  no_fault home s e =
+      let y = rw j.reads at e in
+      let z : ◌≡◌ {A = ℕ} 0 1 = cc in
+      absurd (omega arith)
 
-    -- nothing else was read
-    no_fault : {X : Type 0} (s : State) {f : Fault} {p k : ℕ} → outcome action_size count action_trace here s (read_action terms b (behind 1 (read_body terms b d)) (placed at)) ≡ fault f p k → X
-    unfolding outcome
-    no_fault s e =
-        let y = rw j.reads at e in
-        let z : ◌≡◌ {A = ℕ} 0 1 = cc in
-        absurd (omega arith)
+  is_passed : (home : BytePosition) (c : Cursor) → the_measure home ≡ got (measure c.pos.0 c.number.0 []) (placed c.at) → Judging rules (the_measure home) (Ok c)
+  unfolding first_refused
+  is_passed home c e = rw e (refl, record { place = refl; end = refl; number = refl })
 
-    is_passed : {q : ℕ} {w : BytePosition} {k : ActionNumber} → measured action_size count action_trace here (read_action terms b (behind 1 (read_body terms b d)) (placed at)) ≡ got (measure w.0 k.0 []) (placed q) → Goal home (code.Ends q w k)
-    unfolding first_refused
-    is_passed {q = q} {w = w} {k = k} e = rw e (passed {m = measure w.0 k.0 []} {q = placed q} {w = w} {k = k} refl refl refl)
+  pub small_passed : (home : BytePosition) → get_or b from.at 0 < 128 → Judging rules (the_measure home) (Ok (record { at = from.at + 1; pos = record { 0 = from.pos.0 + 1 }; number = record { 0 = from.number.0 + 1 } }))
+  small_passed home h = go (listed (get_or b from.at 0)) refl
+    where
+      here : Position
+      here = standing from.pos home from.number
 
-    pub small_passed : get_or b at 0 < 128 → Goal home (code.Ends (at + 1) (record { 0 = pos.0 + 1 }) (record { 0 = number.0 + 1 }))
-    small_passed h = go (listed (get_or b at 0)) refl
-      where
-        go : (t : Bool) → listed (get_or b at 0) ≡ t → Goal home (code.Ends (at + 1) (record { 0 = pos.0 + 1 }) (record { 0 = number.0 + 1 }))
-        go true e =
-            let o = outcome_is action_size count action_trace here (state (tables [] []) []) (read_action terms b (behind 1 (read_body terms b d)) (placed at)) (ran_is (did_small terms b d at pos home number (tables [] []) [] opcode_inside h e) refl) in
-            is_passed {q = at + 1} {w = record { 0 = pos.0 + 1 }} {k = record { 0 = number.0 + 1 }}
-            (measured_of action_size count action_trace here o.1 ∙ rw (← o.2, ← o.3, one_byte o.0 here (omega (arith, o.2))))
-        go false e = no_fault _ (ran_bad (did_unknown terms b d at pos home number (tables [] []) [] opcode_inside e) refl)
+      go : (t : Bool) → listed (get_or b from.at 0) ≡ t → Judging rules (the_measure home) (Ok (record { at = from.at + 1; pos = record { 0 = from.pos.0 + 1 }; number = record { 0 = from.number.0 + 1 } }))
+      go true e =
+          let o = outcome_is action_size count action_trace here (state (tables [] []) None) the_action (ran_is (did_small terms b d from.at from.pos home from.number (tables [] []) None opcode_inside h e) refl) in
+          is_passed home _ (measured_of action_size count action_trace here o.1 ∙ rw (← o.2, ← o.3, one_byte o.0 here (omega (arith, o.2))))
+      go false e = no_fault home _ (ran_bad (did_unknown terms b d from.at from.pos home from.number (tables [] []) None opcode_inside e) refl)
 
-  module _ (op : ℕ) (there : op ≡ get_or b at 0) (l : Laid) (over over' : List ℕ)
-      (x : Laying terms.label_bound (λ inner. read_fields_if terms b inner (opcode_of op) (placed at) (placed (at + 1))) at (length b) pos.0 number.0 over over' l) where
-    abbrev Here : Laid → Type 0
-    Here l = Laying terms.label_bound (λ inner. read_fields_if terms b inner (opcode_of (get_or b at 0)) (placed at) (placed (at + 1))) at (length b) pos.0 number.0 over over' l
+  -- where the walk stands after a payload
+  abbrev after : Spot → Cursor
+  after s = record { at = s.at; pos = s.pos; number = record { 0 = from.number.0 + 1 } }
 
-    y : Here l
-    y = rw there at x
+  module _ {op : ℕ} (there : op ≡ get_or b from.at 0) (over over' : code.Option Overflow) where
+    abbrev Here : Result Laid spot.Stop → Type 0
+    Here r = Laying terms.label_bound (λ inner. read_fields_if terms b inner (opcode_of op) (placed from.at) (placed (from.at + 1))) from.at (length b) from.pos.0 from.number.0 over over' r
 
-    fields : read_action terms b (behind 1 (read_body terms b d)) (placed at) ≡ read_fields_if terms b (behind 1 (read_body terms b d)) (opcode_of (get_or b at 0)) (placed at) (placed (at + 1))
-    fields = action_in terms b d at opcode_inside
+    fields : the_action ≡ read_fields_if terms b (behind 1 (read_body terms b d)) (opcode_of op) (placed from.at) (placed (from.at + 1))
+    fields = rw there (action_in terms b d from.at opcode_inside)
 
-    pub never_stops : {X : Type 0} (f : Fault) (p : ℕ) → l ≡ laid.Stops f p → X
-    never_stops f p e = no_fault pos _ (ran_bad (did_stops terms b d at pos pos number (tables [] []) over opcode_inside l over' y f p e) refl)
+    pub never_stops : {X : Type 0} {s : spot.Stop} → Here (Err s) → X
+    never_stops (stops {s = s} g) = no_fault from.pos (state (tables [] []) over) {f = s.fault} {p = s.place} {k = from.number.0} (rw fields (g (behind 1 (read_body terms b d)) (state (tables [] []) over) from.pos.0))
 
-    pub flat_passed : (home : BytePosition) (q : ℕ) (w : BytePosition) → l ≡ laid.Flat q w → Goal home (code.Ends q w (record { 0 = number.0 + 1 }))
-    flat_passed home q w e = go (rw e at y)
-      where
-        go : Here (laid.Flat q w) → Goal home (code.Ends q w (record { 0 = number.0 + 1 }))
-        go (flat g m) = is_passed home {k = record { 0 = number.0 + 1 }} (rw fields (m (behind 1 (read_body terms b d)) home.0))
+    pub flat_passed : (home : BytePosition) {s : Spot} → Here (Ok (laid.Flat s)) → Judging rules (the_measure home) (Ok (after s))
+    flat_passed home (flat g m) = is_passed home (after _) (rw fields (m (behind 1 (read_body terms b d)) home.0))
 
     -- a branch's label, and where its operand stands
-    pub branch_asks : (q : ℕ) (w : BytePosition) (n : ℕ) → l ≡ laid.Branch q w n → (n < terms.label_bound) × (pos.0 + 3 + 2 ≤ 1099511627776)
-    branch_asks q w n e = go (rw e at y)
-      where
-        go : Here (laid.Branch q w n) → (n < terms.label_bound) × (pos.0 + 3 + 2 ≤ 1099511627776)
-        go (to_label i u v g) = (u, omega (arith, i, j.roomy.room, opcode_inside))
+    pub branch_asks : {s : Spot} {n : ℕ} → Here (Ok (laid.Branch s n)) → (n < terms.label_bound) × (from.pos.0 + 3 + 2 ≤ 1099511627776)
+    branch_asks (to_label i u v g) = (u, omega (arith, i, j.roomy.room, opcode_inside))
 
-    pub branch_found : (home : BytePosition) (q : ℕ) (w : BytePosition) (n : ℕ) (r : Judged) → l ≡ laid.Branch q w n → BranchJudged mode tab homes n q (position (pos.0 + 3) home.0 number.0) r → Goal home r
-    branch_found home q w n r e k = go (rw e at y) k
-      where
-        operand : Position
-        operand = position (pos.0 + 3) home.0 number.0
+    module _ (home : BytePosition) {s : Spot} {n : ℕ} (l : Here (Ok (laid.Branch s n))) where
+      abbrev operand : Position
+      operand = position (from.pos.0 + 3) home.0 from.number.0
 
-        seen : Measure
-        seen = measure (pos.0 + 5) (number.0 + 1) (branch_at n operand ∷ [])
+      abbrev Seen : Read Measure
+      Seen = got (measure s.pos.0 (from.number.0 + 1) (branch_at n operand ∷ [])) (placed s.at)
 
-        is_seen : (k : _) → read_action terms b (behind 1 (read_body terms b d)) (placed at) ≡ got (branch k n) (placed q)
-            → measured action_size count action_trace (standing pos home number) (read_action terms b (behind 1 (read_body terms b d)) (placed at)) ≡ got seen (placed q)
-        is_seen k e = measured_of action_size count action_trace (standing pos home number) e ∙ (unfold size count trace map_action branches moved in rw (add-zero number.0))
+      is_seen : the_measure home ≡ Seen
+      is_seen = go l
+        where
+          go : {s : Spot} → Here (Ok (laid.Branch s n)) → the_measure home ≡ got (measure s.pos.0 (from.number.0 + 1) (branch_at n operand ∷ [])) (placed s.at)
+          go (to_label i u v g) = measured_of action_size count action_trace (standing from.pos home from.number) (fields ∙ g (behind 1 (read_body terms b d))) ∙ (unfold size count trace map_action branches moved in rw (i, add-zero from.number.0))
 
-        only : bad_by mode (record_in tab homes) seen.branching ≡ judged_in mode (record_in tab homes n) operand
-        only = only_one (judged_in mode) (record_in tab homes) n operand
+      only : refused_by rules (branch_at n operand ∷ []) ≡ judged_in (mode_of rules.mode) (record_by rules n) operand
+      only = only_one (judged_in (mode_of rules.mode)) (record_by rules) n operand
 
-        go : {r : Judged} → Here (laid.Branch q w n) → BranchJudged mode tab homes n q operand r → Goal home r
-        go (to_label {k = k} i u v g) (BranchJudged.passed {w = x} {k = o} h m c) =
-            rw (is_seen k (fields ∙ g (behind 1 (read_body terms b d)))) (passed {m = seen} {q = placed q} {w = x} {k = o} (only ∙ h) (omega (arith, m)) c)
-        go (to_label {k = k} i u v g) (BranchJudged.refused {bad = x} {k = o} h) = rw (is_seen k (fields ∙ g (behind 1 (read_body terms b d)))) (refused {m = seen} {q = placed q} {bad = x} {k = o} (only ∙ h))
+      pub branch_passed : judged_in (mode_of rules.mode) (record_by rules n) operand ≡ none → Judging rules (the_measure home) (Ok (after s))
+      branch_passed e = rw is_seen (only ∙ e, record { place = refl; end = refl; number = refl })
+
+      pub branch_refused : (x : Refused) (r : Result Cursor Refused) → IsErrAnd r (λ y. y ≡ x) → judged_in (mode_of rules.mode) (record_by rules n) operand ≡ some (refusal_of x.bad x.action) → Judging rules (the_measure home) r
+      branch_refused x (Ok c) p e = absurd p
+      branch_refused x (Err y) p e = rw (is_seen, p) (only ∙ e, tt)
 
     -- bodies follow, whose home is made from the action's
-    module _ (q : ℕ) (w : BytePosition) (n : ℕ) (inside : ℕ → ℕ)
-        (o : Owning (λ inner. read_fields_if terms b inner (opcode_of (get_or b at 0)) (placed at) (placed (at + 1))) at (length b) pos.0 number.0 over over' q w n inside) where
-      abbrev Inside : ℕ → Read Measure
-      Inside home = measured (total body_length) (total body_count) in_bodies (position w.0 (inside home) (number.0 + 1)) (in_turn (read_body terms b d) n (placed q))
-
-      owned_measures : (home : BytePosition) → measured action_size count action_trace (standing pos home number) (read_action terms b (behind 1 (read_body terms b d)) (placed at)) ≡ Inside home.0
+    module _ {s : Spot} {n : ℕ} {inside : ℕ → ℕ}
+        (o : Owning (λ inner. read_fields_if terms b inner (opcode_of op) (placed from.at) (placed (from.at + 1))) from.at (length b) from.pos.0 from.number.0 over over' s n inside) where
+      owned_measures : (home : BytePosition) → the_measure home ≡ measured (total body_length) (total body_count) in_bodies (position s.pos.0 (inside home.0) (from.number.0 + 1)) (in_turn (read_body terms b d) n (placed s.at))
       owned_measures home = rw fields (o.measures (read_body terms b d) home.0)
 
-      owned_asks : Judgeable terms (in_turn (read_body terms b d) n (placed q)) b q w (number.0 + 1) mode tab homes
+      owned_asks : Judgeable terms (in_turn (read_body terms b d) n (placed s.at)) b (after s) rules
       owned_asks =
-          let r = measured_read (total body_length) (total body_count) in_bodies _ (in_turn (read_body terms b d) n (placed q)) (sym (owned_measures pos) ∙ measured_of action_size count action_trace (standing pos pos number) j.reads) in
+          let r = measured_read (total body_length) (total body_count) in_bodies _ (in_turn (read_body terms b d) n (placed s.at)) (sym (owned_measures from.pos) ∙ measured_of action_size count action_trace (standing from.pos from.pos from.number) j.reads) in
           record {
             roomy = owned_place o j.roomy;
             before = omega (arith, j.before, o.onward.beyond);
-            slots = j.slots;
-            small = j.small;
-            lent = j.lent;
+            fitting = j.fitting;
             value = r.0;
             next = j.next;
             reads = r.1;
           }
 
-      owned_found : (home : BytePosition) (r : Judged) → Judging mode tab homes (Inside home.0) r → Goal home r
-      owned_found home r k = rw (owned_measures home) k
+    pub bodies_asks : {s : Spot} {n : ℕ} → Here (Ok (laid.Bodies s n)) → Judgeable terms (in_turn (read_body terms b d) n (placed s.at)) b (after s) rules
+    bodies_asks (bodies least o) = owned_asks o
 
-    pub bodies_asks : (q : ℕ) (w : BytePosition) (n : ℕ) → l ≡ laid.Bodies q w n → Judgeable terms (in_turn (read_body terms b d) n (placed q)) b q w (number.0 + 1) mode tab homes
-    bodies_asks q w n e = owned_asks q w n _ (did_bodies y e)
+    pub bodies_found : (home : BytePosition) {s : Spot} {n : ℕ} (r : Result Cursor Refused) → Here (Ok (laid.Bodies s n))
+        → Judging rules (measured (total body_length) (total body_count) in_bodies (standing s.pos home (after s).number) (in_turn (read_body terms b d) n (placed s.at))) r → Judging rules (the_measure home) r
+    bodies_found home r (bodies least o) k = rw (owned_measures o home) k
 
-    pub bodies_found : (home : BytePosition) (q : ℕ) (w : BytePosition) (n : ℕ) (r : Judged) → l ≡ laid.Bodies q w n
-        → Judging mode tab homes (measured (total body_length) (total body_count) in_bodies (position w.0 home.0 (number.0 + 1)) (in_turn (read_body terms b d) n (placed q))) r → Goal home r
-    bodies_found home q w n r e k = owned_found q w n _ (did_bodies y e) home r k
+    pub function_asks : {s : Spot} → Here (Ok (laid.Function s)) → Judgeable terms (in_turn (read_body terms b d) 1 (placed s.at)) b (after s) rules
+    function_asks (function o) = owned_asks o
 
-    pub function_asks : (q : ℕ) (w : BytePosition) → l ≡ laid.Function q w → Judgeable terms (in_turn (read_body terms b d) 1 (placed q)) b q w (number.0 + 1) mode tab homes
-    function_asks q w e = owned_asks q w 1 _ (did_function y e)
-
-    pub function_found : (home : BytePosition) (q : ℕ) (w : BytePosition) (r : Judged) → l ≡ laid.Function q w
-        → Judging mode tab homes (measured (total body_length) (total body_count) in_bodies (position w.0 w.0 (number.0 + 1)) (in_turn (read_body terms b d) 1 (placed q))) r → Goal home r
-    function_found home q w r e k = owned_found q w 1 _ (did_function y e) home r k
+    pub function_found : (home : BytePosition) {s : Spot} (r : Result Cursor Refused) → Here (Ok (laid.Function s))
+        → Judging rules (measured (total body_length) (total body_count) in_bodies (standing s.pos s.pos (after s).number) (in_turn (read_body terms b d) 1 (placed s.at))) r → Judging rules (the_measure home) r
+    function_found home r (function o) k = rw (owned_measures o home) k

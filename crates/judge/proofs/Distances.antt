@@ -4,27 +4,25 @@ use Prim.Native.Nat.{ℕ, zero, suc, ◌+◌, ◌-◌, ◌≤◌, ◌<◌}
 use native.Mathlib.Omega.{arith}
 use mathlib.Core.Bool.{Bool, true, false, not, ◌&&◌}
 use mathlib.Core.Option.{Option, none, some}
-use mathlib.Core.List.{List}
 use lib.ListN.{get_or}
 use lib.Dec.{leb, eqb}
 use lib.IntN.{pos, negsuc, sub_ℕ}
 use borrow.Author.Tests.{leb-true, leb-false}
 use Rattle.layout.specs.Numbers.{bits64}
-use Rattle.layout.specs.Answers.{NeverRecorded, StrayBranch}
+use Rattle.layout.specs.Answers.{Refusal, NeverRecorded, StrayBranch}
 use Rattle.layout.specs.Write.{Position}
 use Rattle.layout.specs.Order.{zero_up, below, signed64}
 use Rattle.layout.proofs.Order.{bits_back}
 use Rattle.layout.specs.Judge.{Mode, distance, far_unless, or_else, refusal_if, barred, judged_in}
 use Rattle.laws.proofs.Demands.{sub_up, sub_down}
-use Rattle.labels.specs.Table.{record_of, record_at, record_in, is_recorded, is_at_home, homed, is_far}
+use Rattle.labels.specs.Table.{record_of, record_at, is_recorded, is_at_home, homed, is_far}
 use Rattle.labels.proofs.Labels.{homed_judged, judged_by}
 use Rattle.positions.specs.declared.ActionNumber.{ActionNumber}
 use Rattle.positions.specs.declared.BytePosition.{BytePosition}
 use Rattle.measure.specs.Walk.{standing}
 use Rattle.judge.specs.declared.BadBranch.TheVariants as branch
-use Rattle.judge.specs.declared.Judged.{Judged}
-use Rattle.judge.specs.declared.Judged.TheVariants as code
-use Rattle.judge.specs.Judging.{refusal_of, Small, BranchJudged}
+use Rattle.judge.specs.declared.Rules.{Rules}
+use Rattle.judge.specs.Judging.{mode_of, refusal_of, record_by, Small}
 
 -- a distance between two positions is what an i64 can hold
 signed_sub : (to after : ℕ) → to < 9223372036854775808 → after < 9223372036854775808 → signed64 (bits64 (sub_ℕ to after)) ≡ sub_ℕ to after
@@ -67,45 +65,51 @@ unfolding homed is_recorded
 homed_recorded home none = refl
 homed_recorded home (some s) = refl
 
-module _ (mode : Mode) (tab homes : List ℕ) (label next : ℕ) (operand home : BytePosition) (action : ActionNumber) (unrecorded : Bool)
-    (i : unrecorded ≡ (mode.strict && not (is_recorded (record_at tab label)))) where
+module _ (rules : Rules) (label : ℕ) (operand home : BytePosition) (action : ActionNumber) (unrecorded : Bool)
+    (i : unrecorded ≡ (rules.mode.strict && not (is_recorded (record_at rules.tables.now.tab.now label)))) where
   abbrev o : Option Position
-  o = record_in tab homes label
+  o = record_by rules label
 
-  abbrev Goal : Judged → Type 0
-  Goal r = BranchJudged mode tab homes label next (standing operand home action) r
+  abbrev here : Position
+  here = standing operand home action
 
-  is_unrecorded : (mode.strict && not (is_recorded o)) ≡ unrecorded
-  is_unrecorded = ap (λ t. mode.strict && not t) (homed_recorded (get_or homes label 0) (record_at tab label)) ∙ sym i
+  abbrev Found : Option Refusal → Type 0
+  Found x = judged_in (mode_of rules.mode) o here ≡ x
 
-  pub branch_unrecorded : unrecorded ≡ true → Goal (code.Refused (branch.NeverRecorded operand) action)
+  is_unrecorded : (rules.mode.strict && not (is_recorded o)) ≡ unrecorded
+  is_unrecorded = ap (λ t. rules.mode.strict && not t) (homed_recorded (get_or rules.tables.now.homes.now label 0) (record_at rules.tables.now.tab.now label)) ∙ sym i
+
+  pub branch_unrecorded : unrecorded ≡ true → Found (some (refusal_of (branch.NeverRecorded operand) action))
   unfolding judged_in or_else refusal_if refusal_of
-  branch_unrecorded e = BranchJudged.refused {bad = branch.NeverRecorded operand} {k = action} (rw (barred_by mode o (standing operand home action), is_unrecorded, e))
+  branch_unrecorded e = rw (barred_by (mode_of rules.mode) o here, is_unrecorded, e)
 
-  module _ (e : unrecorded ≡ false) (stray : Bool) (j : stray ≡ (mode.contained && not (is_at_home home.0 o))) where
-    is_barred : barred mode o (standing operand home action) ≡ refusal_if stray (StrayBranch operand.0 action.0)
+  module _ (e : unrecorded ≡ false) (stray : Bool) (j : stray ≡ (rules.mode.contained && not (is_at_home home.0 o))) where
+    is_barred : barred (mode_of rules.mode) o here ≡ refusal_if stray (StrayBranch operand.0 action.0)
     unfolding or_else refusal_if
-    is_barred = barred_by mode o (standing operand home action) ∙ rw (is_unrecorded, e, j)
+    is_barred = barred_by (mode_of rules.mode) o here ∙ rw (is_unrecorded, e, j)
 
-    pub branch_stray : stray ≡ true → Goal (code.Refused (branch.StrayBranch operand) action)
+    pub branch_stray : stray ≡ true → Found (some (refusal_of (branch.StrayBranch operand) action))
     unfolding judged_in or_else refusal_if refusal_of
-    branch_stray f = BranchJudged.refused {bad = branch.StrayBranch operand} {k = action} (rw (is_barred, f))
+    branch_stray f = rw (is_barred, f)
 
     -- ---- a branch that it takes, by its distance's bits
-    module _ (f : stray ≡ false) (bits : ℕ) (far : Bool) (small : Small tab) (h : operand.0 + 2 ≤ 1099511627776)
-        (k : bits ≡ bits64 (distance (record_at tab label) (operand.0 + 2))) (l : far ≡ is_far bits) where
-      is_judged : judged_in mode o (standing operand home action) ≡ far_unless (not far) (distance (record_at tab label) (operand.0 + 2)) action.0
-      unfolding judged_in or_else refusal_if
+    module _ (f : stray ≡ false) (bits : ℕ) (far : Bool) (small : Small rules.tables.now.tab.now) (h : operand.0 + 2 ≤ 1099511627776)
+        (k : bits ≡ bits64 (distance (record_at rules.tables.now.tab.now label) (operand.0 + 2))) (l : far ≡ is_far bits) where
+      slot : ℕ
+      slot = get_or rules.tables.now.tab.now label 0
+
+      is_judged : Found (far_unless (not far) (distance (record_of slot) (operand.0 + 2)) action.0)
+      unfolding judged_in or_else refusal_if slot
       is_judged =
-          rw (is_barred, f) (homed_judged (get_or homes label 0) (record_at tab label) (operand.0 + 2) action.0
-          ∙ judged_by (get_or tab label 0) (operand.0 + 2) action.0 (omega (arith, small label)) (omega (arith, h)) l k)
+          rw (is_barred, f) (homed_judged (get_or rules.tables.now.homes.now label 0) (record_of slot) (operand.0 + 2) action.0
+          ∙ judged_by slot (operand.0 + 2) action.0 (omega (arith, small label)) (omega (arith, h)) l k)
 
-      pub branch_far : far ≡ true → Goal (code.Refused (branch.Far bits) action)
-      unfolding far_unless refusal_of
+      pub branch_far : far ≡ true → Found (some (refusal_of (branch.Far bits) action))
+      unfolding far_unless refusal_of slot
       branch_far g =
-          let s : signed64 bits ≡ distance (record_at tab label) (operand.0 + 2) = ap signed64 k ∙ signed_distance (get_or tab label 0) (operand.0 + 2) (omega (arith, small label)) (omega (arith, h)) in
-          BranchJudged.refused {bad = branch.Far bits} {k = action} (is_judged ∙ rw (g, s))
+          let s : signed64 bits ≡ distance (record_of slot) (operand.0 + 2) = ap signed64 k ∙ signed_distance slot (operand.0 + 2) (omega (arith, small label)) (omega (arith, h)) in
+          is_judged ∙ rw (g, s)
 
-      pub branch_near : far ≡ false → Goal (code.Ends next (record { 0 = operand.0 + 2 }) (record { 0 = action.0 + 1 }))
+      pub branch_near : far ≡ false → Found none
       unfolding far_unless
-      branch_near g = BranchJudged.passed (is_judged ∙ rw g) refl refl
+      branch_near g = is_judged ∙ ap (λ (t : Bool). far_unless (not t) (distance (record_of slot) (operand.0 + 2)) action.0) g

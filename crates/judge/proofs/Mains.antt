@@ -6,13 +6,15 @@ use native.Mathlib.Omega.{arith}
 use mathlib.Core.Bool.{Bool, true, false, not, ◌&&◌, and-eq-true_iff}
 use mathlib.Core.Option.{Option, none, some}
 use mathlib.Core.List.{List, [], ◌∷◌}
+use Rattle.std.specs.Prelude.{Result, Ok, Err}
+use Rattle.std.specs.Result.{IsErrAnd}
 use lib.ListN.{length, get_or, get_or-eq_default}
 use lib.Dec.{leb, ltb}
 use borrow.Author.Tests.{ltb-true, ltb-false, leb-true, le-leb, not-true}
 use Rattle.layout.specs.Tree.{Actions, body_count}
 use Rattle.layout.specs.Read.{Terms, placed, got, read_body}
 use Rattle.layout.specs.Write.{body_size, Position, block_start, Event, label_at, branch_at, payload_too_long, body_too_long, trace_body, events, lookup}
-use Rattle.layout.specs.Judge.{distance, is_near, far_unless, judged, or_else, Mode, plain_mode, refusal_if, barred, judged_in, first_refused, too_far, bad_by, bad_branch}
+use Rattle.layout.specs.Judge.{distance, is_near, far_unless, judged, or_else, Mode, plain_mode, refusal_if, barred, judged_in, first_refused, too_far, bad_branch}
 use Rattle.layout.specs.Answers.{Refusal}
 use Rattle.laws.proofs.Branches.{each_then, refused_same}
 use Rattle.laws.proofs.Modes.{plain_if, plain_far}
@@ -21,9 +23,9 @@ use Rattle.laws.specs.Books.{WordsShort}
 use Rattle.laws.proofs.Shares.{body_most}
 use Rattle.laws.proofs.Packed.{same_tree}
 use Rattle.laws.proofs.Within.{AllWithin, body_within, Recorded, lookup_within}
-use Rattle.labels.specs.Table.{slot_of, kept, homed, unnumbered, record_in, TableHolds}
-use Rattle.positions.specs.declared.ActionNumber.{ActionNumber}
+use Rattle.labels.specs.Table.{slot_of, kept, homed, unnumbered, TableHolds}
 use Rattle.positions.specs.declared.BytePosition.{BytePosition}
+use Rattle.positions.specs.declared.Cursor.{Cursor}
 use Rattle.labels.proofs.Labels.{table_record, both_record}
 use Rattle.laws.specs.Resolved.{body_length, body_events}
 use Rattle.measure.specs.Walk.{measure, branches, uncounted, measured}
@@ -31,14 +33,10 @@ use Rattle.pcode.proofs.Readings.{given}
 use Rattle.pcode.proofs.Trees.{UnderBody, main_body, body_under}
 use Rattle.pcode.proofs.Labels as labels
 use Rattle.pcode.proofs.Labels.{BranchesUnder}
-use Rattle.judge.specs.declared.BadBranch.{BadBranch}
-use Rattle.judge.specs.declared.Judged.{Judged}
-use Rattle.judge.specs.declared.Judged.TheVariants as code
-use Rattle.judge.specs.declared.Verdict.{Verdict}
-use Rattle.judge.specs.declared.Verdict.TheVariants as verdict
+use Rattle.judge.specs.declared.Refused.{Refused}
+use Rattle.judge.specs.declared.Rules.{Rules}
 use Rattle.labels.specs.Mains.{MainMeasured}
-use Rattle.judge.specs.Judging.{Judgeable, Judging, MainJudgeable, Says, MainJudged}
-use Rattle.judge.proofs.Loops.{found, found_bad}
+use Rattle.judge.specs.Judging.{mode_of, record_by, refused_by, Judgeable, Judging, MainJudgeable, Says, MainJudged}
 
 -- ---- a short block
 
@@ -97,7 +95,16 @@ unhomed mode e home (some r) s = rw e
 
 -- ---- a main body
 
-module _ (terms : Terms) (b : List ℕ) (end : BytePosition) (mode : Mode) (tab homes : List ℕ) (g : MainJudgeable terms b end mode tab homes) where
+module _ (terms : Terms) (b : List ℕ) (end : BytePosition) (rules : Rules) (g : MainJudgeable terms b end (mode_of rules.mode) rules.tables.now.tab.now rules.tables.now.homes.now) where
+  abbrev mode : Mode
+  mode = mode_of rules.mode
+
+  abbrev tab : List ℕ
+  tab = rules.tables.now.tab.now
+
+  abbrev homes : List ℕ
+  homes = rules.tables.now.homes.now
+
   abbrev m : MainMeasured terms b end tab
   m = g.measured
 
@@ -121,50 +128,49 @@ module _ (terms : Terms) (b : List ℕ) (end : BytePosition) (mode : Mode) (tab 
       let g = good_got m.reads.read m.reads.next (body_most terms b m.bytes short 16 (placed 0) (omega arith)) is_body in
       omega (arith, m.is_end, ap body_size m.reads.is_tree, g.0.0, g.1, m.limited)
 
-  pub main_asks : WordsShort terms → Judgeable terms (read_body terms b 16 (placed 0)) b 0 (record { 0 = 0 }) 0 mode tab homes
+  pub main_asks : WordsShort terms → Judgeable terms (read_body terms b 16 (placed 0)) b (record { at = 0; pos = record { 0 = 0 }; number = record { 0 = 0 } }) rules
   main_asks short = record {
     roomy = record { bytes = m.bytes; inside = omega arith; room = omega (arith, m.limited) };
     before = omega arith;
-    slots = m.slots;
-    small = slots_small end.0 tab all (end_small short) m.holds within;
-    lent = g.lent;
+    fitting = record { slots = m.slots; small = slots_small end.0 tab all (end_small short) m.holds within; lent = g.lent };
     value = m.reads.read;
     next = m.reads.next;
     reads = is_body;
   }
 
-  judged_main : (r : Verdict) → Says (bad_branch mode all all) r → MainJudged terms mode b r
+  judged_main : (r : Result (Unit {0}) Refused) → Says (bad_branch mode all all) r → MainJudged terms mode b r
   judged_main r s = record { says = λ t h. subst (λ (u : Actions). Says (bad_branch mode (events u) (events u)) r) (same_tree terms b m.tree t m.reads h) s }
 
   -- In plain mode only a distance is refused.
-  pub main_clear : (clear : Bool) → clear ≡ (not mode.strict && (not mode.contained && leb end.0 32768)) → clear ≡ true → MainJudged terms mode b verdict.Passed
+  pub main_clear : (clear : Bool) → clear ≡ (not mode.strict && (not mode.contained && leb end.0 32768)) → clear ≡ true → MainJudged terms mode b (Ok (tt {0}))
   main_clear clear e f =
       let k = (and-eq-true_iff (not mode.strict) (not mode.contained && leb end.0 32768)).0 (sym e ∙ f) in
       let i = (and-eq-true_iff (not mode.contained) (leb end.0 32768)).0 k.1 in
       let p : mode ≡ plain_mode = plain_if mode (not-true _ k.0) (not-true _ i.0) in
       let n = none_far_short end.0 all all within within (leb-true end.0 32768 i.1) in
-      judged_main verdict.Passed (rw (ap (λ (x : Mode). bad_branch x all all) p ∙ plain_far (λ l. lookup l all) all ∙ n) Says.passed)
+      judged_main (Ok (tt {0})) (ap (λ (x : Mode). bad_branch x all all) p ∙ plain_far (λ l. lookup l all) all ∙ n)
 
-  branch_same : (l : ℕ) (s : Position) → l < terms.label_bound → judged_in mode (record_in tab homes l) s ≡ judged_in mode (lookup l all) s
+  branch_same : (l : ℕ) (s : Position) → l < terms.label_bound → judged_in mode (record_by rules l) s ≡ judged_in mode (lookup l all) s
   branch_same l s h = go mode.contained refl
     where
-      go : (t : Bool) → mode.contained ≡ t → judged_in mode (record_in tab homes l) s ≡ judged_in mode (lookup l all) s
+      go : (t : Bool) → mode.contained ≡ t → judged_in mode (record_by rules l) s ≡ judged_in mode (lookup l all) s
       go true e = ap (λ o. judged_in mode o s) (both_record tab homes all m.holds g.holds l (omega (arith, h, m.slots)) (omega (arith, h, g.lent e))) ∙ unnumbered_judged mode (lookup l all) s
       go false e = ap (λ o. judged_in mode (homed (get_or homes l 0) o) s) (table_record tab all m.holds l (omega (arith, h, m.slots))) ∙ unhomed mode e (get_or homes l 0) (lookup l all) s
 
-  by_tables : bad_by mode (record_in tab homes) (branches (body_events m.reads.read block_start)) ≡ bad_branch mode all all
+  by_tables : refused_by rules (branches (body_events m.reads.read block_start)) ≡ bad_branch mode all all
   by_tables =
-      only_branches (judged_in mode) (record_in tab homes) (body_events m.reads.read block_start)
-      ∙ ap (λ (t : Actions). bad_by mode (record_in tab homes) (trace_body t block_start)) m.reads.is_tree
-      ∙ (unfold events in refused_same (judged_in mode) (judged_in mode) (record_in tab homes) (λ l. lookup l all) all (each_then (λ l s. l < terms.label_bound) _ branch_same all under))
+      only_branches (judged_in mode) (record_by rules) (body_events m.reads.read block_start)
+      ∙ ap (λ (t : Actions). refused_by rules (trace_body t block_start)) m.reads.is_tree
+      ∙ (unfold events in refused_same (judged_in mode) (judged_in mode) (record_by rules) (λ l. lookup l all) all (each_then (λ l s. l < terms.label_bound) _ branch_same all under))
 
-  module _ (r : Judged) (j : Judging mode tab homes (measured body_length body_count body_events block_start (read_body terms b 16 (placed 0))) r) where
-    here : Judging mode tab homes (got (measure (0 + body_length m.reads.read) (0 + body_count m.reads.read) (branches (body_events m.reads.read block_start))) m.reads.next) r
-    unfolding measured uncounted
-    here = rw is_body at j
+  here : (r : Result Cursor Refused) → Judging rules (measured body_length body_count body_events block_start (read_body terms b 16 (placed 0))) r
+      → Judging rules (got (measure (0 + body_length m.reads.read) (0 + body_count m.reads.read) (branches (body_events m.reads.read block_start))) m.reads.next) r
+  unfolding measured uncounted
+  here r j = rw is_body at j
 
-    pub main_passed : (q : ℕ) (w : BytePosition) (k : ActionNumber) → r ≡ code.Ends q w k → MainJudged terms mode b verdict.Passed
-    main_passed q w k e = judged_main verdict.Passed (rw (sym by_tables ∙ (found here e).is_passed) Says.passed)
+  pub main_passed : (c : Cursor) → Judging rules (measured body_length body_count body_events block_start (read_body terms b 16 (placed 0))) (Ok c) → MainJudged terms mode b (Ok (tt {0}))
+  main_passed c j = judged_main (Ok (tt {0})) (sym by_tables ∙ (here (Ok c) j).0)
 
-    pub main_bad : (bad : BadBranch) (k : ActionNumber) → r ≡ code.Refused bad k → MainJudged terms mode b (verdict.Refused bad k)
-    main_bad bad k e = judged_main (verdict.Refused bad k) (rw (sym by_tables ∙ found_bad here e) (Says.refused {bad = bad} {k = k}))
+  pub main_bad : (x : Refused) (r : Result (Unit {0}) Refused) → IsErrAnd r (λ y. y ≡ x) → Judging rules (measured body_length body_count body_events block_start (read_body terms b 16 (placed 0))) (Err x) → MainJudged terms mode b r
+  main_bad x (Ok u) p j = absurd p
+  main_bad x (Err y) p j = judged_main (Err y) (rw p (sym by_tables ∙ (here (Err x) j).0))

@@ -1,25 +1,28 @@
 // Judging the branches of a main body that reads whole, against the final label tables: 10 and, by the mode, 14 and 15. `home` is
-// the position at which the function body starts that a branch is in; only a function's body has another. `number` is that of the
-// next action.
+// the position at which the function body starts that a branch is in; only a function's body has another.
 #![tactic(auto)]
 
 ghost use Rattle.std.specs.Prelude.{◌≡◌, true, ◌&&◌, not, ◌+◌, ◌≤◌, ◌<◌, leb, length, get_or};
 ghost use Rattle.layout.specs.Tree.{count, body_count};
 ghost use Rattle.layout.specs.Read.{placed, behind, read_action, read_body};
+ghost use Rattle.layout.specs.Judge.{judged_in};
 ghost use Rattle.layout.specs.Lengths.{total};
 ghost use Rattle.laws.specs.Resolved.{action_size, action_trace, body_length, body_events};
 ghost use Rattle.measure.specs.Walk.{standing, measured, in_turn, in_bodies};
-ghost use Rattle.editions.specs.Allowed.{terms_of};
-ghost use Rattle.judge.specs.Judging.{mode_of, Small, Judgeable, Judging, BranchJudged, MainJudgeable, MainJudged};
-ghost use Rattle.labels.specs.Table.{is_recorded, is_at_home, record_at, record_in};
+ghost use Rattle.editions.specs.Allowed.{read_by};
+ghost use Rattle.answer.specs.Answered.{meant};
+ghost use Rattle.judge.specs.Judging.{mode_of, refusal_of, record_by, Small, Judgeable, Judging, Says, MainJudgeable, MainJudged};
+ghost use Rattle.labels.specs.Table.{is_recorded, is_at_home, record_at};
 
-use editions::Terms;
+use answer::Refusal;
+use bodies::{DEEPEST, next_after};
+use editions::MainBody;
 use fields::u16_at;
-use labels::{distance, is_at_home, is_far, is_recorded};
+use labels::{Tables, distance, is_far};
 use measure::Laid;
 use opcode::OpCode;
 use payload::scan_payload;
-use positions::{ActionNumber, BytePosition};
+use positions::{ActionNumber, BytePosition, Cursor};
 
 // What is asked of a sheet's branches besides their distances: in strict mode, that each one's label is recorded; in a contained
 // mode, that its record, if it has one, is in the function body of the branch.
@@ -38,236 +41,180 @@ pub enum BadBranch {
     StrayBranch(BytePosition),
 }
 
-// Where reading and writing would end and the number of the next action, or the first branch in writing order that is refused, with
-// its own.
+// A branch that is refused, with its number.
 #[derive(Clone, Copy)]
-pub enum Judged {
-    Ends(usize, BytePosition, ActionNumber),
-    Refused(BadBranch, ActionNumber),
+pub struct Refused {
+    pub bad: BadBranch,
+    pub action: ActionNumber,
 }
 
-// That no branch is refused, or the first in writing order that is, with its number.
-#[derive(Clone, Copy)]
-pub enum Verdict {
-    Passed,
-    Refused(BadBranch, ActionNumber),
+impl From<Refused> for Refusal {
+    ghost from_gives = { λ b r. meant r ≡ refusal_of b.bad b.action };
+
+    #[tactic(auto, unfolding(answer::specs::Answered::meant, crate::specs::Judging::refusal_of))]
+    fn from(branch: Refused) -> Refusal {
+        match branch.bad {
+            BadBranch::Far(bits) => Refusal::JumpOffsetOverflow(bits, branch.action),
+            BadBranch::NeverRecorded(operand) => Refusal::NeverRecorded(operand, branch.action),
+            BadBranch::StrayBranch(operand) => Refusal::StrayBranch(operand, branch.action),
+        }
+    }
 }
+
+// What branches are judged by: the mode, and the final label tables.
+#[derive(Clone, Copy)]
+struct Rules<'a> {
+    mode: Mode,
+    tables: &'a Tables<'a>,
+}
+
+// Where the walk stands after what was judged, or the first branch in writing order that is refused.
+type Judged = Result<Cursor, Refused>;
 
 // Whether strict mode refuses a branch to this label.
-fn is_unrecorded(mode: Mode, label: usize, tab: &[usize]) -> bool
-    requires { label < length tab.now }
-    ensures { result ≡ (mode.strict && not (is_recorded (record_at tab.now label))) }
+fn is_unrecorded(rules: &Rules<'_>, label: usize) -> bool
+    requires { label < length rules.now.tables.now.tab.now }
+    ensures { result ≡ (rules.now.mode.strict && not (is_recorded (record_at rules.now.tables.now.tab.now label))) }
 {
-    if mode.strict {
-        return !is_recorded(tab, label);
-    }
-    false
+    rules.mode.strict && !rules.tables.is_recorded(label)
 }
 
 // Whether a contained mode refuses a branch to this label from the function body that starts at `home`.
-fn is_stray(mode: Mode, label: usize, home: BytePosition, tab: &[usize], homes: &[usize]) -> bool
-    requires { (label < length tab.now) × (mode.contained ≡ true → label < length homes.now) }
-    ensures { result ≡ (mode.contained && not (is_at_home home.0 (record_in tab.now homes.now label))) }
+fn is_stray(rules: &Rules<'_>, label: usize, home: BytePosition) -> bool
+    requires { (label < length rules.now.tables.now.tab.now) × (rules.now.mode.contained ≡ true → label < length rules.now.tables.now.homes.now) }
+    ensures { result ≡ (rules.now.mode.contained && not (is_at_home home.0 (record_by rules.now label))) }
 {
-    if mode.contained {
-        return !is_at_home(tab, homes, label, home);
-    }
-    false
+    rules.mode.contained && !rules.tables.is_at_home(label, home)
 }
 
-// A branch to a label, whose operand stands at position `operand` and ends at place `next`, and its number.
+// A branch to a label, whose operand stands at position `operand`, and its number.
+#[tactic(auto, using(crate::proofs::Distances::branch_unrecorded, crate::proofs::Distances::branch_stray, crate::proofs::Distances::branch_far, crate::proofs::Distances::branch_near))]
 fn judge_branch(
     label: usize,
-    next: usize,
     operand: BytePosition,
     home: BytePosition,
     action: ActionNumber,
-    mode: Mode,
-    tab: &[usize],
-    homes: &[usize],
-) -> Judged
-    requires { (label < length tab.now) × (mode.contained ≡ true → label < length homes.now) × Small tab.now × (operand.0 + 2 ≤ 1099511627776) × (action.0 + 1 < 18446744073709551616) }
-    ensures { BranchJudged (mode_of mode) tab.now homes.now label next (standing operand home action) result }
+    rules: &Rules<'_>,
+) -> Result<(), Refused>
+    requires { (label < length rules.now.tables.now.tab.now) × (rules.now.mode.contained ≡ true → label < length rules.now.tables.now.homes.now) × Small rules.now.tables.now.tab.now × (operand.0 + 2 ≤ 1099511627776) }
+    ensures { Says (judged_in (mode_of rules.now.mode) (record_by rules.now label) (standing operand home action)) result }
 {
-    if is_unrecorded(mode, label, tab) {
-        return Judged::Refused(BadBranch::NeverRecorded(operand), action);
+    if is_unrecorded(rules, label) {
+        let bad = BadBranch::NeverRecorded(operand);
+        return Err(Refused { bad, action });
     }
-    if is_stray(mode, label, home, tab, homes) {
-        return Judged::Refused(BadBranch::StrayBranch(operand), action);
+    if is_stray(rules, label, home) {
+        let bad = BadBranch::StrayBranch(operand);
+        return Err(Refused { bad, action });
     }
-    let after = operand.0 + OpCode::U16_LEN;
-    let bits = distance(tab, label, BytePosition(after));
+    let after = BytePosition(operand.0 + OpCode::U16_LEN);
+    let tables = rules.tables;
+    let bits = distance(tables.tab, label, after);
     if is_far(bits) {
-        return Judged::Refused(BadBranch::Far(bits), action);
+        let bad = BadBranch::Far(bits);
+        return Err(Refused { bad, action });
     }
-    let later = action.0 + 1;
-    Judged::Ends(next, BytePosition(after), ActionNumber(later))
+    Ok(())
 }
 
 // A body with `depth` levels allowed, itself included. Its label entries are stepped over.
-#[cycle(judge_action_judge_bodies_judge_body_judge_large)]
+#[cycle(judging)]
 fn judge_body(
-    b: &[u8],
-    words: &[u8],
-    index: &[u32],
-    terms: Terms,
-    at: usize,
+    m: &MainBody<'_>,
+    from: Cursor,
     depth: usize,
-    pos: BytePosition,
     home: BytePosition,
-    number: ActionNumber,
-    mode: Mode,
-    tab: &[usize],
-    homes: &[usize],
+    rules: &Rules<'_>,
 ) -> Judged
-    requires { Judgeable (terms_of terms words.now index.now) (read_body (terms_of terms words.now index.now) b.now depth (placed at)) b.now at pos number.0 (mode_of mode) tab.now homes.now }
-    ensures { Judging (mode_of mode) tab.now homes.now (measured body_length body_count body_events (standing pos home number) (read_body (terms_of terms words.now index.now) b.now depth (placed at))) result }
+    requires { Judgeable (read_by m.now) (read_body (read_by m.now) m.now.b.now depth (placed from.at)) m.now.b.now from rules.now }
+    ensures { Judging rules.now (measured body_length body_count body_events (standing from.pos home from.number) (read_body (read_by m.now) m.now.b.now depth (placed from.at))) result }
 {
-    let front = at + 2 + 4 * u16_at(b, at);
-    let mut left = u16_at(b, front);
-    let mut p = front + 2;
-    let mut w = pos;
-    let mut action = number;
-    while 0 < left {
-        match judge_action(
-            b,
-            words,
-            index,
-            terms,
-            p,
-            depth - 1,
-            w,
-            home,
-            action,
-            mode,
-            tab,
-            homes,
-        ) {
-            Judged::Refused(bad, k) => {
-                return Judged::Refused(bad, k);
-            }
-            Judged::Ends(q, x, k) => {
-                p = q;
-                w = x;
-                action = k;
-            }
-        }
-        left -= 1;
+    let front = from.at + 2 + 4 * u16_at(m.b, from.at);
+    let count = u16_at(m.b, front);
+    let mut cursor = Cursor {
+        at: front + 2,
+        pos: from.pos,
+        number: from.number,
+    };
+    for _ in 0..count {
+        cursor = judge_action(m, cursor, depth - 1, home, rules)?;
     }
-    Judged::Ends(p, w, action)
+    Ok(cursor)
 }
 
 // The n bodies after a payload.
-#[cycle(judge_action_judge_bodies_judge_body_judge_large)]
+#[cycle(judging)]
 fn judge_bodies(
-    b: &[u8],
-    words: &[u8],
-    index: &[u32],
-    terms: Terms,
-    at: usize,
+    m: &MainBody<'_>,
+    from: Cursor,
     depth: usize,
-    pos: BytePosition,
     home: BytePosition,
-    number: ActionNumber,
     n: usize,
-    mode: Mode,
-    tab: &[usize],
-    homes: &[usize],
+    rules: &Rules<'_>,
 ) -> Judged
-    requires { Judgeable (terms_of terms words.now index.now) (in_turn (read_body (terms_of terms words.now index.now) b.now depth) n (placed at)) b.now at pos number.0 (mode_of mode) tab.now homes.now }
-    ensures { Judging (mode_of mode) tab.now homes.now (measured (total body_length) (total body_count) in_bodies (standing pos home number) (in_turn (read_body (terms_of terms words.now index.now) b.now depth) n (placed at))) result }
+    requires { Judgeable (read_by m.now) (in_turn (read_body (read_by m.now) m.now.b.now depth) n (placed from.at)) m.now.b.now from rules.now }
+    ensures { Judging rules.now (measured (total body_length) (total body_count) in_bodies (standing from.pos home from.number) (in_turn (read_body (read_by m.now) m.now.b.now depth) n (placed from.at))) result }
 {
-    let mut left = n;
-    let mut p = at;
-    let mut w = pos;
-    let mut action = number;
-    while 0 < left {
-        match judge_body(
-            b, words, index, terms, p, depth, w, home, action, mode, tab, homes,
-        ) {
-            Judged::Refused(bad, k) => {
-                return Judged::Refused(bad, k);
-            }
-            Judged::Ends(q, x, k) => {
-                p = q;
-                w = x;
-                action = k;
-            }
-        }
-        left -= 1;
+    let mut cursor = from;
+    for _ in 0..n {
+        cursor = judge_body(m, cursor, depth, home, rules)?;
     }
-    Judged::Ends(p, w, action)
+    Ok(cursor)
 }
 
-// An action within which `depth` bodies may stand one in another. It reads, so its payload never stops; what is noted of its
-// length was known before.
-#[cycle(judge_action_judge_bodies_judge_body_judge_large)]
+// An action within which `depth` bodies may stand one in another.
+#[cycle(judging)]
 fn judge_action(
-    b: &[u8],
-    words: &[u8],
-    index: &[u32],
-    terms: Terms,
-    at: usize,
+    m: &MainBody<'_>,
+    from: Cursor,
     depth: usize,
-    pos: BytePosition,
     home: BytePosition,
-    number: ActionNumber,
-    mode: Mode,
-    tab: &[usize],
-    homes: &[usize],
+    rules: &Rules<'_>,
 ) -> Judged
-    requires { Judgeable (terms_of terms words.now index.now) (read_action (terms_of terms words.now index.now) b.now (behind 1 (read_body (terms_of terms words.now index.now) b.now depth)) (placed at)) b.now at pos number.0 (mode_of mode) tab.now homes.now }
-    ensures { Judging (mode_of mode) tab.now homes.now (measured action_size count action_trace (standing pos home number) (read_action (terms_of terms words.now index.now) b.now (behind 1 (read_body (terms_of terms words.now index.now) b.now depth)) (placed at))) result }
+    requires { Judgeable (read_by m.now) (read_action (read_by m.now) m.now.b.now (behind 1 (read_body (read_by m.now) m.now.b.now depth)) (placed from.at)) m.now.b.now from rules.now }
+    ensures { Judging rules.now (measured action_size count action_trace (standing from.pos home from.number) (read_action (read_by m.now) m.now.b.now (behind 1 (read_body (read_by m.now) m.now.b.now depth)) (placed from.at))) result }
 {
-    let op = b[at];
+    let op = m.b[from.at];
     if op < 0x80 {
-        let next = at + 1;
-        let after = pos.0 + OpCode::SMALL_LEN;
-        let later = number.0 + 1;
-        return Judged::Ends(next, BytePosition(after), ActionNumber(later));
+        return Ok(Cursor {
+            at: from.at + 1,
+            pos: BytePosition(from.pos.0 + OpCode::SMALL_LEN),
+            number: ActionNumber(from.number.0 + 1),
+        });
     }
-    judge_large(
-        b, words, index, terms, op, at, depth, pos, home, number, mode, tab, homes,
-    )
+    judge_large(m, op, from, depth, home, rules)
 }
 
-// An action from opcode 80 on: its branch, or its bodies, of which `depth` may stand one in another.
-#[cycle(judge_action_judge_bodies_judge_body_judge_large)]
+// An action from opcode 80 on: its branch, or its bodies, of which `depth` may stand one in another. It reads, so that its payload
+// never stops; what is noted of its length was known before.
+#[cycle(judging)]
 fn judge_large(
-    b: &[u8],
-    words: &[u8],
-    index: &[u32],
-    terms: Terms,
+    m: &MainBody<'_>,
     op: u8,
-    at: usize,
+    from: Cursor,
     depth: usize,
-    pos: BytePosition,
     home: BytePosition,
-    number: ActionNumber,
-    mode: Mode,
-    tab: &[usize],
-    homes: &[usize],
+    rules: &Rules<'_>,
 ) -> Judged
-    requires { (128 ≤ op) × (op ≡ get_or b.now at 0) × Judgeable (terms_of terms words.now index.now) (read_action (terms_of terms words.now index.now) b.now (behind 1 (read_body (terms_of terms words.now index.now) b.now depth)) (placed at)) b.now at pos number.0 (mode_of mode) tab.now homes.now }
-    ensures { Judging (mode_of mode) tab.now homes.now (measured action_size count action_trace (standing pos home number) (read_action (terms_of terms words.now index.now) b.now (behind 1 (read_body (terms_of terms words.now index.now) b.now depth)) (placed at))) result }
+    requires { (128 ≤ op) × (op ≡ get_or m.now.b.now from.at 0) × Judgeable (read_by m.now) (read_action (read_by m.now) m.now.b.now (behind 1 (read_body (read_by m.now) m.now.b.now depth)) (placed from.at)) m.now.b.now from rules.now }
+    ensures { Judging rules.now (measured action_size count action_trace (standing from.pos home from.number) (read_action (read_by m.now) m.now.b.now (behind 1 (read_body (read_by m.now) m.now.b.now depth)) (placed from.at))) result }
 {
-    let later = number.0 + 1;
-    let k = ActionNumber(later);
-    let mut over = [0; 3];
-    match scan_payload(b, op, at, pos, terms, words, index, number, &mut over) {
-        Laid::Stops(_, p) => Judged::Ends(p, pos, number),
-        Laid::Flat(p, w) => Judged::Ends(p, w, k),
-        Laid::Branch(p, _, label) => {
-            let operand = pos.0 + OpCode::HEADER_LEN;
-            let at = BytePosition(operand);
-            judge_branch(label, p, at, home, number, mode, tab, homes)
+    let number = from.number;
+    let mut over = None;
+    match scan_payload(m, op, from, &mut over) {
+        Err(_) => unreachable!(),
+        Ok(Laid::Flat(after)) => Ok(next_after(after, number)),
+        Ok(Laid::Branch(after, label)) => {
+            let operand = BytePosition(from.pos.0 + OpCode::HEADER_LEN);
+            judge_branch(label, operand, home, number, rules)?;
+            Ok(next_after(after, number))
         }
-        Laid::Bodies(p, w, n) => judge_bodies(
-            b, words, index, terms, p, depth, w, home, k, n, mode, tab, homes,
-        ),
-        Laid::Function(p, w) => judge_bodies(
-            b, words, index, terms, p, depth, w, w, k, 1, mode, tab, homes,
-        ),
+        Ok(Laid::Bodies(after, n)) => {
+            judge_bodies(m, next_after(after, number), depth, home, n, rules)
+        }
+        Ok(Laid::Function(after)) => {
+            judge_bodies(m, next_after(after, number), depth, after.pos, 1, rules)
+        }
     }
 }
 
@@ -276,47 +223,27 @@ fn judge_large(
 fn is_clear(mode: Mode, end: BytePosition) -> bool
     ensures { result ≡ (not mode.strict && (not mode.contained && leb end.0 32768)) }
 {
-    if mode.strict {
-        return false;
-    }
-    if mode.contained {
-        return false;
-    }
-    end.0 <= 32768
+    !mode.strict && !mode.contained && end.0 <= 32768
 }
 
 // A main body that is written as far as position `end`.
 pub fn judge_main(
-    b: &[u8],
-    words: &[u8],
-    index: &[u32],
-    terms: Terms,
+    m: &MainBody<'_>,
     end: BytePosition,
     mode: Mode,
-    tab: &[usize],
-    homes: &[usize],
-) -> Verdict
-    requires { MainJudgeable (terms_of terms words.now index.now) b.now end (mode_of mode) tab.now homes.now }
-    ensures { MainJudged (terms_of terms words.now index.now) (mode_of mode) b.now result }
+    tables: &Tables<'_>,
+) -> Result<(), Refused>
+    requires { MainJudgeable (read_by m.now) m.now.b.now end (mode_of mode) tables.now.tab.now tables.now.homes.now }
+    ensures { MainJudged (read_by m.now) (mode_of mode) m.now.b.now result }
 {
     if is_clear(mode, end) {
-        return Verdict::Passed;
+        return Ok(());
     }
-    match judge_body(
-        b,
-        words,
-        index,
-        terms,
-        0,
-        16,
-        BytePosition(0),
-        BytePosition(0),
-        ActionNumber(0),
-        mode,
-        tab,
-        homes,
-    ) {
-        Judged::Refused(bad, action) => Verdict::Refused(bad, action),
-        Judged::Ends(_, _, _) => Verdict::Passed,
-    }
+    let start = Cursor {
+        at: 0,
+        pos: BytePosition(0),
+        number: ActionNumber(0),
+    };
+    judge_body(m, start, DEEPEST, BytePosition(0), &Rules { mode, tables })?;
+    Ok(())
 }
