@@ -351,10 +351,6 @@ module _ (terms : Terms) (b : List ℕ) (at d : ℕ) (pos : Position) (s : State
       go : (g : answers.Fault) → read_front terms b (placed at) ≡ bad g (stop (placed x.place)) → x.fault ≡ fault_of g → Ran (outcome body_length body_count body_events pos s (read_body terms b d (placed at))) (halts_at x.fault x.place k) s'
       go g u v = rw v (ran_fault _ (outcome_no body_length body_count body_events pos s (sym (body_less terms b at d h) ∙ body_step terms b at (d - 1) ∙ rw u) ∙ ap (fault (fault_of g) x.place) i))
 
-  pub body_ran : (s' : State) (r : Walked) → (d ≡ 0 → ⊥) → Ran (outcome body_length body_count body_events pos s (read_body terms b (d - 1 + 1) (placed at))) r s'
-      → Ran (outcome body_length body_count body_events pos s (read_body terms b d (placed at))) r s'
-  body_ran s' r h o = rw (body_less terms b at d h) at o
-
 -- labels note nothing
 labels_quiet : (es : List Entry) (j : ActionIndex) (s : Position) (over : code.Option Overflow) → note_all (labels_at es j s) over ≡ over
 unfolding labels_at note_all event_if

@@ -39,7 +39,7 @@ fn halted(fault: Fault, place: usize, number: ActionNumber) -> Walked
 
 // Where a walk stands behind the payload of an action: its bodies have the numbers after the action's own.
 pub fn next_after(after: Spot, owner: ActionNumber) -> Cursor
-    requires { owner.0 < 18446744073709551615 }
+    requires { owner.0 < usize.MAX }
     ensures { result ≡ next_after after owner }
 {
     Cursor {

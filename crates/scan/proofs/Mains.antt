@@ -28,7 +28,6 @@ use Rattle.measure.specs.declared.Limit.TheVariants.{ActionLen, BlockLen}
 use Rattle.measure.specs.declared.Overflow.{Overflow}
 use Rattle.measure.specs.declared.Notes.{Notes}
 use Rattle.measure.specs.Walk.{State, kept_in, overflow, note_all, run, fault, outcome, Ran}
-use Rattle.bodies.specs.Ready.{Ready}
 use Rattle.bodies.proofs.Walks.{ran_is, ran_bad, outcome_is}
 use Rattle.scan.specs.Mains.{Empty, Holds, refusal_by, refusal_in, MainScanned, whole, stopped}
 
@@ -60,9 +59,6 @@ pub zeros_slots : (terms : Terms) (n : ℕ) → terms.label_bound ≤ n → n < 
 zeros_slots terms n h k = record { few = omega (arith, h, k); enough = omega (arith, h, length-replicate {A = ℕ} n 0) }
 
 -- ---- what scan_main answers
-
-pub ready : {terms : Terms} {b : List ℕ} {notes : Notes} → Bytes b → Empty terms notes → length b ≤ 1048576 → Ready terms b (record { at = 0; pos = record { 0 = 0 }; number = record { 0 = 0 } }) notes
-ready small e h = record { roomy = record { bytes = small; inside = omega arith; room = omega arith }; before = omega arith; slots = e.slots }
 
 module _ (terms : Terms) (b : List ℕ) (notes notes' : Notes) (small : Bytes b) (e : Empty terms notes) (r : Result Cursor Halt)
     (o : Ran (outcome body_length body_count body_events block_start (kept_in notes) (read_body terms b 16 (placed 0))) r (kept_in notes')) where

@@ -15,6 +15,7 @@ use measure::Notes;
 use positions::{ActionNumber, BytePosition, Cursor, Fault, Halt, Walked};
 
 // How many bytes these are. That each is under 256 is said here: no proof sees it through the struct that lends them.
+#[tactic(auto, using(laws::proofs::Fits::all_bytes))]
 fn byte_count(b: &[u8]) -> usize
     ensures { (result ≡ length b.now) × Bytes b.now }
 {

@@ -2,11 +2,8 @@ use native.Mathlib.Omega.{arith}
 use Rattle.editions.proofs.Listed.{terms_short}
 use Rattle.positions.specs.Scanned.{fault_of}
 use Rattle.operands.proofs.Scans.{passed}
-use Rattle.scan.proofs.Mains.{ready, main_stops, main_left, main_whole}
+use Rattle.scan.proofs.Mains.{main_stops, main_left, main_whole}
 use Rattle.scan.proofs.scan_main.Goals as goal
-
-pub scan_body-requires : goal.scan_body-requires
-scan_body-requires c = ready c.byte_count-count.ensures.1 c.requires.1 c.requires.0
 
 pub returns-in_err-end-clause-scanned : goal.returns-in_err-end-clause-scanned
 returns-in_err-end-clause-scanned c = rw (passed c.from_residual.result c.from_residual.ensures.1) (main_stops _ _ c.args.notes.now c.scan_body.new.notes c.byte_count-count.ensures.1 c.requires.1 _ c.scan_body.ensures.ran _ c.in_err-end.was)
