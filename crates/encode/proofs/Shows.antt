@@ -27,7 +27,7 @@ use Rattle.pcode.specs.Shown.{span_of, Held, ShownTarget, nothing, variable, reg
 use Rattle.editions.specs.Allowed.{read_by}
 use Rattle.editions.specs.declared.MainBody.{MainBody}
 use Rattle.positions.specs.declared.Spot.{Spot}
-use Rattle.std.specs.Prelude as std
+use Rattle.std.specs.Prelude as prelude
 use Rattle.encode.specs.Heads.{head_bytes, head_of, CatchFrom, FinallyFrom, BodiesFrom, NotFar, Writable, WroteHead}
 use Rattle.encode_values.specs.Pieces.{Piece, piece, action, written, next_of, string_bytes, param_bytes, value_bytes, joined, strings_at, values_at, Room, Put}
 use Rattle.encode_values.specs.Pieces.{flat_piece}
@@ -122,7 +122,7 @@ module _ (m : MainBody) (inner : Reader (ActionsOf Text ℕ)) where
   uncaught x r s c e = (cc, cc)
 
   -- the catch's body, its name and its bits
-  catch_shown : {shape : ℕ} {t : std.Option CatchTarget} {x : CatchTargetOf Text} (r s : Place) (c : CatchOf Text ℕ) → is_shape shape ≡ true → ShownTarget m shape t x
+  catch_shown : {shape : ℕ} {t : prelude.Option CatchTarget} {x : CatchTargetOf Text} (r s : Place) (c : CatchOf Text ℕ) → is_shape shape ≡ true → ShownTarget m shape t x
       → read_catch (read_by m) m.b.now inner (has_catch shape) x r ≡ got c s
       → CatchFrom inner r c s × (catch_name (map_catch spelling c) ≡ target_bytes m t) × (catch_shape (map_catch spelling c) ≡ shape % 2 + 4 * (shape / 4 % 2))
   unfolding catch_name catch_shape map_catch map_target target_bytes bit

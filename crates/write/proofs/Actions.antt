@@ -8,7 +8,7 @@ use mathlib.Core.List.{List, ◌++◌}
 use lib.ListN.{length}
 use lib.Seq.{sets}
 use Rattle.layout.specs.Tree.{FlatOf, Branch, Owner, OwnerOf, CatchTargetOf, ActionOf, flat, branch, owner, Try, Actions, ActionsOf, Catch, CatchOf, no_catch, catch, FinallyOf, no_finally, finally}
-use Rattle.layout.specs.Read.{Text, Terms, Place, placed, Reader, got, behind, has_catch, has_finally, read_catch, read_finally, read_action}
+use Rattle.layout.specs.Read.{Text, Place, placed, Reader, got, behind, has_catch, has_finally, read_catch, read_finally, read_action}
 use Rattle.layout.specs.Strings.{map_action, map_body, map_owner, map_catch, map_finally}
 use Rattle.layout.specs.Payload.{owner_fields, catch_name}
 use Rattle.layout.specs.Write.{bytes, size, catch_size, Position, position, moved, to_body, to_try, to_catch, to_finally, Event, payload_test, body_test, trace, trace_catch, trace_finally, finally_size}
@@ -25,7 +25,10 @@ use Rattle.laws.specs.Resolved.{body_length, action_size, body_events}
 use Rattle.write.specs.Bodies.{bodies_of, read_if, read_tried, length_if, length_tried, near_of, near_if, near_tried, near_action, action_of, closed, closed_tried, Room, Wrote}
 use Rattle.write.specs.declared.Bodies.{Bodies}
 use Rattle.write.specs.declared.Bodies.TheVariants as bodies
-use Rattle.positions.specs.declared.Ends.{Ends}
+use Rattle.editions.specs.Allowed.{read_by}
+use Rattle.editions.specs.declared.MainBody.{MainBody}
+use Rattle.positions.specs.declared.Spot.{Spot}
+use Rattle.std.specs.Prelude as prelude
 use Rattle.write.proofs.Blocks.{length_owner, owner_closed, catch_body, finally_body, tried_of, catch_length, finally_length, length_try, try_closed, head_most}
 use Rattle.laws.specs.Nears.{NoneFar}
 use Rattle.laws.proofs.Nears.{near_left, near_right, near_of_lem, branch_near}
@@ -44,28 +47,28 @@ is_finally no_finally = false
 is_finally (finally x) = true
 
 -- The bodies that the code takes for an action are those that it has.
-data Holds : Bodies → ActionOf Text ℕ → Type 0 where
-  flat_none : {f : FlatOf Text} → Holds bodies.Nothing (flat f)
-  branch_none : {k : Branch} {l : ℕ} → Holds bodies.Nothing (branch k l)
-  one : {o : OwnerOf Text} {x : ActionsOf Text ℕ} → Holds bodies.One (owner o x)
+data Holds : prelude.Option Bodies → ActionOf Text ℕ → Type 0 where
+  flat_none : {f : FlatOf Text} → Holds prelude.None (flat f)
+  branch_none : {k : Branch} {l : ℕ} → Holds prelude.None (branch k l)
+  one : {o : OwnerOf Text} {x : ActionsOf Text ℕ} → Holds (prelude.Some bodies.One) (owner o x)
   tried : {shape : ℕ} {x : ActionsOf Text ℕ} {c : CatchOf Text ℕ} {f : FinallyOf Text ℕ} → has_catch shape ≡ is_catch c → has_finally shape ≡ is_finally f
-      → Holds (bodies.OfTry shape) (Try x c f)
+      → Holds (prelude.Some (bodies.OfTry shape)) (Try x c f)
 
-module _ (terms : Terms) (b : List ℕ) (inner : Reader (ActionsOf Text ℕ)) where
+module _ (m : MainBody) (inner : Reader (ActionsOf Text ℕ)) where
   -- A catch that was read is there where its bit says so.
-  catch_there : (t : Bool) (x : CatchTargetOf Text) (p : Place) → Gives (λ c q. t ≡ is_catch c) (read_catch terms b inner t x p)
+  catch_there : (t : Bool) (x : CatchTargetOf Text) (p : Place) → Gives (λ c q. t ≡ is_catch c) (read_catch (read_by m) m.b.now inner t x p)
   unfolding read_catch
   catch_there true x p = then (itself (inner p)) (λ a q e. gives refl)
   catch_there false x p = gives refl
 
   -- So is a finally.
-  finally_there : (t : Bool) (p : Place) → Gives (λ f q. t ≡ is_finally f) (read_finally terms b inner t p)
+  finally_there : (t : Bool) (p : Place) → Gives (λ f q. t ≡ is_finally f) (read_finally (read_by m) m.b.now inner t p)
   unfolding read_finally
   finally_there true p = then (itself (inner p)) (λ a q e. gives refl)
   finally_there false p = gives refl
 
   -- For every case of an action.
-  holds : {e : List ℕ} {p : ℕ} {a : Action} {x : ActionOf Text ℕ} {q : Place} → Shown terms b e inner p a x q → Holds (bodies_of a) x
+  holds : {p : ℕ} {a : Action} {x : ActionOf Text ℕ} {q : Place} → Shown m inner p a x q → Holds (bodies_of a) x
   unfolding bodies_of
   holds (small e) = flat_none
   holds goto_frame = flat_none
@@ -216,14 +219,14 @@ tried_read inner shape next x c f q d e h = rw (h.2, catch_read inner (has_catch
 
 -- ---- what is asked and left
 
-module _ (terms : Terms) (inner : Reader (ActionsOf Text ℕ)) {b tab out : List ℕ} {at pos : ℕ} where
+module _ (m : MainBody) (inner : Reader (ActionsOf Text ℕ)) {tab out : List ℕ} {at pos : ℕ} where
   -- There is an action to read.
-  pub reads_action : Room terms (read_action terms b (behind 1 inner)) action_size near_action b at pos tab out → ActionReads terms b at
+  pub reads_action : Room m (read_action (read_by m) m.b.now (behind 1 inner)) action_size near_action at pos tab out → ActionReads m at
   reads_action r = record { inner = behind 1 inner; action = r.value; next = r.next; reads = r.reads }
 
-  module _ {e : List ℕ} {a : Action} (s : ShowsAction terms b e at a) where
+  module _ {a : Action} (s : ShowsAction m at a) where
     -- Its head has room.
-    pub head_room : Room terms (read_action terms b (behind 1 inner)) action_size near_action b at pos tab out → Writable terms b e at a pos tab out
+    pub head_room : Room m (read_action (read_by m) m.b.now (behind 1 inner)) action_size near_action at pos tab out → Writable m at a pos tab out
     head_room r =
         record {
           bytes = r.bytes;
@@ -238,46 +241,46 @@ module _ (terms : Terms) (inner : Reader (ActionsOf Text ℕ)) {b tab out : List
           places = omega (arith, opcode_room (reads_action r), r.places);
         }
 
-    module _ {mid : List ℕ} {next end : ℕ} (h : WroteHead terms b e at a pos tab out mid next end) where
+    module _ {mid : List ℕ} {e : Spot} (h : WroteHead m at a pos tab out mid e) where
       -- What is known of an action that is read there, once its head is written.
-      record Headed (k : Bodies) (x : ActionOf Text ℕ) (q : Place) : Type 0 where
+      record Headed (k : prelude.Option Bodies) (x : ActionOf Text ℕ) (q : Place) : Type 0 where
         pub has : Holds k x
         pub head : mid ≡ sets out pos (head_of tab x pos)
-        pub reach : end ≡ pos + length (head_of tab x pos)
-        pub from : BodiesFrom inner next x q
+        pub reach : e.pos.0 ≡ pos + length (head_of tab x pos)
+        pub from : BodiesFrom inner e.at x q
 
       -- For every action that is read there.
-      headed : (k : Bodies) → bodies_of a ≡ k → (x : ActionOf Text ℕ) (q : Place) → read_action terms b (behind 1 inner) (placed at) ≡ got x q → Headed k x q
-      headed k e x q r =
+      headed : (k : prelude.Option Bodies) → bodies_of a ≡ k → (x : ActionOf Text ℕ) (q : Place) → read_action (read_by m) m.b.now (behind 1 inner) (placed at) ≡ got x q → Headed k x q
+      headed k u x q r =
           let t = s.shows (behind 1 inner) x q r in
           let w = h.wrote (behind 1 inner) x q t in
-          record { has = subst (λ (j : Bodies). Holds j x) e (holds terms b (behind 1 inner) t); head = w.0; reach = w.1; from = owned inner next x q w.2 }
+          record { has = subst (λ (j : prelude.Option Bodies). Holds j x) u (holds m (behind 1 inner) t); head = w.0; reach = w.1; from = owned inner e.at x q w.2 }
 
       -- An action without a body is written.
-      pub none_wrote : bodies_of a ≡ bodies.Nothing
-          → Wrote (read_action terms b (behind 1 inner)) action_size (λ x. sets out pos (action_of tab x pos)) at pos mid (record { next = next; pos = record { 0 = end } })
-      none_wrote e = record { wrote = λ x q r. (none_at x q r).0; ends = record { ended = λ x q r. (none_at x q r).1 } }
+      pub none_wrote : bodies_of a ≡ prelude.None
+          → Wrote (read_action (read_by m) m.b.now (behind 1 inner)) action_size (λ x. sets out pos (action_of tab x pos)) at pos mid e
+      none_wrote u = record { wrote = λ x q r. (none_at x q r).0; ends = record { ended = λ x q r. (none_at x q r).1 } }
         where
-          none_go : (x : ActionOf Text ℕ) (q : Place) → Holds bodies.Nothing x → mid ≡ sets out pos (head_of tab x pos) → end ≡ pos + length (head_of tab x pos) → BodiesFrom inner next x q
-              → (mid ≡ sets out pos (action_of tab x pos)) × ((end ≡ pos + action_size x) × (next ≡ q.at))
+          none_go : (x : ActionOf Text ℕ) (q : Place) → Holds prelude.None x → mid ≡ sets out pos (head_of tab x pos) → e.pos.0 ≡ pos + length (head_of tab x pos) → BodiesFrom inner e.at x q
+              → (mid ≡ sets out pos (action_of tab x pos)) × ((e.pos.0 ≡ pos + action_size x) × (e.at ≡ q.at))
           none_go (flat f) q flat_none m k n = (m ∙ flat_same tab out f pos, (k ∙ flat_long tab f pos, ap (λ (o : Place). o.at) (sym n)))
           none_go (branch j l) q branch_none m k n = (m ∙ branch_same tab out j l pos, (k ∙ branch_long tab j l pos, ap (λ (o : Place). o.at) (sym n)))
           none_go (owner action actions) q h m k n = elim h [ ]
           none_go (Try try_body _ _) q h m k n = elim h [ ]
 
-          none_at : (x : ActionOf Text ℕ) (q : Place) → read_action terms b (behind 1 inner) (placed at) ≡ got x q
-              → (mid ≡ sets out pos (action_of tab x pos)) × ((end ≡ pos + action_size x) × (next ≡ q.at))
+          none_at : (x : ActionOf Text ℕ) (q : Place) → read_action (read_by m) m.b.now (behind 1 inner) (placed at) ≡ got x q
+              → (mid ≡ sets out pos (action_of tab x pos)) × ((e.pos.0 ≡ pos + action_size x) × (e.at ≡ q.at))
           none_at x q r =
-              let g = headed bodies.Nothing e x q r in
+              let g = headed prelude.None u x q r in
               none_go x q g.has g.head g.reach g.from
 
       -- The one body of an action has room, and its length stands two bytes before it.
-      pub one_room : bodies_of a ≡ bodies.One → Room terms (read_action terms b (behind 1 inner)) action_size near_action b at pos tab out → length mid ≡ length out
-          → Room terms inner body_length near_of b next end tab mid × (end - 2 + 2 ≤ end)
-      one_room e r l = let g = headed bodies.One e r.value r.next r.reads in one_go r.value r.next g.has g.reach g.from r.room r.nearby
+      pub one_room : bodies_of a ≡ prelude.Some bodies.One → Room m (read_action (read_by m) m.b.now (behind 1 inner)) action_size near_action at pos tab out → length mid ≡ length out
+          → Room m inner body_length near_of e.at e.pos.0 tab mid × (e.pos.0 - 2 + 2 ≤ e.pos.0)
+      one_room u r l = let g = headed (prelude.Some bodies.One) u r.value r.next r.reads in one_go r.value r.next g.has g.reach g.from r.room r.nearby
         where
-          one_go : (x : ActionOf Text ℕ) (q : Place) → Holds bodies.One x → end ≡ pos + length (head_of tab x pos) → BodiesFrom inner next x q → pos + action_size x ≤ length out → near_action tab x pos
-              → Room terms inner body_length near_of b next end tab mid × (end - 2 + 2 ≤ end)
+          one_go : (x : ActionOf Text ℕ) (q : Place) → Holds (prelude.Some bodies.One) x → e.pos.0 ≡ pos + length (head_of tab x pos) → BodiesFrom inner e.at x q → pos + action_size x ≤ length out → near_action tab x pos
+              → Room m inner body_length near_of e.at e.pos.0 tab mid × (e.pos.0 - 2 + 2 ≤ e.pos.0)
           one_go (owner o x) q one k n m i =
               let h = length_owner tab o x pos in (
                 record {
@@ -286,7 +289,7 @@ module _ (terms : Terms) (inner : Reader (ActionsOf Text ℕ)) {b tab out : List
                   next = q;
                   reads = n;
                   slots = r.slots;
-                  nearby = owner_near tab o x pos end (omega (arith, h, k)) i;
+                  nearby = owner_near tab o x pos e.pos.0 (omega (arith, h, k)) i;
                   room = omega (arith, h, k, m, l, owner_length o x);
                   sums = omega (arith, r.sums, l);
                   places = r.places;
@@ -298,41 +301,41 @@ module _ (terms : Terms) (inner : Reader (ActionsOf Text ℕ)) {b tab out : List
           one_go (Try try_body _ _) q h k n m i = elim h [ ]
 
       -- It was written with its length, and so the action is.
-      pub one_wrote : bodies_of a ≡ bodies.One → (new : List ℕ) (r : Ends) → Wrote inner body_length (closed tab mid end (end - 2)) next end new r
-          → Wrote (read_action terms b (behind 1 inner)) action_size (λ x. sets out pos (action_of tab x pos)) at pos new r
-      one_wrote e new r w = record { wrote = λ x q t. (one_at x q t).0; ends = record { ended = λ x q t. (one_at x q t).1 } }
+      pub one_wrote : bodies_of a ≡ prelude.Some bodies.One → (new : List ℕ) (r : Spot) → Wrote inner body_length (closed tab mid e.pos.0 (e.pos.0 - 2)) e.at e.pos.0 new r
+          → Wrote (read_action (read_by m) m.b.now (behind 1 inner)) action_size (λ x. sets out pos (action_of tab x pos)) at pos new r
+      one_wrote u new r w = record { wrote = λ x q t. (one_at x q t).0; ends = record { ended = λ x q t. (one_at x q t).1 } }
         where
-          one_go : (x : ActionOf Text ℕ) (q : Place) → Holds bodies.One x → mid ≡ sets out pos (head_of tab x pos) → end ≡ pos + length (head_of tab x pos) → BodiesFrom inner next x q
-              → (new ≡ sets out pos (action_of tab x pos)) × ((r.pos.0 ≡ pos + action_size x) × (r.next ≡ q.at))
+          one_go : (x : ActionOf Text ℕ) (q : Place) → Holds (prelude.Some bodies.One) x → mid ≡ sets out pos (head_of tab x pos) → e.pos.0 ≡ pos + length (head_of tab x pos) → BodiesFrom inner e.at x q
+              → (new ≡ sets out pos (action_of tab x pos)) × ((r.pos.0 ≡ pos + action_size x) × (r.at ≡ q.at))
           one_go (owner o x) q one m k n =
               let v = w.ends.ended x q n in
-              (w.wrote x q n ∙ owner_closed tab out mid o x pos end m k, (omega (arith, v.0, k, length_owner tab o x pos, owner_length o x), v.1))
+              (w.wrote x q n ∙ owner_closed tab out mid o x pos e.pos.0 m k, (omega (arith, v.0, k, length_owner tab o x pos, owner_length o x), v.1))
           one_go (flat action) q h m k n = elim h [ ]
           one_go (branch kind label) q h m k n = elim h [ ]
           one_go (Try try_body _ _) q h m k n = elim h [ ]
 
-          one_at : (x : ActionOf Text ℕ) (q : Place) → read_action terms b (behind 1 inner) (placed at) ≡ got x q
-              → (new ≡ sets out pos (action_of tab x pos)) × ((r.pos.0 ≡ pos + action_size x) × (r.next ≡ q.at))
+          one_at : (x : ActionOf Text ℕ) (q : Place) → read_action (read_by m) m.b.now (behind 1 inner) (placed at) ≡ got x q
+              → (new ≡ sets out pos (action_of tab x pos)) × ((r.pos.0 ≡ pos + action_size x) × (r.at ≡ q.at))
           one_at x q t =
-              let g = headed bodies.One e x q t in
+              let g = headed (prelude.Some bodies.One) u x q t in
               one_go x q g.has g.head g.reach g.from
 
       -- The bodies of a Try have room, and their lengths stand from four bytes after its start on.
-      pub tried_room : (shape from : ℕ) → from ≡ pos + 4 → bodies_of a ≡ bodies.OfTry shape → Room terms (read_action terms b (behind 1 inner)) action_size near_action b at pos tab out → length mid ≡ length out
-          → Room terms (read_tried shape inner) length_tried near_tried b next end tab mid × (from + 6 ≤ end)
-      tried_room shape from z e r l = let g = headed (bodies.OfTry shape) e r.value r.next r.reads in tried_go r.value r.next g.has g.reach g.from r.room r.nearby
+      pub tried_room : (shape from : ℕ) → from ≡ pos + 4 → bodies_of a ≡ prelude.Some (bodies.OfTry shape) → Room m (read_action (read_by m) m.b.now (behind 1 inner)) action_size near_action at pos tab out → length mid ≡ length out
+          → Room m (read_tried shape inner) length_tried near_tried e.at e.pos.0 tab mid × (from + 6 ≤ e.pos.0)
+      tried_room shape from z u r l = let g = headed (prelude.Some (bodies.OfTry shape)) u r.value r.next r.reads in tried_go r.value r.next g.has g.reach g.from r.room r.nearby
         where
-          tried_go : (x : ActionOf Text ℕ) (q : Place) → Holds (bodies.OfTry shape) x → end ≡ pos + length (head_of tab x pos) → BodiesFrom inner next x q → pos + action_size x ≤ length out → near_action tab x pos
-              → Room terms (read_tried shape inner) length_tried near_tried b next end tab mid × (from + 6 ≤ end)
+          tried_go : (x : ActionOf Text ℕ) (q : Place) → Holds (prelude.Some (bodies.OfTry shape)) x → e.pos.0 ≡ pos + length (head_of tab x pos) → BodiesFrom inner e.at x q → pos + action_size x ≤ length out → near_action tab x pos
+              → Room m (read_tried shape inner) length_tried near_tried e.at e.pos.0 tab mid × (from + 6 ≤ e.pos.0)
           tried_go (Try x c f) q (tried i j) k n m d =
               let h = length_try tab x c f pos in (
                 record {
                   bytes = r.bytes;
                   value = tried_of x c f;
                   next = q;
-                  reads = tried_read inner shape next x c f q i j n;
+                  reads = tried_read inner shape e.at x c f q i j n;
                   slots = r.slots;
-                  nearby = try_near tab x c f pos end (omega (arith, h, k)) d;
+                  nearby = try_near tab x c f pos e.pos.0 (omega (arith, h, k)) d;
                   room = omega (arith, h, k, m, l, try_length x c f);
                   sums = omega (arith, r.sums, l);
                   places = r.places;
@@ -344,22 +347,22 @@ module _ (terms : Terms) (inner : Reader (ActionsOf Text ℕ)) {b tab out : List
           tried_go (owner action actions) q h k n m d = elim h [ ]
 
       -- They were written with their lengths, and so the action is.
-      pub tried_wrote : (shape from : ℕ) → from ≡ pos + 4 → bodies_of a ≡ bodies.OfTry shape → (new : List ℕ) (r : Ends) → Wrote (read_tried shape inner) length_tried (closed_tried tab mid end from) next end new r
-          → Wrote (read_action terms b (behind 1 inner)) action_size (λ x. sets out pos (action_of tab x pos)) at pos new r
-      tried_wrote shape from z e new r w = record { wrote = λ x q t. (tried_at x q t).0; ends = record { ended = λ x q t. (tried_at x q t).1 } }
+      pub tried_wrote : (shape from : ℕ) → from ≡ pos + 4 → bodies_of a ≡ prelude.Some (bodies.OfTry shape) → (new : List ℕ) (r : Spot) → Wrote (read_tried shape inner) length_tried (closed_tried tab mid e.pos.0 from) e.at e.pos.0 new r
+          → Wrote (read_action (read_by m) m.b.now (behind 1 inner)) action_size (λ x. sets out pos (action_of tab x pos)) at pos new r
+      tried_wrote shape from z u new r w = record { wrote = λ x q t. (tried_at x q t).0; ends = record { ended = λ x q t. (tried_at x q t).1 } }
         where
-          tried_go : (x : ActionOf Text ℕ) (q : Place) → Holds (bodies.OfTry shape) x → mid ≡ sets out pos (head_of tab x pos) → end ≡ pos + length (head_of tab x pos) → BodiesFrom inner next x q
-              → (new ≡ sets out pos (action_of tab x pos)) × ((r.pos.0 ≡ pos + action_size x) × (r.next ≡ q.at))
+          tried_go : (x : ActionOf Text ℕ) (q : Place) → Holds (prelude.Some (bodies.OfTry shape)) x → mid ≡ sets out pos (head_of tab x pos) → e.pos.0 ≡ pos + length (head_of tab x pos) → BodiesFrom inner e.at x q
+              → (new ≡ sets out pos (action_of tab x pos)) × ((r.pos.0 ≡ pos + action_size x) × (r.at ≡ q.at))
           tried_go (Try x c f) q (tried i j) m k n =
-              let t = tried_read inner shape next x c f q i j n in
+              let t = tried_read inner shape e.at x c f q i j n in
               let v = w.ends.ended (tried_of x c f) q t in
-              (w.wrote (tried_of x c f) q t ∙ ap (λ (i : ℕ). closed_tried tab mid end i (tried_of x c f)) z ∙ try_closed tab out mid x c f pos end m k, (omega (arith, v.0, k, length_try tab x c f pos, try_length x c f), v.1))
+              (w.wrote (tried_of x c f) q t ∙ ap (λ (i : ℕ). closed_tried tab mid e.pos.0 i (tried_of x c f)) z ∙ try_closed tab out mid x c f pos e.pos.0 m k, (omega (arith, v.0, k, length_try tab x c f pos, try_length x c f), v.1))
           tried_go (flat action) q h m k n = elim h [ ]
           tried_go (branch kind label) q h m k n = elim h [ ]
           tried_go (owner action actions) q h m k n = elim h [ ]
 
-          tried_at : (x : ActionOf Text ℕ) (q : Place) → read_action terms b (behind 1 inner) (placed at) ≡ got x q
-              → (new ≡ sets out pos (action_of tab x pos)) × ((r.pos.0 ≡ pos + action_size x) × (r.next ≡ q.at))
+          tried_at : (x : ActionOf Text ℕ) (q : Place) → read_action (read_by m) m.b.now (behind 1 inner) (placed at) ≡ got x q
+              → (new ≡ sets out pos (action_of tab x pos)) × ((r.pos.0 ≡ pos + action_size x) × (r.at ≡ q.at))
           tried_at x q t =
-              let g = headed (bodies.OfTry shape) e x q t in
+              let g = headed (prelude.Some (bodies.OfTry shape)) u x q t in
               tried_go x q g.has g.head g.reach g.from

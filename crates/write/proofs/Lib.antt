@@ -6,4 +6,3 @@ pub mod Actions
 pub mod Labels
 pub mod Main
 pub mod Block
-pub mod Handed

@@ -10,15 +10,17 @@ use Rattle.layout.specs.Numbers.{u16_at}
 use Rattle.layout.specs.Tree.{Entry, ActionOf, ActionListOf, empty, more, ActionsOf, body, ActionIndex, first_action, next_action, count}
 use Rattle.layout.specs.Read.{Text, Terms, Place, placed, got, Reader, behind, read_entries, read_action, read_actions, read_body_with, read_body}
 use Rattle.layout.specs.Strings.{map_action, map_actions, map_body}
-use Rattle.layout.specs.Write.{bytes, actions_bytes, body_bytes, sizes, body_size, Position, position, moved, past, Event, labels_at, traces, trace_body}
+use Rattle.layout.specs.Write.{actions_bytes, body_bytes, sizes, body_size, Position, position, moved, past, Event, labels_at, traces, trace_body}
 use Rattle.layout.proofs.Lengths.{length_bytes}
 use Rattle.layout.specs.Pack.{spelling}
 use Rattle.labels.proofs.Labels.{entries_read}
 use Rattle.pcode.proofs.Readings.{Gives, gives, refuses, given, also_behind, next, then, itself, u16}
 use Rattle.encode_flat.specs.Branches.{table_bits}
 use Rattle.laws.specs.Resolved.{body_length, action_size, action_trace}
-use Rattle.write.specs.Bodies.{NearFrom, near_of, near_action, body_of, action_of, Room, Wrote}
-use Rattle.positions.specs.declared.Ends.{Ends}
+use Rattle.write.specs.Bodies.{body_by, action_by, NearFrom, near_of, near_action, body_of, action_of, Room, Wrote}
+use Rattle.editions.specs.Allowed.{read_by}
+use Rattle.editions.specs.declared.MainBody.{MainBody}
+use Rattle.positions.specs.declared.Spot.{Spot}
 use Rattle.laws.specs.Nears.{NoneFar}
 use Rattle.laws.proofs.Nears.{near_left, near_right}
 use Rattle.labels.specs.Table.{record_at}
@@ -139,13 +141,13 @@ more_bytes tab l a xs w =
     ∙ sets-append l w (action_of tab a w) (list_of tab xs (w + action_size a))
 
 -- `left` actions are still to be read at p and to be written at w: with them the output is what the whole body asks.
-pub record Writing (terms : Terms) (b : List ℕ) (at depth pos : ℕ) (tab old : List ℕ) (left p w : ℕ) (out : List ℕ) : Type 0 where
+pub record Writing (m : MainBody) (at depth pos : ℕ) (tab old : List ℕ) (left p w : ℕ) (out : List ℕ) : Type 0 where
   pub whole : ActionsOf Text ℕ
   pub end : Place
   pub rest : ActionListOf Text ℕ
   pub deep : 0 < depth
-  pub is_read : read_body terms b depth (placed at) ≡ got whole end
-  pub goes_on : read_actions terms b (behind 1 (read_body terms b (depth - 1))) left (placed p) ≡ got rest end
+  pub is_read : body_by m depth (placed at) ≡ got whole end
+  pub goes_on : read_actions (read_by m) m.b.now (behind 1 (body_by m (depth - 1))) left (placed p) ≡ got rest end
   pub entries : List Entry
   pub index : ActionIndex
   pub nearby : near_list tab entries index rest w
@@ -153,12 +155,12 @@ pub record Writing (terms : Terms) (b : List ℕ) (at depth pos : ℕ) (tab old 
   pub reach : w + length_list rest ≡ pos + body_length whole
   pub long : length out ≡ length old
 
-module _ (terms : Terms) (b : List ℕ) (at depth pos : ℕ) (tab old : List ℕ) where
+module _ (m : MainBody) (at depth pos : ℕ) (tab old : List ℕ) where
   -- Before the first action.
-  pub writing_start : Room terms (read_body terms b depth) body_length near_of b at pos tab old → (left p : ℕ) → left ≡ u16_at b (count_at b at) → p ≡ count_at b at + 2
-      → Writing terms b at depth pos tab old left p pos old
+  writing_start : Room m (body_by m depth) body_length near_of at pos tab old → (left p : ℕ) → left ≡ u16_at m.b.now (count_at m.b.now at) → p ≡ count_at m.b.now at + 2
+      → Writing m at depth pos tab old left p pos old
   writing_start r left p e f =
-      let g = fronted terms b at depth r.value r.next r.reads in
+      let g = fronted (read_by m) m.b.now at depth r.value r.next r.reads in
       record {
         whole = r.value;
         end = r.next;
@@ -176,8 +178,8 @@ module _ (terms : Terms) (b : List ℕ) (at depth pos : ℕ) (tab old : List ℕ
     where
       near : (x : ActionsOf Text ℕ) (es : List Entry) (xs : ActionListOf Text ℕ) → x ≡ body es xs → near_of tab x pos → near_list tab es first_action xs pos
       near x es xs h k =
-          let m = rw h at k.none_far in
-          record { home = k.home; number = k.number; none_far = unfold map_body trace_body in m }
+          let g = rw h at k.none_far in
+          record { home = k.home; number = k.number; none_far = unfold map_body trace_body in g }
 
       same : (x : ActionsOf Text ℕ) (es : List Entry) (xs : ActionListOf Text ℕ) → x ≡ body es xs → list_of tab xs pos ≡ body_of tab x pos
       same x es xs h = rw h (unfold body_of list_of map_body body_bytes in refl)
@@ -187,10 +189,10 @@ module _ (terms : Terms) (b : List ℕ) (at depth pos : ℕ) (tab old : List ℕ
 
   module _ (left p w : ℕ) (out : List ℕ) where
     -- The next action has room.
-    pub writing_room : 0 < left → Writing terms b at depth pos tab old left p w out → Room terms (read_body terms b depth) body_length near_of b at pos tab old
-        → Room terms (read_action terms b (behind 1 (read_body terms b (depth - 1)))) action_size near_action b p w tab out
+    pub writing_room : 0 < left → Writing m at depth pos tab old left p w out → Room m (body_by m depth) body_length near_of at pos tab old
+        → Room m (action_by m (depth - 1)) action_size near_action p w tab out
     writing_room h g r =
-        let f = first_of terms b (behind 1 (read_body terms b (depth - 1))) left p g.rest g.end h g.goes_on in
+        let f = first_of (read_by m) m.b.now (behind 1 (body_by m (depth - 1))) left p g.rest g.end h g.goes_on in
         let same : g.whole ≡ r.value = as_read g.whole g.end r.value r.next g.is_read r.reads in
         record {
           bytes = r.bytes;
@@ -204,20 +206,20 @@ module _ (terms : Terms) (b : List ℕ) (at depth pos : ℕ) (tab old : List ℕ
           places = r.places;
         }
       where
-        as_read : (x : ActionsOf Text ℕ) (o : Place) (y : ActionsOf Text ℕ) (q : Place) → read_body terms b depth (placed at) ≡ got x o → read_body terms b depth (placed at) ≡ got y q → x ≡ y
+        as_read : (x : ActionsOf Text ℕ) (o : Place) (y : ActionsOf Text ℕ) (q : Place) → body_by m depth (placed at) ≡ got x o → body_by m depth (placed at) ≡ got y q → x ≡ y
         as_read x o y q e f = cc
 
     -- It was written, and the others are still to be.
-    pub writing_more : (new : List ℕ) (e : Ends) → 0 < left → Writing terms b at depth pos tab old left p w out
-        → Wrote (read_action terms b (behind 1 (read_body terms b (depth - 1)))) action_size (λ x. sets out w (action_of tab x w)) p w new e
-        → Writing terms b at depth pos tab old (left - 1) e.next e.pos.0 new
-    writing_more new e h g k =
-        let f = first_of terms b (behind 1 (read_body terms b (depth - 1))) left p g.rest g.end h g.goes_on in
-        go f.first f.others f.then_at e.next e.pos.0 f.is f.reads_others (k.wrote f.first f.then_at f.reads_first) (k.ends.ended f.first f.then_at f.reads_first)
+    writing_more_left : (new : List ℕ) (e : Spot) → 0 < left → Writing m at depth pos tab old left p w out
+        → Wrote (action_by m (depth - 1)) action_size (λ x. sets out w (action_of tab x w)) p w new e
+        → Writing m at depth pos tab old (left - 1) e.at e.pos.0 new
+    writing_more_left new e h g k =
+        let f = first_of (read_by m) m.b.now (behind 1 (body_by m (depth - 1))) left p g.rest g.end h g.goes_on in
+        go f.first f.others f.then_at e.at e.pos.0 f.is f.reads_others (k.wrote f.first f.then_at f.reads_first) (k.ends.ended f.first f.then_at f.reads_first)
       where
         go : (a : ActionOf Text ℕ) (xs : ActionListOf Text ℕ) (q : Place) (p' w' : ℕ) → g.rest ≡ more a xs
-            → read_actions terms b (behind 1 (read_body terms b (depth - 1))) (left - 1) q ≡ got xs g.end
-            → new ≡ sets out w (action_of tab a w) → (w' ≡ w + action_size a) × (p' ≡ q.at) → Writing terms b at depth pos tab old (left - 1) p' w' new
+            → read_actions (read_by m) m.b.now (behind 1 (body_by m (depth - 1))) (left - 1) q ≡ got xs g.end
+            → new ≡ sets out w (action_of tab a w) → (w' ≡ w + action_size a) × (p' ≡ q.at) → Writing m at depth pos tab old (left - 1) p' w' new
         go a xs q p' w' is r o t =
             record {
               whole = g.whole;
@@ -235,14 +237,14 @@ module _ (terms : Terms) (b : List ℕ) (at depth pos : ℕ) (tab old : List ℕ
             }
 
     -- All are written.
-    pub writing_end : left ≤ 0 → Writing terms b at depth pos tab old left p w out
-        → Wrote (read_body terms b depth) body_length (λ x. sets old pos (body_of tab x pos)) at pos out (record { next = p; pos = record { 0 = w } })
+    pub writing_end : left ≤ 0 → Writing m at depth pos tab old left p w out
+        → Wrote (body_by m depth) body_length (λ x. sets old pos (body_of tab x pos)) at pos out (record { at = p; pos = record { 0 = w } })
     writing_end h g = record { wrote = λ x q e. same_bytes x q e; ends = record { ended = λ x q e. (same_end x q e, same_place x q e) } }
       where
         rest_none : (g.rest ≡ empty) × (g.end ≡ placed p)
-        rest_none = none_of terms b (behind 1 (read_body terms b (depth - 1))) left p g.rest g.end h g.goes_on
+        rest_none = none_of (read_by m) m.b.now (behind 1 (body_by m (depth - 1))) left p g.rest g.end h g.goes_on
 
-        same_whole : (x : ActionsOf Text ℕ) (q : Place) → read_body terms b depth (placed at) ≡ got x q → (g.whole ≡ x) × (g.end ≡ q)
+        same_whole : (x : ActionsOf Text ℕ) (q : Place) → body_by m depth (placed at) ≡ got x q → (g.whole ≡ x) × (g.end ≡ q)
         same_whole x q e =
             let i = g.is_read in
             (cc, cc)
@@ -253,11 +255,25 @@ module _ (terms : Terms) (b : List ℕ) (at depth pos : ℕ) (tab old : List ℕ
         nothing_long : (xs : ActionListOf Text ℕ) → xs ≡ empty → length_list xs ≡ 0
         nothing_long xs k = rw k (unfold length_list map_actions sizes in refl)
 
-        same_bytes : (x : ActionsOf Text ℕ) (q : Place) → read_body terms b depth (placed at) ≡ got x q → out ≡ sets old pos (body_of tab x pos)
+        same_bytes : (x : ActionsOf Text ℕ) (q : Place) → body_by m depth (placed at) ≡ got x q → out ≡ sets old pos (body_of tab x pos)
         same_bytes x q e = nothing_bytes g.rest rest_none.0 ∙ g.completes ∙ ap (λ (y : ActionsOf Text ℕ). sets old pos (body_of tab y pos)) (same_whole x q e).0
 
-        same_end : (x : ActionsOf Text ℕ) (q : Place) → read_body terms b depth (placed at) ≡ got x q → w ≡ pos + body_length x
+        same_end : (x : ActionsOf Text ℕ) (q : Place) → body_by m depth (placed at) ≡ got x q → w ≡ pos + body_length x
         same_end x q e = omega (arith, nothing_long g.rest rest_none.0, g.reach, ap body_length (same_whole x q e).0)
 
-        same_place : (x : ActionsOf Text ℕ) (q : Place) → read_body terms b depth (placed at) ≡ got x q → p ≡ q.at
+        same_place : (x : ActionsOf Text ℕ) (q : Place) → body_by m depth (placed at) ≡ got x q → p ≡ q.at
         same_place x q e = ap (λ (o : Place). o.at) (sym rest_none.1 ∙ (same_whole x q e).1)
+
+  -- Before the first of n, and once one more than i are written.
+  pub writing_first : Room m (body_by m depth) body_length near_of at pos tab old → (n p : ℕ) → n ≡ u16_at m.b.now (count_at m.b.now at) → p ≡ count_at m.b.now at + 2
+      → Writing m at depth pos tab old (n - 0) p pos old
+  writing_first r n p e f =
+      let z : n - 0 ≡ n = omega arith in
+      rw z (writing_start r n p e f)
+
+  pub writing_more : (n i : ℕ) (s : Spot) (out new : List ℕ) (e : Spot) → i < n → Writing m at depth pos tab old (n - i) s.at s.pos.0 out
+      → Wrote (action_by m (depth - 1)) action_size (λ x. sets out s.pos.0 (action_of tab x s.pos.0)) s.at s.pos.0 new e
+      → Writing m at depth pos tab old (n - (i + 1)) e.at e.pos.0 new
+  writing_more n i s out new e h g k =
+      let d : n - (i + 1) ≡ n - i - 1 = omega arith in
+      rw d (writing_more_left (n - i) s.at s.pos.0 out new e (omega arith) g k)

@@ -9,23 +9,24 @@ use lib.ListN.{length}
 use lib.Seq.{sets}
 use Rattle.layout.specs.Numbers.{le16}
 use Rattle.layout.specs.Tree.{ActionsOf}
-use Rattle.layout.specs.Read.{Text, Terms, Place, placed, Reader, got, has_catch, has_finally}
+use Rattle.layout.specs.Read.{Text, Place, placed, Reader, got, has_catch, has_finally}
 use Rattle.pcode.proofs.Readings.{gives, given, then, itself}
 use Rattle.laws.specs.Resolved.{body_length}
 use Rattle.write.specs.Bodies.{read_if, Tried, read_tried, length_if, length_tried, near_of, near_if, near_tried, body_of, closed, closed_if, closed_tried, Room, Ended, Wrote}
-use Rattle.positions.specs.declared.Ends.{Ends}
+use Rattle.editions.specs.declared.MainBody.{MainBody}
+use Rattle.positions.specs.declared.Spot.{Spot}
 
 -- ---- a body and its length
 
 -- The length's place lies within an output of n bytes, and the body ends behind its start.
-pub block_room : {terms : Terms} {inner : Reader (ActionsOf Text ℕ)} {b tab out : List ℕ} {at pos n : ℕ} (from : ℕ) {e : Ends}
-    → Room terms inner body_length near_of b at pos tab out × (from + 2 ≤ pos) → Ended inner body_length at pos e → n ≡ length out
+pub block_room : {m : MainBody} {inner : Reader (ActionsOf Text ℕ)} {tab out : List ℕ} {at pos n : ℕ} (from : ℕ) {e : Spot}
+    → Room m inner body_length near_of at pos tab out × (from + 2 ≤ pos) → Ended inner body_length at pos e → n ≡ length out
     → (from + 2 ≤ n) × (pos ≤ e.pos.0)
 block_room from r w l =
     let k = (w.ended r.0.value r.0.next r.0.reads).0 in
     (omega (arith, r.0.room, r.1, l), omega (arith, k))
 
-module _ (inner : Reader (ActionsOf Text ℕ)) (tab out mid : List ℕ) (at pos from : ℕ) (e : Ends) where
+module _ (inner : Reader (ActionsOf Text ℕ)) (tab out mid : List ℕ) (at pos from : ℕ) (e : Spot) where
   -- The body was written, then its length.
   pub block_wrote : (new : List ℕ) → Wrote inner body_length (λ x. sets out pos (body_of tab x pos)) at pos mid e → new ≡ sets mid from (le16 (e.pos.0 - pos))
       → Wrote inner body_length (closed tab out pos from) at pos new e
@@ -55,7 +56,7 @@ present inner p false e r =
 
 module _ (inner : Reader (ActionsOf Text ℕ)) (tab out : List ℕ) (at pos : ℕ) where
   -- A present body has room.
-  pub if_room : {terms : Terms} {b : List ℕ} (t : Bool) → not t ≡ false → Room terms (read_if t inner) length_if near_if b at pos tab out → Room terms inner body_length near_of b at pos tab out
+  pub if_room : {m : MainBody} (t : Bool) → not t ≡ false → Room m (read_if t inner) length_if near_if at pos tab out → Room m inner body_length near_of at pos tab out
   unfolding length_if
   if_room t e r =
       let x = present inner (placed at) t e r.reads in
@@ -73,7 +74,7 @@ module _ (inner : Reader (ActionsOf Text ℕ)) (tab out : List ℕ) (at pos : �
 
   module _ (from : ℕ) where
     -- It was written with its length.
-    pub if_wrote : (t : Bool) {new : List ℕ} {e : Ends} → not t ≡ false → Wrote inner body_length (closed tab out pos from) at pos new e → Wrote (read_if t inner) length_if (closed_if tab out pos from) at pos new e
+    pub if_wrote : (t : Bool) {new : List ℕ} {e : Spot} → not t ≡ false → Wrote inner body_length (closed tab out pos from) at pos new e → Wrote (read_if t inner) length_if (closed_if tab out pos from) at pos new e
     unfolding length_if closed_if
     if_wrote t {new} {e} h w =
         record {
@@ -81,11 +82,11 @@ module _ (inner : Reader (ActionsOf Text ℕ)) (tab out : List ℕ) (at pos : �
           ends = record { ended = λ y q r. let x = present inner (placed at) t h r in go y x.value x.is (w.ends.ended x.value q x.reads) };
         }
       where
-        go : (y : Option (ActionsOf Text ℕ)) (x : ActionsOf Text ℕ) {q : ℕ} → y ≡ some x → (e.pos.0 ≡ pos + body_length x) × (e.next ≡ q) → (e.pos.0 ≡ pos + length_if y) × (e.next ≡ q)
+        go : (y : Option (ActionsOf Text ℕ)) (x : ActionsOf Text ℕ) {q : ℕ} → y ≡ some x → (e.pos.0 ≡ pos + body_length x) × (e.at ≡ q) → (e.pos.0 ≡ pos + length_if y) × (e.at ≡ q)
         go y x i k = rw i k
 
     -- An absent body leaves everything as it is.
-    pub if_absent : (t : Bool) → not t ≡ true → Wrote (read_if t inner) length_if (closed_if tab out pos from) at pos out (record { next = at; pos = record { 0 = pos } })
+    pub if_absent : (t : Bool) → not t ≡ true → Wrote (read_if t inner) length_if (closed_if tab out pos from) at pos out (record { at = at; pos = record { 0 = pos } })
     unfolding read_if length_if closed_if
     if_absent true e =
         let z : ◌≡◌ {A = ℕ} 0 1 = cc in
@@ -112,9 +113,9 @@ parts shape inner p r =
     given {P = Parts shape inner p} (then (itself (inner p)) (λ x s e. then (itself (read_if (has_catch shape) inner s)) (λ y u f. then (itself (read_if (has_finally shape) inner u))
     (λ z v g. gives (record { second_at = s; third_at = u; reads_first = e; reads_second = f; reads_third = g }))))) r
 
-module _ {terms : Terms} (inner : Reader (ActionsOf Text ℕ)) (b tab out : List ℕ) (at pos shape : ℕ) (r : Room terms (read_tried shape inner) length_tried near_tried b at pos tab out) where
+module _ {m : MainBody} (inner : Reader (ActionsOf Text ℕ)) (tab out : List ℕ) (at pos shape : ℕ) (r : Room m (read_tried shape inner) length_tried near_tried at pos tab out) where
   -- The first body has room.
-  pub try_first : Room terms inner body_length near_of b at pos tab out
+  pub try_first : Room m inner body_length near_of at pos tab out
   unfolding length_tried
   try_first =
       let k = parts shape inner (placed at) r.reads in
@@ -130,9 +131,9 @@ module _ {terms : Terms} (inner : Reader (ActionsOf Text ℕ)) (b tab out : List
         places = r.places;
       }
 
-  module _ {t : Ends} (w : Ended inner body_length at pos t) where
+  module _ {t : Spot} (w : Ended inner body_length at pos t) where
     -- The second has, behind the first.
-    pub try_second : (one : List ℕ) → length one ≡ length out → Room terms (read_if (has_catch shape) inner) length_if near_if b t.next t.pos.0 tab one
+    pub try_second : (one : List ℕ) → length one ≡ length out → Room m (read_if (has_catch shape) inner) length_if near_if t.at t.pos.0 tab one
     unfolding length_tried
     try_second one l =
         let k = parts shape inner (placed at) r.reads in
@@ -155,9 +156,9 @@ module _ {terms : Terms} (inner : Reader (ActionsOf Text ℕ)) (b tab out : List
         let k = parts shape inner (placed at) r.reads in
         omega (arith, (w.ended r.value.first k.second_at k.reads_first).0)
 
-    module _ {c : Ends} (x : Ended (read_if (has_catch shape) inner) length_if t.next t.pos.0 c) where
+    module _ {c : Spot} (x : Ended (read_if (has_catch shape) inner) length_if t.at t.pos.0 c) where
       -- The third has, behind both.
-      pub try_third : (two : List ℕ) → length two ≡ length out → Room terms (read_if (has_finally shape) inner) length_if near_if b c.next c.pos.0 tab two
+      pub try_third : (two : List ℕ) → length two ≡ length out → Room m (read_if (has_finally shape) inner) length_if near_if c.at c.pos.0 tab two
       unfolding length_tried
       try_third two l =
           let k = parts shape inner (placed at) r.reads in
@@ -182,16 +183,16 @@ module _ {terms : Terms} (inner : Reader (ActionsOf Text ℕ)) (b tab out : List
           let v = w.ended r.value.first k.second_at k.reads_first in
           omega (arith, (x.ended r.value.second k.third_at (ap (λ (n : ℕ). read_if (has_catch shape) inner (placed n)) v.1 ∙ k.reads_second)).0)
 
-module _ (inner : Reader (ActionsOf Text ℕ)) (tab out : List ℕ) (at pos shape from : ℕ) {one two three : List ℕ} {t c f : Ends} where
+module _ (inner : Reader (ActionsOf Text ℕ)) (tab out : List ℕ) (at pos shape from : ℕ) {one two three : List ℕ} {t c f : Spot} where
   -- All three were written with their lengths.
   pub try_wrote : Wrote inner body_length (closed tab out pos from) at pos one t
-      → Wrote (read_if (has_catch shape) inner) length_if (closed_if tab one t.pos.0 (from + 2)) t.next t.pos.0 two c
-      → Wrote (read_if (has_finally shape) inner) length_if (closed_if tab two c.pos.0 (from + 4)) c.next c.pos.0 three f
+      → Wrote (read_if (has_catch shape) inner) length_if (closed_if tab one t.pos.0 (from + 2)) t.at t.pos.0 two c
+      → Wrote (read_if (has_finally shape) inner) length_if (closed_if tab two c.pos.0 (from + 4)) c.at c.pos.0 three f
       → Wrote (read_tried shape inner) length_tried (closed_tried tab out pos from) at pos three f
   unfolding length_tried closed_tried
   try_wrote w x y = record { wrote = λ z q e. (go z q (parts shape inner (placed at) e)).0; ends = record { ended = λ z q e. (go z q (parts shape inner (placed at) e)).1 } }
     where
-      go : (z : Tried) (q : Place) → Parts shape inner (placed at) z q → (three ≡ closed_tried tab out pos from z) × ((f.pos.0 ≡ pos + length_tried z) × (f.next ≡ q.at))
+      go : (z : Tried) (q : Place) → Parts shape inner (placed at) z q → (three ≡ closed_tried tab out pos from z) × ((f.pos.0 ≡ pos + length_tried z) × (f.at ≡ q.at))
       go z q k =
           let v = w.ends.ended z.first k.second_at k.reads_first in
           let second = ap (λ (n : ℕ). read_if (has_catch shape) inner (placed n)) v.1 ∙ k.reads_second in

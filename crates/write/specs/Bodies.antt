@@ -1,10 +1,11 @@
 -- The bodies of an action, what is asked of a place where something is written, and what is left there. Assumes nothing.
 use Rattle.std.specs.Prelude.{◌≡◌, ℕ, ◌+◌, ◌≤◌, Bool, true, false, List, length}
+use Rattle.std.specs.Prelude as prelude
 use Rattle.std.proofs.Math.Option.{Option, none, some}
 use Rattle.std.proofs.lemmas.List.Edits.{sets}
 use Rattle.layout.specs.Numbers.{le16}
-use Rattle.layout.specs.Tree.{Action, ActionOf, Try, Actions, ActionsOf}
-use Rattle.layout.specs.Read.{Text, Terms, Place, placed, Reader, got, give, has_catch, has_finally, ◌>>=◌}
+use Rattle.layout.specs.Tree.{ActionOf, Actions, ActionsOf}
+use Rattle.layout.specs.Read.{Text, Terms, Place, placed, Reader, got, give, behind, has_catch, has_finally, read_action, read_body, ◌>>=◌}
 use Rattle.layout.specs.Strings.{map_action, map_body}
 use Rattle.layout.specs.Write.{Position, position, Event, bytes, body_bytes, branch_bits, events, block_bytes, block_size}
 use Rattle.layout.specs.Judge.{too_far}
@@ -20,32 +21,41 @@ use Rattle.encode_flat.specs.Branches.{table_bits}
 use Rattle.write.specs.declared.Bodies.{Bodies}
 use Rattle.write.specs.declared.Bodies.TheVariants as bodies
 use Rattle.positions.specs.declared.BytePosition.{BytePosition}
-use Rattle.positions.specs.declared.Ends.{Ends}
+use Rattle.editions.specs.Allowed.{read_by}
+use Rattle.editions.specs.declared.MainBody.{MainBody}
+use Rattle.positions.specs.declared.Spot.{Spot}
 use Rattle.writer.specs.declared.Writer.{Writer}
 use Rattle.writer.specs.Written.{appended}
 
 -- ---- bodies
 
--- the bodies that follow an action's payload
-unfoldable pub bodies_of : pcode.Action → Bodies
-bodies_of (code.Small n) = bodies.Nothing
-bodies_of (code.GotoFrame n) = bodies.Nothing
-bodies_of (code.GetUrl u t) = bodies.Nothing
-bodies_of (code.StoreRegister r) = bodies.Nothing
-bodies_of (code.ConstantPool n i) = bodies.Nothing
-bodies_of (code.WaitForFrame n k) = bodies.Nothing
-bodies_of (code.SetTarget s) = bodies.Nothing
-bodies_of (code.GotoLabel s) = bodies.Nothing
-bodies_of (code.WaitForFrame2 k) = bodies.Nothing
-bodies_of (code.DefineFunction2 f) = bodies.One
-bodies_of (code.Try shape t i) = bodies.OfTry shape
-bodies_of (code.With i) = bodies.One
-bodies_of (code.Push n i) = bodies.Nothing
-bodies_of (code.Jump l) = bodies.Nothing
-bodies_of (code.GetUrl2 v t m) = bodies.Nothing
-bodies_of (code.DefineFunction f) = bodies.One
-bodies_of (code.If l) = bodies.Nothing
-bodies_of (code.GotoFrame2 n k) = bodies.Nothing
+-- the bodies that follow an action's payload, if any do
+unfoldable pub bodies_of : pcode.Action → prelude.Option Bodies
+bodies_of (code.Small n) = prelude.None
+bodies_of (code.GotoFrame n) = prelude.None
+bodies_of (code.GetUrl u t) = prelude.None
+bodies_of (code.StoreRegister r) = prelude.None
+bodies_of (code.ConstantPool n i) = prelude.None
+bodies_of (code.WaitForFrame n k) = prelude.None
+bodies_of (code.SetTarget s) = prelude.None
+bodies_of (code.GotoLabel s) = prelude.None
+bodies_of (code.WaitForFrame2 k) = prelude.None
+bodies_of (code.DefineFunction2 f) = prelude.Some bodies.One
+bodies_of (code.Try shape t i) = prelude.Some (bodies.OfTry shape)
+bodies_of (code.With i) = prelude.Some bodies.One
+bodies_of (code.Push n i) = prelude.None
+bodies_of (code.Jump l) = prelude.None
+bodies_of (code.GetUrl2 v t m) = prelude.None
+bodies_of (code.DefineFunction f) = prelude.Some bodies.One
+bodies_of (code.If l) = prelude.None
+bodies_of (code.GotoFrame2 n k) = prelude.None
+
+-- a body with so many levels allowed, and an action whose bodies are such
+abbrev pub body_by : MainBody → ℕ → Reader (ActionsOf Text ℕ)
+body_by m depth = read_body (read_by m) m.b.now depth
+
+abbrev pub action_by : MainBody → ℕ → Reader (ActionOf Text ℕ)
+action_by m depth = read_action (read_by m) m.b.now (behind 1 (body_by m depth))
 
 -- a body, if it is present
 unfoldable pub read_if : Bool → Reader (ActionsOf Text ℕ) → Reader (Option (ActionsOf Text ℕ))
@@ -135,23 +145,23 @@ closed_tried tab out pos at t =
 
 -- what is asked where something is written at a position: that it is read at a place, a slot for each label that the terms allow,
 -- that its branches are near, and room
-pub record Room {A : Type 0} (terms : Terms) (read : Reader A) (long : A → ℕ) (near : List ℕ → A → ℕ → Type 0) (b : List ℕ) (at pos : ℕ) (tab out : List ℕ) : Type 0 where
-  pub bytes : Bytes b
+pub record Room {A : Type 0} (m : MainBody) (read : Reader A) (long : A → ℕ) (near : List ℕ → A → ℕ → Type 0) (at pos : ℕ) (tab out : List ℕ) : Type 0 where
+  pub bytes : Bytes m.b.now
   pub value : A
   pub next : Place
   pub reads : read (placed at) ≡ got value next
-  pub slots : terms.label_bound ≤ length tab
+  pub slots : m.terms.label_bound ≤ length tab
   pub nearby : near tab value pos
   pub room : pos + long value ≤ length out
   pub sums : length out ≤ 1099511627776
-  pub places : length b ≤ 1099511627776
+  pub places : length m.b.now ≤ 1099511627776
 
 -- where it ended, for every reading: the position behind what was written, and the place behind what was read
-pub record Ended {A : Type 0} (read : Reader A) (long : A → ℕ) (at pos : ℕ) (r : Ends) : Type 0 where
-  pub ended : (x : A) (q : Place) → read (placed at) ≡ got x q → (r.pos.0 ≡ pos + long x) × (r.next ≡ q.at)
+pub record Ended {A : Type 0} (read : Reader A) (long : A → ℕ) (at pos : ℕ) (r : Spot) : Type 0 where
+  pub ended : (x : A) (q : Place) → read (placed at) ≡ got x q → (r.pos.0 ≡ pos + long x) × (r.at ≡ q.at)
 
 -- what is left, for every reading: the output, and where it ended
-pub record Wrote {A : Type 0} (read : Reader A) (long : A → ℕ) (output : A → List ℕ) (at pos : ℕ) (out : List ℕ) (r : Ends) : Type 0 where
+pub record Wrote {A : Type 0} (read : Reader A) (long : A → ℕ) (output : A → List ℕ) (at pos : ℕ) (out : List ℕ) (r : Spot) : Type 0 where
   pub wrote : (x : A) (q : Place) → read (placed at) ≡ got x q → out ≡ output x
   pub ends : Ended read long at pos r
 
