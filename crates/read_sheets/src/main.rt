@@ -2,116 +2,83 @@
 // them in four bytes. Writes a line for each sheet: the number of its reading, the value and the action number.
 #![tactic(auto)]
 
-ghost use Rattle.std.specs.Prelude.{◌≤◌, length};
+ghost use Rattle.std.specs.Prelude.{◌+◌, ◌<◌, ◌≤◌, length, IfSome};
 
-use book::{CheckedBook, check_book};
-use cut::{CutMain, cut_main};
-use editions::{Edition, Terms, first_terms, second_terms, third_terms};
-use fields::u32_at;
-use positions::Fault;
-use reading::{Reading, read_main};
+use answer::Refusal;
+use book::{Book, check_book};
+use cut::cut_main;
+use editions::{Edition, MainBody, SECOND_LABELS};
+use labels::Tables;
+use measure::Notes;
+use reading::read_main;
 use std::io;
 use std::io::{BufWriter, Read, Write};
 
-fn fault_number(f: Fault) -> u64 {
-    match f {
-        Fault::CutShort => 3,
-        Fault::UnknownCode => 4,
-        Fault::BadField => 5,
-        Fault::TooDeep => 6,
-        Fault::LeftOver => 7,
-    }
-}
-
-fn write_line<W: Write>(out: &mut W, number: u64, value: usize, action: usize) -> io::Result<()> {
-    writeln!(out, "{number} {value} {action}")
-}
-
-// A main body by its terms: the table has slots for the label numbers of every edition.
-fn answer_main<W: Write>(
-    b: &[u8],
-    words: &[u8],
-    index: &[u32],
-    terms: Terms,
-    start: usize,
-    out: &mut W,
-) -> io::Result<()>
-    requires { (length b.now ≤ 1048576) × (start ≤ 1048576) × (terms.label_bound ≤ 4096) }
+// A main body that starts at a place in its sheet. The table has slots for the label numbers of every edition.
+fn read_body(m: &MainBody<'_>, start: usize) -> Result<(), Refusal>
+    requires { (length m.now.b.now ≤ 1048576) × (start ≤ 1048576) × (m.now.terms.label_bound ≤ 4096) }
 {
-    let mut tab = [0; Terms::SECOND_LABELS];
+    let mut tab = [0; SECOND_LABELS];
     let mut homes = [0; 0];
-    let mut over = [0; 3];
-    match read_main(
-        b, words, index, terms, start, &mut tab, &mut homes, &mut over,
-    ) {
-        Reading::Whole(_) => write_line(out, 0, 0, 0),
-        Reading::Stops(f, p, action) => write_line(out, fault_number(f), p, action.0),
-    }
+    let labels = Tables {
+        tab: &mut tab,
+        homes: &mut homes,
+    };
+    let mut notes = Notes { labels, over: None };
+    read_main(m, start, &mut notes)?;
+    Ok(())
 }
 
-// A main body without a book.
-fn answer_early<W: Write>(b: &[u8], terms: Terms, start: usize, out: &mut W) -> io::Result<()>
-    requires { (length b.now ≤ 1048576) × (start ≤ 1048576) × (terms.label_bound ≤ 4096) }
-{
-    let no_index = [0; 0];
-    answer_main(b, b, &no_index, terms, start, out)
-}
-
-// A main body of edition 3.
-fn answer_third<W: Write>(b: &[u8], book: &[u8], start: usize, out: &mut W) -> io::Result<()>
-    requires { (length b.now ≤ 1048576) × (start ≤ 1048576) }
-{
+// A sheet, with its book: it is looked at in edition 3 alone.
+fn read_sheet(sheet: &[u8], book: &[u8]) -> Result<(), Refusal> {
+    let cut = cut_main(sheet)?;
     let mut index = [0; 4096];
-    match check_book(book, &mut index) {
-        CheckedBook::Bad => write_line(out, 18, 0, 0),
-        CheckedBook::Good(from, to, count) => {
-            answer_main(b, &book[from..to], &index, third_terms(count), start, out)
-        }
+    let book = match cut.edition {
+        Edition::Third => check_book(book, &mut index).ok_or(Refusal::BadBook)?,
+        _ => Book {
+            words: book,
+            count: 0,
+        },
+    };
+    let m = MainBody {
+        b: cut.main,
+        words: book.words,
+        index: &index,
+        terms: cut.edition.terms(book.count),
+    };
+    read_body(&m, cut.start)
+}
+
+fn write_line<W: Write>(out: &mut W, read: Result<(), Refusal>) -> io::Result<()> {
+    match read {
+        Ok(()) => writeln!(out, "0 0 0"),
+        Err(r) => writeln!(out, "{} {} {}", r.number(), r.value(), r.action()),
     }
 }
 
-// A main body of any edition.
-fn answer_edition<W: Write>(
-    b: &[u8],
-    book: &[u8],
-    edition: Edition,
-    start: usize,
-    out: &mut W,
-) -> io::Result<()>
-    requires { (length b.now ≤ 1048576) × (start ≤ 1048576) }
+// The bytes whose length stands before them, and what follows them.
+fn counted(bytes: &[u8]) -> Option<(&[u8], &[u8])>
+    ensures { IfSome result (λ r. length r.1.now + 4 ≤ length bytes.now) }
 {
-    match edition {
-        Edition::First => answer_early(b, first_terms(), start, out),
-        Edition::Second => answer_early(b, second_terms(), start, out),
-        Edition::Third => answer_third(b, book, start, out),
-    }
+    let (len, tail) = bytes.split_first_chunk::<4>()?;
+    tail.split_at_checked(u32::from_le_bytes(*len) as usize)
 }
 
-fn answer<W: Write>(bytes: &[u8], book: &[u8], out: &mut W) -> io::Result<()> {
-    match cut_main(bytes) {
-        CutMain::SheetTooLong(n) => write_line(out, 1, n, 0),
-        CutMain::BadTrailer => write_line(out, 2, 0, 0),
-        CutMain::Main(edition, start, end) => {
-            answer_edition(&bytes[start..end], book, edition, start, out)
-        }
-    }
+// A sheet and its book, and what follows the room behind them.
+fn next_sheet(input: &[u8]) -> Option<(&[u8], &[u8], &[u8])>
+    ensures { IfSome result (λ r. length r.2.now < length input.now) }
+{
+    let (sheet, tail) = counted(input)?;
+    let (book, tail) = counted(tail)?;
+    let (_, rest) = tail.split_at_checked(4)?;
+    Some((sheet, book, rest))
 }
 
 fn answer_all<W: Write>(input: &[u8], out: &mut W) -> io::Result<()> {
-    let mut p = 0;
-    while p + 4 <= input.len() {
-        let from = p + 4;
-        let to = from + u32_at(input, p) as usize;
-        if input.len() < to + 4 {
-            return Ok(());
-        }
-        let start = to + 4;
-        let end = start + u32_at(input, to) as usize;
-        if input.len() < end + 4 {
-            return Ok(());
-        }
-        answer(&input[from..to], &input[start..end], out)?;
-        p = end + 4;
+    let mut rest = input;
+    while let Some((sheet, book, after)) = next_sheet(rest) {
+        write_line(out, read_sheet(sheet, book))?;
+        rest = after;
     }
     Ok(())
 }

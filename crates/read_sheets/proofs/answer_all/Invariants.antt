@@ -1,9 +1,6 @@
--- Each sheet and its book lie in the input.
-use Rattle.std.proofs.Common.{◌-◌, ◌≤◌, length}
+-- Each sheet leaves less of the list. Assumes nothing.
+use Rattle.std.proofs.Common.{length}
 use Rattle.read_sheets.proofs.answer_all.Given as goal
 
-abbrev pub invariant-loop-p : goal.invariant-loop-p
-invariant-loop-p g l = l.p ≤ length l.input
-
-abbrev pub decreases-loop-p : goal.decreases-loop-p
-decreases-loop-p g l = length l.input - l.p
+abbrev pub decreases-loop-sheet : goal.decreases-loop-sheet
+decreases-loop-sheet g l = length l.rest
