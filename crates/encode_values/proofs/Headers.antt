@@ -1,5 +1,4 @@
--- Laws of an action's header, stored after its payload or before it: the runs that make up the action, and its room. Assumes
--- nothing.
+-- Laws of an action's header, stored after its payload: the runs that make up the action, and its room. Assumes nothing.
 use mathlib.Core.Path.{◌≡◌, refl, sym, ap, ◌∙◌}
 use Prim.Native.Nat.{ℕ, suc, ◌+◌, ◌≤◌, ◌<◌}
 use native.Mathlib.Nat.{add-zero, suc-add, add-suc}
@@ -11,7 +10,7 @@ use lib.Seq.{sets, set_comm}
 use Rattle.layout.specs.Numbers.{le16}
 use Rattle.layout.specs.Read.{got, bad}
 use Rattle.layout.specs.Payload.{headed}
-use Rattle.stores.proofs.Stores.{sets_then}
+use Rattle.stores.proofs.Stores.{sets-append}
 use Rattle.encode_values.specs.Pieces.{Piece, action, written, bytes_of, next_of, Reads, Room, Put}
 
 -- ---- runs of stores
@@ -34,7 +33,7 @@ before_then l i a b w k e f = f ∙ rw (e, ← k) (sets_before l a b i)
 
 -- one run after another, stored from place `at` on
 pub run_then : {m n : List ℕ} (l : List ℕ) (i : ℕ) (a b : List ℕ) (at : ℕ) → at ≡ i + length a → m ≡ sets l i a → n ≡ sets m at b → n ≡ sets l i (a ++ b)
-run_then l i a b at h e f = sets_then l i a b (length a) refl e (rw h at f)
+run_then l i a b at h e f = f ∙ rw (e, h) (sets-append l i a b)
 
 -- ---- lengths
 
@@ -93,19 +92,3 @@ module _ (op : ℕ) (g : List ℕ → List ℕ) (x : Piece) {pos : ℕ} {out : L
 -- a list from a position on, in an output that is as long
 pub list_room : (x : Piece) (pos : ℕ) (m : List ℕ) → Reads x → pos + length (bytes_of x) ≤ length m → length m ≤ 1099511627776 → Room x pos m
 list_room x pos m k h s = record { known = k; room = h; sums = s }
-
--- ---- a header before its payload, which is stored from the place `at` behind it on
-
-module _ (op : ℕ) (q : List ℕ) {next pos : ℕ} {out : List ℕ} where
-  -- the header first
-  pub action_put : {m out' : List ℕ} {at end : ℕ} (len : ℕ) → len ≡ length q → (at ≡ pos + 3) × (m ≡ sets out pos (op ∷ le16 len)) → out' ≡ sets m at q → end ≡ at + length q
-      → Put (action op q next) pos out out' (record { at = next; pos = record { 0 = end } })
-  unfolding headed
-  action_put {at = at} len k e f g =
-      record { wrote = run_then out pos (op ∷ le16 (length q)) q at (unfold le16 in e.0) (rw k at e.1) f; end = omega (arith, length_action op q); next = refl }
-
--- a header, and a payload in two runs, the second from the place `second` on
-pub action_two : (op : ℕ) (a b : List ℕ) {next pos at end : ℕ} {out m n out' : List ℕ} (second len : ℕ) → second ≡ at + length a → len ≡ length (a ++ b)
-    → (at ≡ pos + 3) × (m ≡ sets out pos (op ∷ le16 len)) → n ≡ sets m at a → out' ≡ sets n second b → end ≡ at + length (a ++ b)
-    → Put (action op (a ++ b) next) pos out out' (record { at = next; pos = record { 0 = end } })
-action_two op a b {at = at} {m = m} second len h k e f g i = action_put op (a ++ b) len k e (run_then m at a b second h f g) i

@@ -1,4 +1,4 @@
--- Laws of runs of stores, of which none asks that a run fits, and of how many bytes a run has. Assumes nothing.
+-- Laws of runs of stores, of which none asks that a run fits, and of the bytes of numbers. Assumes nothing.
 use mathlib.Core.Path.{◌≡◌, ap, ◌∙◌}
 use Prim.Native.Nat.{ℕ, suc, ◌+◌, ◌/◌, ◌%◌, ◌<◌}
 use native.Mathlib.Nat.{add-zero, suc-add, add-suc}
@@ -12,10 +12,6 @@ use Rattle.layout.specs.Numbers.{le16, le32, le64}
 pub sets-append : (l : List ℕ) (i : ℕ) (a b : List ℕ) → sets (sets l i a) (i + length a) b ≡ sets l i (a ++ b)
 sets-append l i [] b = rw add-zero
 sets-append l i (x ∷ a) b = rw (add-suc, ← suc-add) (sets-append (set l i x) (suc i) a b)
-
--- The same where the first run has w bytes and gives the list m, and the second gives n.
-pub sets_then : {m n : List ℕ} (l : List ℕ) (i : ℕ) (a b : List ℕ) (w : ℕ) → length a ≡ w → m ≡ sets l i a → n ≡ sets m (i + w) b → n ≡ sets l i (a ++ b)
-sets_then l i a b w k e f = f ∙ rw (e, ← k) (sets-append l i a b)
 
 -- A run as long as what it is written over.
 pub filled : (l vs : List ℕ) → length vs ≡ length l → sets l 0 vs ≡ vs
