@@ -4,9 +4,6 @@ use Rattle.print_text.proofs.Decimals.{at_most_twenty}
 use Rattle.print_text.proofs.Puts.{put_digits}
 use Rattle.print_text.proofs.put_number.Goals as goal
 
-pub store-requires : goal.store-requires
-store-requires c = let d = c.decimal-k.ensures in omega (arith, c.requires.room, at_most_twenty _ _ (omega arith) d.len, d.in_bounds.1)
-
 pub returns : goal.returns
 returns c =
     let d = c.decimal-k.ensures in
