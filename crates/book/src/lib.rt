@@ -65,9 +65,9 @@ pub fn check_book<'a>(book: &'a [u8], index: &mut [u32]) -> Option<Book<'a>>
     ensures { BookChecked book.now index.new result }
 {
     let t = trailer_of(book, 0x42)?;
-    index_words(t.part, t.code, index)?;
+    index_words(t.part, t.code as usize, index)?;
     Some(Book {
         words: t.part,
-        count: t.code as u16,
+        count: t.code,
     })
 }

@@ -18,7 +18,7 @@ const SHEET_LIMIT: usize = 1048576;
 pub struct Trailer<'a> {
     pub start: usize,
     pub part: &'a [u8],
-    pub code: usize,
+    pub code: u16,
 }
 
 // The main body of a sheet, with the sheet's edition, and where it starts in the sheet.
@@ -49,12 +49,12 @@ pub fn trailer_of(bytes: &[u8], mark: u8) -> Option<Trailer<'_>>
     Some(Trailer {
         start,
         part: &bytes[start..end],
-        code: u16_at(bytes, end + 4),
+        code: u16_at(bytes, end + 4) as u16,
     })
 }
 
 // The edition that a trailer names.
-fn edition_of(code: usize) -> Option<Edition>
+fn edition_of(code: u16) -> Option<Edition>
     ensures { Coded code result }
 {
     match code {
