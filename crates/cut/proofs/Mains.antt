@@ -1,11 +1,9 @@
 -- Laws of the cut: what it comes to by the trailer, and what the code's answer says of it. Assumes nothing.
-use Rattle.std.proofs.Common.{◌≡◌, ℕ, ◌<◌, ◌≤◌, Bool, true, false, List, length, leb, Ok, refl, sym, arith, le-leb, ne_eqb}
+use Rattle.std.proofs.Common.{◌≡◌, ℕ, ◌<◌, ◌≤◌, Bool, true, false, List, length, leb, Ok, refl, sym, arith, le-leb}
 use Rattle.std.proofs.Math.Option.{none, some}
 use Rattle.std.proofs.lemmas.Bool.{and_parts, lt-leb}
-use Rattle.layout.specs.Lists.{pick, first_with}
 use Rattle.layout.specs.Answers.{SheetTooLong, BadTrailer}
-use Rattle.layout.specs.Cut as trailer
-use Rattle.layout.specs.Cut.{First, Second, Third, edition_number, editions, edition_of, main, uncut, sheet_limit, cut, cut_if_short, cut_if_trailer, cut_at, cut_if, is_marked, trailer_distance, trailer_edition}
+use Rattle.layout.specs.Cut.{edition_of, main, uncut, sheet_limit, cut, cut_if_short, cut_if_trailer, cut_at, cut_if, is_marked, trailer_distance, trailer_edition}
 use Rattle.editions.specs.Allowed.{meant}
 use Rattle.editions.specs.declared.Edition.{Edition}
 use Rattle.laws.proofs.Packed.{is_main}
@@ -13,18 +11,6 @@ use Rattle.cut.specs.Trailers.{trailer_at, distance_back, is_trailed, Trailed}
 use Rattle.cut.specs.Cuts.{said}
 use Rattle.cut.specs.declared.Trailer.{Trailer}
 use Rattle.cut.specs.declared.Cut.{Cut}
-
--- An edition is told by its number.
-pub edition_is : (e : trailer.Edition) (n : ℕ) → n ≡ edition_number e → edition_of n ≡ some e
-unfolding edition_of editions edition_number first_with pick
-edition_is First n k = rw k
-edition_is Second n k = rw k
-edition_is Third n k = rw k
-
--- No other number is one's.
-pub no_edition : (n : ℕ) → (n ≡ 1 → ⊥) → (n ≡ 2 → ⊥) → (n ≡ 3 → ⊥) → edition_of n ≡ none
-unfolding edition_of editions edition_number first_with pick
-no_edition n h k l = rw (ne_eqb 1 n (λ e. h (sym e)), ne_eqb 2 n (λ e. k (sym e)), ne_eqb 3 n (λ e. l (sym e)))
 
 -- Of a sheet over the limit nothing else counts.
 pub cut_long : (s : List ℕ) → sheet_limit < length s → uncut (SheetTooLong (length s)) ≡ cut s

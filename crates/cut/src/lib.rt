@@ -53,7 +53,8 @@ pub fn trailer_of(bytes: &[u8], mark: u8) -> Option<Trailer<'_>>
     })
 }
 
-// The edition that a trailer names.
+// The edition that a trailer names. A TryFrom would need an error of its own, which the caller drops at once.
+#[tactic(auto, unfolding(layout::specs::Cut::edition_of, layout::specs::Cut::editions, layout::specs::Cut::edition_number, layout::specs::Lists::first_with, layout::specs::Lists::pick, editions::specs::Allowed::meant))]
 fn edition_of(code: u16) -> Option<Edition>
     ensures { Coded code result }
 {
