@@ -3,7 +3,7 @@
  *
  *   driver < crates/replay/stdin
  *
- * A record is as crates/replay/src/main.rt tells: lengths, the room, the mode, the oracle's number, value and action number, and
+ * A record is as crates/replayed/src/lib.rt tells: lengths, the room, the mode, the oracle's number, value and action number, and
  * the patterns of the sheet, of the book and of the block, which are as crates/patterns/src/lib.rt tells. Number, value, action
  * number and block must be the oracle's. It writes what crates/replay writes: a line for each number that was met, with its count;
  * then how many answers differ, and the first that does.
