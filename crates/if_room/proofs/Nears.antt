@@ -3,9 +3,9 @@ use mathlib.Core.Path.{◌≡◌, refl, sym, ap, ◌∙◌, subst}
 use Prim.Native.Nat.{ℕ, ◌+◌, ◌*◌, ◌≤◌, ◌<◌}
 use native.Mathlib.Omega.{arith}
 use mathlib.Core.List.{List, ◌++◌}
-use lib.IntN.{pos}
+use Rattle.std.specs.Prelude.{Ok, Err}
 use lib.ListN.{length, take, drop, length-take}
-use Rattle.layout.specs.Answers.{Refusal, NoRoom, Refused, refusal_number, refusal_value, refusal_action}
+use Rattle.layout.specs.Answers.{NoRoom, Refused}
 use Rattle.layout.specs.Answers as answers
 use Rattle.layout.specs.Tree.{Actions}
 use Rattle.layout.specs.Read.{Terms, deepest}
@@ -22,18 +22,12 @@ use Rattle.laws.proofs.Packed.{same_tree}
 use Rattle.positions.specs.declared.BytePosition.{BytePosition}
 use Rattle.stores.proofs.Stores.{filled}
 use Rattle.write.specs.Bodies.{MainWritable, WroteBlock}
-use Rattle.answer.specs.Answered.{number, value, action, Answered}
-use Rattle.answer.specs.declared.Answer.{Answer}
-use Rattle.answer.specs.declared.Answer.TheVariants as answer
+use Rattle.answer.specs.Answered.{Answer, meant, number, value, action, Answered}
+use Rattle.answer.specs.declared.Refusal.TheVariants as refusal
+use Rattle.answer.proofs.Told.{refused}
 use Rattle.if_room.specs.Near.{MainNear, MainAnswered}
 
 -- ---- an answer
-
--- A refusal leaves the output as it was.
-pub refused : {a : answers.Answer (List ℕ)} (x : Refusal) (o : List ℕ) (r : Answer) → a ≡ Refused x → number r ≡ refusal_number x → value r ≡ refusal_value x
-    → action r ≡ refusal_action x → Answered a o r o
-unfolding output answers.number answers.value answers.action
-refused x o r e n v k = rw e (record { told = record { is_number = n; is_value = v; is_action = k }; holds = refl })
 
 -- What is left for its tree is left for whatever tree it is found to read as.
 pub answered_by : {terms : Terms} {answer : Actions → ℕ → answers.Answer (List ℕ)} {b old new : List ℕ} {r : Answer} (t : Actions) → ReadsMain terms b t → Answered (answer t (length old)) old r new
@@ -65,10 +59,10 @@ module _ (terms : Terms) (b tab : List ℕ) (end : BytePosition) (m : MainNear t
 
   module _ (o : List ℕ) where
     -- An output that is shorter is left as it was.
-    pub near_no_room : length o < end.0 + 1 → MainAnswered terms block_in b o (answer.NoRoom (end.0 + 1)) o
-    unfolding number value action refusal_number refusal_value refusal_action
+    pub near_no_room : length o < end.0 + 1 → MainAnswered terms block_in b o (Err (refusal.NoRoom (end.0 + 1))) o
+    unfolding meant
     near_no_room l =
-        answered_by t m.measured.reads (refused (NoRoom (block_size t)) o (answer.NoRoom (end.0 + 1)) (no_room t (length o) (omega (arith, len_is))) refl (ap pos len_is) refl)
+        answered_by t m.measured.reads (refused o (refusal.NoRoom (end.0 + 1)) (no_room t (length o) (omega (arith, len_is)) ∙ ap (λ (n : ℕ). Refused (NoRoom n)) (sym len_is)))
 
     module _ (l : end.0 + 1 ≤ length o) where
       -- The front that is lent to the writer.
@@ -92,12 +86,12 @@ module _ (terms : Terms) (b tab : List ℕ) (end : BytePosition) (m : MainNear t
 
       -- The block fills that front, and the rest keeps its values. The writer has reached the block's length.
       pub near_done : (front : List ℕ) (reached : BytePosition) → WroteBlock terms b (take (end.0 + 1) o) front reached
-          → MainAnswered terms block_in b o (answer.Done reached.0) (front ++ drop (end.0 + 1) o)
+          → MainAnswered terms block_in b o (Ok reached.0) (front ++ drop (end.0 + 1) o)
       unfolding output number value action answers.number answers.value answers.action
       near_done front reached w =
           let f : front ≡ block_bytes t = w.wrote t m.measured.reads ∙ filled (take (end.0 + 1) o) (block_bytes t) (sym block_long ∙ sym front_long) in
           answered_by t m.measured.reads (done (has_room t (length o) (omega (arith, len_is))) block_long (w.long t m.measured.reads) f)
         where
           done : block_in t (length o) ≡ answers.Done (block_bytes t) → end.0 + 1 ≡ length (block_bytes t) → reached.0 ≡ length (block_bytes t) → front ≡ block_bytes t
-              → Answered (block_in t (length o)) o (answer.Done reached.0) (front ++ drop (end.0 + 1) o)
+              → Answered (block_in t (length o)) o (Ok reached.0) (front ++ drop (end.0 + 1) o)
           done e k l f = rw (e, k, l, f) (record { told = record { is_number = refl; is_value = refl; is_action = refl }; holds = refl })

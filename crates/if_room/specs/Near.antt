@@ -9,8 +9,7 @@ use Rattle.layout.specs.Judge.{too_far}
 use Rattle.laws.specs.Packed.{ReadsMain}
 use Rattle.labels.specs.Mains.{MainMeasured}
 use Rattle.positions.specs.declared.BytePosition.{BytePosition}
-use Rattle.answer.specs.declared.Answer.{Answer}
-use Rattle.answer.specs.Answered.{Answered}
+use Rattle.answer.specs.Answered.{Answer, Answered}
 
 -- no branch in it goes too far
 pub record MainNear (terms : Terms) (b : List ℕ) (end : BytePosition) (tab : List ℕ) : Type 0 where
