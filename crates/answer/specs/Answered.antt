@@ -5,9 +5,6 @@ use Rattle.layout.specs.Answers.{Told, length_of, refusal_number, refusal_value,
 use Rattle.layout.specs.Answers as answers
 use Rattle.layout.specs.Order.{signed64}
 use Rattle.layout.specs.Pack.{output}
-use Rattle.measure.specs.declared.Overflow.{Overflow}
-use Rattle.measure.specs.declared.Limit.{Limit}
-use Rattle.measure.specs.declared.Limit.TheVariants as limit
 use Rattle.answer.specs.declared.Refusal.{Refusal}
 use Rattle.answer.specs.declared.Refusal.TheVariants as refusal
 
@@ -50,14 +47,6 @@ action (Err r) = refusal_action (meant r)
 -- the value that an answer's number and 64 bits tell: only the bits of 10 are signed
 unfoldable pub value_by : ℕ → ℕ → ℤ
 value_by n bits = pick (eqb n 10) (signed64 bits) (pos bits)
-
--- 8 or 9, for a length over 65,535
-unfoldable pub overflow_by : Limit → ℕ → ℕ → answers.Refusal
-overflow_by limit.ActionLen n k = answers.ActionLenOverflow n k
-overflow_by limit.BlockLen n k = answers.BlockLenOverflow n k
-
-abbrev pub overflow_of : Overflow → answers.Refusal
-overflow_of o = overflow_by o.limit o.len o.action.0
 
 -- r tells the answer a, and an output that held o holds what a leaves there
 pub record Answered (a : answers.Answer (List ℕ)) (o : List ℕ) (r : Answer) (after : List ℕ) : Type 0 where

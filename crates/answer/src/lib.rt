@@ -7,7 +7,8 @@ ghost use Rattle.layout.specs.Answers.{ReadingFault, refusal_number, refusal_val
 ghost use Rattle.layout.specs.Cut.{uncut};
 ghost use Rattle.cut.specs.Cuts.{refused};
 ghost use Rattle.positions.specs.Scanned.{meant as meant_fault};
-ghost use Rattle.answer.specs.Answered.{meant, number, value, value_by, action, overflow_of};
+ghost use Rattle.measure.specs.Refusals.{refusal_of};
+ghost use Rattle.answer.specs.Answered.{meant, number, value, value_by, action};
 
 use cut::CutError;
 use measure::{Limit, Overflow};
@@ -132,9 +133,9 @@ impl From<CutError> for Refusal {
 }
 
 impl From<Overflow> for Refusal {
-    ghost from_gives = { λ o r. meant r ≡ overflow_of o };
+    ghost from_gives = { λ o r. meant r ≡ refusal_of o };
 
-    #[tactic(auto, unfolding(crate::specs::Answered::meant, crate::specs::Answered::overflow_by))]
+    #[tactic(auto, unfolding(crate::specs::Answered::meant, measure::specs::Refusals::refusal_by))]
     fn from(o: Overflow) -> Refusal {
         match o.limit {
             Limit::ActionLen => Refusal::ActionLenOverflow(o.len, o.action),

@@ -27,9 +27,10 @@ use Rattle.positions.proofs.Answers.{err_same, ok_not_err}
 use Rattle.measure.specs.declared.Limit.TheVariants.{ActionLen, BlockLen}
 use Rattle.measure.specs.declared.Overflow.{Overflow}
 use Rattle.measure.specs.declared.Notes.{Notes}
+use Rattle.measure.specs.Refusals.{refusal_by}
 use Rattle.measure.specs.Walk.{State, kept_in, overflow, note_all, run, fault, outcome, Ran}
 use Rattle.bodies.proofs.Walks.{ran_is, ran_bad, outcome_is}
-use Rattle.scan.specs.Mains.{Empty, Holds, refusal_by, refusal_in, MainScanned, whole, stopped}
+use Rattle.scan.specs.Mains.{Empty, Holds, refusal_in, MainScanned, whole, stopped}
 
 -- ---- the first overflow is kept
 

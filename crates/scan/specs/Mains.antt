@@ -2,7 +2,7 @@
 use Rattle.std.specs.Prelude.{◌≡◌, ℕ, List, Result, Some, None}
 use Rattle.std.specs.Prelude as code
 use Rattle.std.proofs.Math.Option.{Option, none, some}
-use Rattle.layout.specs.Answers.{Refusal, ActionLenOverflow, BlockLenOverflow}
+use Rattle.layout.specs.Answers.{Refusal}
 use Rattle.layout.specs.Answers as answers
 use Rattle.layout.specs.Tree.{ActionsOf}
 use Rattle.layout.specs.Read.{Text, Terms, Place, Stop, Read, got, bad}
@@ -17,10 +17,9 @@ use Rattle.positions.specs.Scanned.{fault_of, walks_to, halts_at}
 use Rattle.positions.specs.declared.ActionNumber.{ActionNumber}
 use Rattle.positions.specs.declared.Cursor.{Cursor}
 use Rattle.positions.specs.declared.Halt.{Halt}
-use Rattle.measure.specs.declared.Limit.{Limit}
-use Rattle.measure.specs.declared.Limit.TheVariants as limit
 use Rattle.measure.specs.declared.Overflow.{Overflow}
 use Rattle.measure.specs.declared.Notes.{Notes}
+use Rattle.measure.specs.Refusals.{refusal_of}
 
 -- what the caller lends: empty tables, in the first a slot for each label that the terms allow, and nothing noted
 pub record Empty (terms : Terms) (notes : Notes) : Type 0 where
@@ -29,15 +28,10 @@ pub record Empty (terms : Terms) (notes : Notes) : Type 0 where
   pub no_homes : Cleared notes.labels.homes.now
   pub nothing : notes.over ≡ None
 
--- the refusal of a length that is too long
-unfoldable pub refusal_by : Limit → ℕ → ℕ → Refusal
-refusal_by limit.ActionLen n k = ActionLenOverflow n k
-refusal_by limit.BlockLen n k = BlockLenOverflow n k
-
--- of the first one that was noted
+-- the refusal of the first length that was noted
 unfoldable pub refusal_in : code.Option Overflow → Option Refusal
 refusal_in None = none
-refusal_in (Some o) = some (refusal_by o.limit o.len o.action.0)
+refusal_in (Some o) = some (refusal_of o)
 
 -- what was noted is the first of 8 and 9
 abbrev pub Holds : Option Refusal → code.Option Overflow → Type 0
