@@ -92,10 +92,6 @@ module _ (m : MainBody) (f : Function) where
   made (bad g r) k = absurd k
 
 module _ (m : MainBody) (f : Function) {pos : ℕ} {out : List ℕ} (h : Room (function2 m f) pos out) where
-  -- the byte and the u16 behind the parameters lie within the main body
-  pub function2_inside : next_of (function2 m f) ≤ length m.b.now → next_of (params_at m f.count f.at) + 3 ≤ length m.b.now
-  function2_inside k = omega (arith, (made m f (params_at m f.count f.at) h.known).2)
-
   -- the front, three bytes, the parameters and the body's length have room
   pub function2_space : pos + 3 + length (front (span_of m f.name) f.count) + 3 + length (bytes_of (params_at m f.count f.at)) + 2 ≤ length out
   function2_space =

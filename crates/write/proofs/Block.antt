@@ -50,10 +50,6 @@ module _ (terms : Terms) (b tab out : List ℕ) (m : MainWritable terms b tab ou
   unfolding main_bytes block_size
   end_room = subst (λ (l : ℕ). 0 + length actions + 1 ≤ l) (sym (length-sets out 0 actions)) (omega (arith, m.room, length_body (branch_bits m.tree) m.tree 0))
 
-  -- The output is as long as before.
-  pub last_long : length last ≡ length out
-  last_long = length-sets mid (0 + length actions) end ∙ length-sets out 0 actions
-
   -- The actions and the End are the block, and the position after them is its length.
   pub main_wrote : (new : List ℕ) (r : ℕ) → new ≡ last → r ≡ 0 + length actions + length end → WroteBlock terms b out new (record { 0 = r })
   unfolding main_bytes block_bytes

@@ -5,7 +5,7 @@ ghost use Rattle.std.specs.Prelude.{◌≡◌, ◌+◌, ◌≤◌};
 ghost use Rattle.std.proofs.lemmas.List.Edits.{sets};
 ghost use Rattle.laws.specs.Resolved.{body_length, action_size};
 ghost use Rattle.editions.specs.Allowed.{read_by};
-ghost use Rattle.write.specs.Bodies.{bodies_of, body_by, action_by, read_if, read_tried, length_if, length_tried, near_of, near_if, near_tried, near_action, body_of, action_of, closed, closed_if, closed_tried, Room, Wrote, MainWritable, PutMain, AppendedMain, WroteBlock};
+ghost use Rattle.write.specs.Bodies.{bodies_of, body_by, action_by, read_if, read_tried, length_if, length_tried, near_of, near_if, near_tried, near_action, body_of, action_of, closed, closed_if, closed_tried, Room, Wrote, MainWritable, AppendedMain, WroteBlock};
 
 use editions::MainBody;
 use encode::write_head;
@@ -14,6 +14,9 @@ use opcode::OpCode;
 use pcode::{Action, action_at};
 use positions::{BytePosition, Spot};
 use writer::{Writer, write_block_length_at};
+
+// How many bodies may stand one in another, the main body among them.
+const DEEPEST: usize = 16;
 
 // The bodies that follow an action's payload: one, or those of a Try by its shape.
 #[derive(Clone, Copy)]
@@ -135,25 +138,17 @@ fn write_actions(m: &MainBody<'_>, from: Spot, depth: usize, tab: &[usize], out:
     spot
 }
 
-// The actions of a main body from the block's start on, and the position after them.
-fn put_main(out: &mut [u8], at: BytePosition, m: &MainBody<'_>, tab: &[usize]) -> BytePosition
-    requires { (at.0 ≡ 0) × MainWritable (read_by m.now) m.now.b.now tab.now out.old }
-    ensures { PutMain (read_by m.now) m.now.b.now out.old out.new result }
-{
-    write_actions(m, Spot { at: 0, pos: at }, 16, tab, out).pos
-}
-
 // The main body's actions are appended to a writer that stands at the block's start.
 fn append_main<'a>(w: Writer<'a>, m: &MainBody<'_>, tab: &[usize]) -> Writer<'a>
     requires { (w.at.0 ≡ 0) × MainWritable (read_by m.now) m.now.b.now tab.now w.out.now }
     ensures same_reference { result.out.ghost_name ≡ w.entry.out.ghost_name }
     ensures appends { AppendedMain (read_by m.now) m.now.b.now w.entry result }
 {
-    let at = w.at;
-    let end = put_main(&mut *w.out, at, m, tab);
+    let start = Spot { at: 0, pos: w.at };
+    let end = write_actions(m, start, DEEPEST, tab, &mut *w.out);
     Writer {
         out: w.out,
-        at: end,
+        at: end.pos,
     }
 }
 
