@@ -1,7 +1,7 @@
 // The counts of a replay, and their printing.
 #![tactic(auto)]
 
-ghost use Rattle.std.specs.Prelude.{◌≡◌, ◌+◌, ◌^◌, ◌-◌, min, true, false, Some, MatchOption, slice_index, slice_set, ◌++◌};
+ghost use Rattle.std.specs.Prelude.{◌≡◌, ◌+◌, ◌<◌, ◌^◌, ◌-◌, min, true, false, Some, MatchOption, slice_index, slice_set, ◌++◌};
 ghost use Rattle.tally.specs.Text.{number_lines, differ_line};
 
 use std::fmt;
@@ -15,16 +15,22 @@ pub struct Tally {
 }
 
 impl Tally {
-    // Counts an answer by its number, and one that differs. `ordinal` counts the answers from 1.
+    // Counts an answer by its number, and one that differs. `ordinal` counts the answers from 1. A list may hold a record with a
+    // number that no answer has: 19 counts as one more that differs, and 20 moves the first that does on by one.
     pub fn count(&mut self, number: u8, agrees: bool, ordinal: usize)
         ensures numbers { self.new.numbers ≡ slice_set self.old.numbers number (min (slice_index self.old.numbers number + 1) (2 ^ 64 - 1)) }
-        ensures agreed { agrees ≡ true → (self.new.differ ≡ self.old.differ) × (self.new.first ≡ self.old.first) }
-        ensures differ { agrees ≡ false → self.new.differ ≡ min (self.old.differ + 1) (2 ^ 64 - 1) }
-        ensures first { agrees ≡ false → MatchOption self.old.first (self.new.first ≡ Some ordinal) (λ first. self.new.first ≡ Some first) }
+        ensures agreed { number < 19 → agrees ≡ true → (self.new.differ ≡ self.old.differ) × (self.new.first ≡ self.old.first) }
+        ensures differ { number < 19 → agrees ≡ false → self.new.differ ≡ min (self.old.differ + 1) (2 ^ 64 - 1) }
+        ensures first { number < 19 → agrees ≡ false → MatchOption self.old.first (self.new.first ≡ Some ordinal) (λ first. self.new.first ≡ Some first) }
     {
-        let number = number as usize;
-        if number < self.numbers.len() {
-            self.numbers[number] = self.numbers[number].saturating_add(1);
+        match number {
+            0..=18 => {
+                let count = &mut self.numbers[number as usize];
+                *count = count.saturating_add(1);
+            }
+            19 => self.differ = self.differ.saturating_add(1),
+            20 => self.first = Some(self.first.map_or(1, |first| first.saturating_add(1))),
+            _ => {}
         }
         if !agrees {
             self.differ = self.differ.saturating_add(1);
