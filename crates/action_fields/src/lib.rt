@@ -87,7 +87,8 @@ fn scan_registers(m: &MainBody<'_>, from: Spot) -> Scan
     Ok(after(from, 3, 0))
 }
 
-// A function's name, its parameters after their registers, its register count and flags.
+// A function's name, its parameters after their registers, its register count and flags. It shares two calls with the function above,
+// which one function for both would wrap in a test of what follows them.
 pub fn scan_define_function_2(m: &MainBody<'_>, from: Spot) -> Scan
     requires { Roomy m.now.b.now from.at from.pos }
     ensures { result ≡ scanned owner_size from.pos.0 (read_function2 (read_by m.now) m.now.b.now (placed from.at)) }

@@ -1,5 +1,5 @@
-// Actions of a few bytes, as source 000's ActionEncoder writes them, over a lent output. `pos` is a position in the block and
-// `next` the place in the main body after what is written.
+// Actions of a few bytes, as source 000's ActionEncoder writes them, over a lent output. `pos` is the position in the block before
+// what is written, and `next` the place in the main body behind it, so that the two are no spot.
 #![tactic(auto)]
 
 ghost use Rattle.std.specs.Prelude.{◌≡◌, [], ◌+◌, ◌<◌, length, ltb, eqb};

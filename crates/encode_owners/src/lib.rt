@@ -42,7 +42,7 @@ pub fn write_define_function(
 }
 
 // The same with registers and flags, which stand behind the parameters in the main body, and before them in the block: so the
-// parameters, which say where, are written first.
+// parameters, which say where, are written first. With that other order the two functions are no twins.
 pub fn write_define_function_2(
     out: &mut [u8],
     m: &MainBody<'_>,

@@ -1,5 +1,5 @@
-// Strings, lists and push values, written into a lent output. `pos` is a position in the block and `next` the place in the main body
-// after what is written.
+// Strings, lists and push values, written into a lent output. `pos` is the position in the block before what is written, and `next`
+// the place in the main body behind it.
 #![tactic(auto)]
 
 ghost use Rattle.std.specs.Prelude.{◌≡◌, ℕ, ltb};

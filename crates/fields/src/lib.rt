@@ -1,4 +1,5 @@
-// Numbers and runs of bytes, read from slices. Numbers are little-endian.
+// Numbers and runs of bytes, read from slices. Numbers are little-endian. Each width has a function of one library call, to which a
+// trait over the widths would add an impl each.
 #![tactic(auto)]
 
 ghost use Rattle.std.specs.Prelude.{◌≡◌, ℕ, ◌+◌, ◌<◌, ◌≤◌, ◌==◌, length, get_or, position};

@@ -129,7 +129,7 @@ impl Tables<'_> {
     }
 }
 
-// The 64 bits of a branch's distance, from the position after its operand to its label's record; 0 without one.
+// The 64 bits of a branch's distance, from the position after its operand to its label's record; 0 without one, as in the Rust.
 pub fn distance(tab: &[usize], label: usize, after: BytePosition) -> u64
     requires { label < length tab.now }
     ensures { result ≡ bits64 (distance (record_at tab.now label) after.0) }

@@ -9,7 +9,8 @@ ghost use Rattle.layout.specs.Lengths.{push_length, goto_frame2_length};
 ghost use Rattle.opcode.specs.Listed.{listed};
 ghost use Rattle.opcode.specs.Kinds.{IsKind};
 
-// An opcode's byte. Its constants are those of OpCode of source 000, in that order.
+// The opcodes' bytes. The constants are those of OpCode of source 000, in that order. They are bytes and no enum, since an opcode is
+// matched and written as its byte: an enum of a hundred would take a match from the byte besides, which an action's own match repeats.
 #[derive(Clone, Copy)]
 pub struct OpCode(pub u8);
 
@@ -373,6 +374,9 @@ impl OpCode {
     pub const PUSH_INTEGER_LEN: usize = 5;
 
     pub const PUSH_FLOAT_LEN: usize = 9;
+
+    // The formulas below differ in a constant or two. Each stays a function with the name of its action, by which what measures and
+    // docs/ACTIONS.md know it: one with the constant as a parameter would move the format's numbers to the callers.
 
     // A string of this length and its zero byte: the payload of a SetTarget or a GotoLabel, and a string of a list. PayloadLengths
     // proves of this formula, and of those below, that it is the length of the definitions' payload.

@@ -9,7 +9,8 @@ use fields::{u16_at, u32_at, u64_at};
 use opcode::{OpCode, PushKind};
 use words::word_at;
 
-// A run of bytes of the main body, or of the words of a book, and the place in the main body after the string.
+// A run of bytes of the main body, or of the words of a book, and the place in the main body after the string. It holds places and no
+// slice: contracts say what a span is by `≡`, which for a slice would compare where it lies.
 #[derive(Clone, Copy)]
 pub struct Span {
     pub from_book: bool,

@@ -36,7 +36,8 @@ pub fn step_of(count: usize) -> usize
     16
 }
 
-// The length that stands at a place, or 0 where none does.
+// The length that stands at a place, or 0 where none does: a lookup is total, so that nothing is asked of an index, and a word that
+// does not stand whole is empty.
 fn length_at(words: &[u8], at: usize) -> usize
     requires { at ≤ 1099511627776 }
     ensures { (result ≡ length_at words.now at) × (result < 65536) }
