@@ -23,9 +23,6 @@ use opcode::OpCode;
 use payload::scan_payload;
 use positions::{ActionIndex, ActionNumber, BytePosition, Cursor, Fault, Halt, Spot, Walked};
 
-// As many bodies may stand one in another in a main body.
-pub const DEEPEST: usize = 16;
-
 // A fault, met in the action with a number or before it. It is called in the arms of a match: `map_err` before `?` takes a closure,
 // and leaves goals of its own in each of its callers.
 fn halted(fault: Fault, place: usize, number: ActionNumber) -> Walked

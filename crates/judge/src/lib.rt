@@ -15,14 +15,14 @@ ghost use Rattle.judge.specs.Judging.{mode_of, refusal_of, record_by, Small, Jud
 ghost use Rattle.labels.specs.Table.{is_recorded, is_at_home, record_at};
 
 use answer::Refusal;
-use bodies::{DEEPEST, next_after};
+use bodies::next_after;
 use editions::MainBody;
 use fields::u16_at;
 use labels::{Tables, distance, is_far};
 use measure::Laid;
 use opcode::OpCode;
 use payload::scan_payload;
-use positions::{ActionNumber, BytePosition, Cursor};
+use positions::{ActionNumber, BytePosition, Cursor, DEEPEST};
 
 // What is asked of a sheet's branches besides their distances: in strict mode, that each one's label is recorded; in a contained
 // mode, that its record, if it has one, is in the function body of the branch.

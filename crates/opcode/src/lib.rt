@@ -387,14 +387,6 @@ impl OpCode {
         string + 1
     }
 
-    // A GetUrl's payload, from the lengths of its strings.
-    pub fn get_url_len(url: usize, target: usize) -> usize
-        requires { (url ≤ 1099511627776) × (target ≤ 1099511627776) }
-        ensures { result ≡ url + target + 2 }
-    {
-        url + target + 2
-    }
-
     // A ConstantPool's payload, from the total length of its strings, each with its zero byte.
     pub fn constant_pool_len(sum: usize) -> usize
         requires { sum ≤ 1099511627776 }

@@ -13,6 +13,9 @@ pub struct BytePosition(pub usize);
 #[derive(Clone, Copy)]
 pub struct ActionNumber(pub usize);
 
+// As many bodies may stand one in another, the main body among them.
+pub const DEEPEST: usize = 16;
+
 // What reading can meet: 3 to 7 of document 01.
 #[derive(Clone, Copy)]
 pub enum Fault {

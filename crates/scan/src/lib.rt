@@ -9,10 +9,10 @@ ghost use Rattle.editions.specs.Allowed.{read_by};
 ghost use Rattle.bodies.specs.Ready.{LengthsKept};
 ghost use Rattle.scan.specs.Mains.{Empty, MainScanned};
 
-use bodies::{DEEPEST, scan_body};
+use bodies::scan_body;
 use editions::MainBody;
 use measure::Notes;
-use positions::{ActionNumber, BytePosition, Cursor, Fault, Halt, Walked};
+use positions::{ActionNumber, BytePosition, Cursor, DEEPEST, Fault, Halt, Walked};
 
 // How many bytes these are. That each is under 256 is said here: no proof sees it through the struct that lends them.
 #[tactic(auto, using(laws::proofs::Fits::all_bytes))]

@@ -12,11 +12,8 @@ use encode::write_head;
 use fields::u16_at;
 use opcode::OpCode;
 use pcode::{Action, action_at};
-use positions::{BytePosition, Spot};
+use positions::{BytePosition, DEEPEST, Spot};
 use writer::{Writer, write_block_length_at};
-
-// How many bodies may stand one in another, the main body among them.
-const DEEPEST: usize = 16;
 
 // The bodies that follow an action's payload: one, or those of a Try by its shape.
 #[derive(Clone, Copy)]
