@@ -1,26 +1,30 @@
--- `pack::pack` meets its contract: what the cut refuses, or what is made of the main body. Assumes nothing.
-use native.Mathlib.Omega.{arith}
-use Rattle.cut.proofs.Mains as cuts
-use Rattle.pack.proofs.Packs as packs
+use Rattle.std.proofs.Common.{refl}
+use Rattle.std.proofs.lemmas.Result.{err_from_is_err_and}
+use Rattle.editions.specs.Allowed.{meant}
+use Rattle.cut.proofs.Mains.{cut_limits}
+use Rattle.pack.proofs.Packs.{cut_stops, cut_packed}
 use Rattle.pack.proofs.pack.Goals as goal
 
-pub slice_bounds-pack_edition-count : goal.slice_bounds-pack_edition-count
-slice_bounds-pack_edition-count c = let lies = cuts.cut_within _ _ c.cut_main.ensures.0 _ _ _ c.in-Main.is c.cut_main.ensures.1 in omega (arith, lies.0)
+pub returns-in_err-cut : goal.returns-in_err-cut
+returns-in_err-cut c =
+    let p = err_from_is_err_and c.from_residual.result c.from_residual.ensures.1 in
+    rw p.1 (cut_stops _ _ _ _ _ c.in_err-cut.ensures.is_cut _ p.2)
 
-pub slice_bounds-pack_edition-start : goal.slice_bounds-pack_edition-start
-slice_bounds-pack_edition-start c = let lies = cuts.cut_within _ _ c.cut_main.ensures.0 _ _ _ c.in-Main.is c.cut_main.ensures.1 in omega (arith, lies.0, lies.1)
+pub pack_early-requires-clause-limited : goal.pack_early-requires-clause-limited
+pack_early-requires-clause-limited c = cut_limits _ _ c.in_ok-cut.ensures.is_cut
 
-pub slice_bounds-pack_edition-end : goal.slice_bounds-pack_edition-end
-slice_bounds-pack_edition-end c = let lies = cuts.cut_within _ _ c.cut_main.ensures.0 _ _ _ c.in-Main.is c.cut_main.ensures.1 in omega (arith, lies.1)
+pub pack_early-requires-in-Second-clause-limited : goal.pack_early-requires-in-Second-clause-limited
+pack_early-requires-in-Second-clause-limited c = cut_limits _ _ c.in_ok-cut.ensures.is_cut
 
-pub pack_edition-requires : goal.pack_edition-requires
-pack_edition-requires c = cuts.cut_limits _ _ c.cut_main.ensures.0 _ _ _ c.in-Main.is
+pub pack_third-requires-clause-limited : goal.pack_third-requires-clause-limited
+pack_third-requires-clause-limited c = cut_limits _ _ c.in_ok-cut.ensures.is_cut
 
-pub returns-in-SheetTooLong : goal.returns-in-SheetTooLong
-returns-in-SheetTooLong c = packs.cut_long _ _ _ c.cut_main.ensures.0 _ _ _ c.in-SheetTooLong.is
+pub returns-in-First : goal.returns-in-First
+returns-in-First c = cut_packed _ _ _ _ _ c.in_ok-cut.ensures.is_cut _ refl (c.pack_early.ensures _)
 
-pub returns-in-BadTrailer : goal.returns-in-BadTrailer
-returns-in-BadTrailer c = packs.cut_bad _ _ _ c.cut_main.ensures.0 _ _ c.in-BadTrailer.is
+pub returns-in-Second : goal.returns-in-Second
+returns-in-Second c = cut_packed _ _ _ _ _ c.in_ok-cut.ensures.is_cut _ refl (c.pack_early-in-Second.ensures _)
 
-pub returns-in-Main : goal.returns-in-Main
-returns-in-Main c = packs.cut_packed _ _ _ c.cut_main.ensures.0 _ _ _ _ _ c.in-Main.is _ _ c.pack_edition.ensures
+pub returns-in-Third : goal.returns-in-Third
+unfolding meant
+returns-in-Third c = cut_packed _ _ _ _ _ c.in_ok-cut.ensures.is_cut _ (rw c.in-Third.is) c.pack_third.ensures

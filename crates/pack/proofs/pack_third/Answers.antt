@@ -1,25 +1,20 @@
--- `pack::pack_third` meets its contract: 18, or what is made of the main body with the words of the book. Assumes nothing.
-use native.Mathlib.Omega.{arith}
-use Rattle.book.proofs.Books.{good_within, good_count, good_words, ill_book}
-use Rattle.pack.proofs.Packs as packs
+use Rattle.std.proofs.Common.{◌≡◌}
+use Rattle.answer.specs.declared.Refusal.TheVariants as refusal
+use Rattle.std.proofs.lemmas.Result.{err_from_is_err_and}
+use Rattle.pack.proofs.Packs.{ill_packed, third_bound, third_packed}
 use Rattle.pack.proofs.pack_third.Goals as goal
 
-pub slice_bounds-pack_with-count : goal.slice_bounds-pack_with-count
-slice_bounds-pack_with-count c = let lies = good_within _ _ _ _ _ c.check_book.ensures c.in-Good.is in omega (arith, lies.0)
+pub returns-in_err-book : goal.returns-in_err-book
+returns-in_err-book c =
+    let p = err_from_is_err_and c.from_residual.result c.from_residual.ensures.1 in
+    let none = c.in_err-book.ensures.ok_part in
+    let is_bad : c.in_err-book.field-0.0 ≡ refusal.BadBook = cc (rw none at c.in_err-book.ensures.value) in
+    rw (p.1, p.2, is_bad) (ill_packed _ _ _ _ _ (rw none at c.check_book.ensures))
 
-pub slice_bounds-pack_with-start : goal.slice_bounds-pack_with-start
-slice_bounds-pack_with-start c = let lies = good_within _ _ _ _ _ c.check_book.ensures c.in-Good.is in omega (arith, lies.0, lies.1)
+pub pack_by-requires-clause-slots : goal.pack_by-requires-clause-slots
+pack_by-requires-clause-slots c = third_bound _ _ _ c.requires.third c.terms.ensures
 
-pub slice_bounds-pack_with-end : goal.slice_bounds-pack_with-end
-slice_bounds-pack_with-end c = let lies = good_within _ _ _ _ _ c.check_book.ensures c.in-Good.is in omega (arith, lies.1)
-
-pub pack_with-requires : goal.pack_with-requires
-pack_with-requires c = (c.requires, good_count _ _ _ _ _ c.check_book.ensures c.in-Good.is)
-
-pub returns-in-Bad : goal.returns-in-Bad
-returns-in-Bad c = packs.ill_packed _ _ _ _ _ (ill_book _ _ c.check_book.ensures c.in-Bad.is)
-
-pub returns-in-Good : goal.returns-in-Good
-returns-in-Good c =
-    let w = good_words _ _ _ _ _ c.check_book.ensures c.in-Good.is in
-    packs.third_packed _ _ _ _ _ _ _ _ w c.pack_with.ensures
+pub returns : goal.returns
+returns c =
+    let k = rw c.in_ok-book.ensures.ok_part at c.check_book.ensures in
+    third_packed _ _ _ _ _ _ _ _ _ _ _ _ c.requires.third c.terms.ensures k.is_book c.pack_by.ensures
