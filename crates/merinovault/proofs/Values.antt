@@ -1,11 +1,11 @@
 -- What a caller is told, by the two cases of the length of its value slice. Assumes nothing.
 use mathlib.Core.Path.{◌≡◌, refl, sym, ap, ap₂, ◌∙◌}
-use Prim.Native.Nat.{ℕ, ◌-◌, ◌<◌}
+use Prim.Native.Nat.{ℕ, ◌<◌}
 use native.Mathlib.Omega.{arith}
-use mathlib.Core.List.{List, [], ◌++◌, append-nil}
-use lib.ListN.{length, take, drop, length-drop}
-use lib.Seq.{drop-length}
-use borrow.Rule.Slice.PartMut.{post_of, put_mid}
+use mathlib.Core.List.{List, ◌++◌}
+use lib.ListN.{length}
+use lib.Seq.{sets}
+use Rattle.stores.proofs.Stores.{filled}
 use lib.IntN.{ℤ, pos}
 use borrow.Author.Tests.{eq-eqb, ne_eqb}
 use Rattle.layout.specs.Lists.{pick}
@@ -53,24 +53,12 @@ module _ (s v l : List ℕ) (sixteen-long : length v ≡ 16) where
     unfolding value refusal_value action refusal_action
     unclean_value h e = told_bytes pos (step s) e (natural_bits p h) (rw d) (omega arith) (rw d) ∙ sym (sixteen v (value_bytes pos (step s)) v sixteen-long)
 
--- ---- the value slice, filled
+-- ---- the value slice
 
--- its two halves, of which the first was filled before the second was lent
-pub halves_filled : (v front back : List ℕ) (bits k : ℕ) → length v ≡ 16 → front ≡ le64 bits → back ≡ le64 k
-    → put_mid 8 (length (front ++ drop 8 v) - 8) (front ++ drop 8 v) back ≡ le64 bits ++ le64 k
-halves_filled v front back bits k h e f = rw (e, f) (ap₂ ◌++◌ first (ap (λ (l : List ℕ). le64 k ++ l) none_left ∙ append-nil (le64 k)))
-  where
-    first : take 8 (le64 bits ++ drop 8 v) ≡ le64 bits
-    first = unfold le64 le32 le16 in refl
+-- a value and an action number fill it
+pub value_long : (bits k : ℕ) → length (le64 bits ++ le64 k) ≡ 16
+unfolding le64 le32 le16
+value_long bits k = refl
 
-    long : length (le64 bits ++ drop 8 v) ≡ 16
-    long = unfold le64 le32 le16 in simp length-drop (omega arith)
-
-    none_left : post_of 8 (length (le64 bits ++ drop 8 v) - 8) (le64 bits ++ drop 8 v) ≡ []
-    none_left = rw long (drop_all (le64 bits ++ drop 8 v) long)
-      where
-        rest : (l : List ℕ) → length l ≡ 8 → drop 8 l ≡ []
-        rest l n = ap (λ (i : ℕ). drop i l) (sym n) ∙ drop-length l
-
-        drop_all : (l : List ℕ) → length l ≡ 16 → post_of 8 (16 - 8) l ≡ []
-        drop_all l n = rest (drop 8 l) (simp length-drop (omega arith))
+pub value_filled : (v new : List ℕ) (bits k : ℕ) → length v ≡ 16 → new ≡ sets v 0 (le64 bits ++ le64 k) → new ≡ le64 bits ++ le64 k
+value_filled v new bits k h e = e ∙ filled v (le64 bits ++ le64 k) (value_long bits k ∙ sym h)

@@ -10,22 +10,21 @@ ghost use Rattle.merinovault.specs.Calls.{mode_by, PackCalled, StepCalled};
 use answer::{action_of, number_of, value_of};
 use judge::Mode;
 use step::Unclean;
-use stores::fill_u64;
+use stores::Store;
 
 // Fills a value slice: the 64 bits of the value, then those of the action number.
 fn fill_value(value: &mut [u8], bits: u64, action: u64)
     requires { length value.old ≡ 16 }
     ensures { value.new ≡ le64 bits ++ le64 action }
 {
-    fill_u64(&mut value[..8], bits);
-    fill_u64(&mut value[8..], action);
+    (bits, action).store(value, 0);
 }
 
 // Packs a sheet, whose strings may name the entries of a book, into the lent output, in a mode that is strict or not and contained
 // or not. The output's bytes past a Done length keep their values; on any other answer all do.
-pub fn merinovault_pack<'a>(
-    sheet: &'a [u8],
-    book: &'a [u8],
+pub fn merinovault_pack(
+    sheet: &[u8],
+    book: &[u8],
     strict: bool,
     contained: bool,
     out: &mut [u8],
@@ -36,13 +35,10 @@ pub fn merinovault_pack<'a>(
     if value.len() != 16 {
         return 11;
     }
-    let mode = Mode {
-        strict: strict,
-        contained: contained,
-    };
-    let a = pack::pack(sheet, book, mode, out);
-    fill_value(value, value_of(a), action_of(a));
-    number_of(a)
+    let mode = Mode { strict, contained };
+    let answer = pack::pack(sheet, book, mode, out);
+    fill_value(value, value_of(answer), action_of(answer));
+    number_of(answer)
 }
 
 // Steps through a block to its last byte, and tells whether its last step is an End. No answer names an action.

@@ -9,14 +9,14 @@ use lib.IntN.{ℤ, pos}
 use borrow.Author.Tests.{lt-ltb, le-ltb, eq-eqb, ne_eqb}
 use Rattle.io.specs.Counts.{IsPrefixLen}
 use Rattle.layout.specs.Lists.{pick}
-use Rattle.layout.specs.Numbers.{bits64}
 use Rattle.layout.specs.Order.{signed64}
 use Rattle.layout.specs.Answers.{CutShort, UnknownCode, BadField, TooDeep, LeftOver, Refusal, SheetTooLong, BadTrailer, ReadingFault, ActionLenOverflow, BlockLenOverflow, JumpOffsetOverflow, NoRoom, InputFull, Unclean, NeverRecorded, StrayBranch, BadBook, Answer, Done, Refused, Told, number, value, length_of, fault_number, refusal_number, refusal_value}
 use Rattle.layout.specs.Judge.{plain_mode}
 use Rattle.layout.specs.Book.{empty_book}
 use Rattle.layout.specs.Pack.{pack, output, Outcome}
-use Rattle.answer.proofs.Values.{natural_bits}
-use Rattle.answer.specs.Answered.{value_by}
+use Rattle.std.specs.Prelude.{Result, Ok, Err}
+use Rattle.answer.specs.Answered.{meant, value_by, number as told_number, value as told_value}
+use Rattle.answer.specs.declared.Refusal as code
 use Rattle.print_text.specs.Pieces.{decimal, signed, hex_lines, Room, Put}
 use Rattle.print_text.proofs.Hexes.{length-hex_lines}
 use Rattle.print_text.proofs.Puts.{put_then, put_as}
@@ -34,8 +34,8 @@ unfolding signed value_by pick
 put_natural {n} bits e h = rw (ne_eqb n 10 e) h
 
 -- number, space, value, line feed
-pub put_pieces : {at p q : ℕ} {a b c d e : List ℕ} (n : ℕ) (v : ℤ) → Put (decimal n) at a b p → Put (32 ∷ []) p b c (p + 1) → Put (signed v) (p + 1) c d q
-    → Put (10 ∷ []) q d e (q + 1) → Put (line n v) at a e (q + 1)
+pub put_pieces : {at p o q r : ℕ} {a b c d e : List ℕ} (n : ℕ) (v : ℤ) → Put (decimal n) at a b p → Put (32 ∷ []) p b c o → Put (signed v) o c d q → Put (10 ∷ []) q d e r
+    → Put (line n v) at a e r
 unfolding line
 put_pieces n v h i j k = put_then h (put_then i (put_then j k))
 
@@ -64,6 +64,10 @@ refused_number (Unclean p) e = omega (arith, e)
 refused_number (NeverRecorded p k) e = omega (arith, e)
 refused_number (StrayBranch p k) e = omega (arith, e)
 refused_number BadBook e = omega (arith, e)
+
+pub refusal_told : {a : Result ℕ code.Refusal} {r : code.Refusal} → a ≡ Err r → told_number a ≡ 0 → ⊥
+unfolding told_number
+refusal_told {r = r} e h = refused_number (meant r) (rw e at h)
 
 -- an input that fills, and one that does not
 answered_full : (input : List ℕ) → length input ≡ 65536 → Refused InputFull ≡ answered input
@@ -107,18 +111,18 @@ pub record Filled (s o : List ℕ) (k : ℕ) (after : List ℕ) : Type 0 where
   pub is_small : k ≤ 65536
   pub is_block : pack plain_mode s empty_book (length o) ≡ Done (take k after)
 
-pub filled : (s o after : List ℕ) {n k : ℕ} {v : ℤ} {i : ℕ} → Outcome plain_mode s empty_book o n v i after → n ≡ 0 → k ≡ bits64 v → length after ≡ length o → length o ≡ 65536 → Filled s o k after
-unfolding output value number
-filled s o after {n} {k} {v} {i} h z b e l = go (pack plain_mode s empty_book (length o)) refl h.told h.holds
+pub filled : (s o after : List ℕ) (k : ℕ) {i : ℕ} → Outcome plain_mode s empty_book o (told_number (Ok k)) (told_value (Ok k)) i after → length after ≡ length o → length o ≡ 65536 → Filled s o k after
+unfolding output value number told_number told_value
+filled s o after k {i} h e l = go (pack plain_mode s empty_book (length o)) refl h.told h.holds
   where
-    go : (a : Answer (List ℕ)) → pack plain_mode s empty_book (length o) ≡ a → Told length_of a n v i → after ≡ output a o → Filled s o k after
+    go : (a : Answer (List ℕ)) → pack plain_mode s empty_book (length o) ≡ a → Told length_of a 0 (pos k) i → after ≡ output a o → Filled s o k after
     go (Done q) p t f =
         let g : length after ≡ length q + length (drop (length q) o) = ap length f ∙ length-append q (drop (length q) o) in
         let j : length q ≤ length after = omega (arith, g) in
-        let i : k ≡ length q = b ∙ ap bits64 t.is_value ∙ sym (natural_bits (length q) (omega (arith, j, e, l))) in
+        let i : k ≡ length q = cc t.is_value in
         let x : take (length q) after ≡ q = rw f (take-append_seam q (drop (length q) o)) in
         record { is_within = omega (arith, i, j); is_small = omega (arith, i, j, e, l); is_block = p ∙ ap Done (sym (ap (λ (m : ℕ). take m after) i ∙ x)) }
-    go (Refused r) p t f = absurd (refused_number r (sym t.is_number ∙ z))
+    go (Refused r) p t f = absurd (refused_number r (sym t.is_number))
 
 -- its lines have room behind the answer's
 pub block_room : {s o after old text : List ℕ} {k p : ℕ} → Filled s o k after → Room 196651 0 old → length text ≡ length old → p ≤ 43 → Room (3 * length (take k after)) p text

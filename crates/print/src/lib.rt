@@ -17,7 +17,10 @@ use print_text::{put_block, put_number, put_signed};
 use std::alloc::{AllocError, Global};
 use std::io;
 use std::io::{Read, Write};
-use stores::write_u8;
+use stores::Store;
+
+// The program reads into so many bytes, which an input fills that has as many or more; and packs into as many.
+const SPACE: usize = 65536;
 
 // The value that a number and its 64 bits tell; only that of 10, a distance, can be negative.
 fn put_value(text: &mut [u8], at: usize, number: u32, bits: u64) -> usize
@@ -35,11 +38,10 @@ fn put_line(text: &mut [u8], number: u32, bits: u64) -> usize
     requires { Room 43 0 text.old }
     ensures { Put (line number (value_by number bits)) 0 text.old text.new result × (result ≤ 43) }
 {
-    let p = put_number(text, 0, number as u64);
-    write_u8(text, p, b' ');
-    let q = put_value(text, p + 1, number, bits);
-    write_u8(text, q, b'\n');
-    q + 1
+    let space = put_number(text, 0, number as u64);
+    let at = b' '.store(text, space);
+    let end = put_value(text, at, number, bits);
+    b'\n'.store(text, end)
 }
 
 // Packs the input in plain mode, with the book that has no entry.
@@ -62,17 +64,15 @@ pub fn block_text(input: &[u8], out: &mut [u8], text: &mut [u8]) -> usize
     ensures within { IsPrefixLen result text.new }
     ensures output { out.new ≡ output (answered input.now) out.old }
 {
-    if input.len() == 65536 {
-        return put_line(text, 12, 65536);
+    if input.len() == SPACE {
+        return put_line(text, 12, SPACE as u64);
     }
-    let a = pack_input(input, out);
-    let number = number_of(a);
-    let bits = value_of(a);
-    let p = put_line(text, number, bits);
-    if number != 0 {
-        return p;
+    let answer = pack_input(input, out);
+    let end = put_line(text, number_of(answer), value_of(answer));
+    match answer {
+        Ok(len) => put_block(text, end, &out[..len]),
+        Err(_) => end,
     }
-    put_block(text, p, &out[..bits as usize])
 }
 
 // Three bytes for each byte of the longest block, and a line.
@@ -101,9 +101,9 @@ fn read_input<R: Read + Drop>(alloc: Global, reader: R) -> io::Result<Vec<u8>>
     ensures within { IfOk result (λ v. vec_len v ≤ 65536) }
     ensures bytes { IfOk result (λ v. IfSome (R.remaining reader) (λ xs. v.items ≡ take 65536 xs)) }
 {
-    let mut input = Vec::with_capacity(alloc, 65536)?;
-    reader.take(65536).read_to_end(&mut input)?;
-    input.truncate(65536);
+    let mut input = Vec::with_capacity(alloc, SPACE)?;
+    reader.take(SPACE as u64).read_to_end(&mut input)?;
+    input.truncate(SPACE);
     Ok(input)
 }
 
@@ -116,7 +116,7 @@ pub fn answer_reader<R: Read + Drop, W: Write>(
     ensures { OnOk result (IfSome (R.remaining reader) (λ xs. Appends (W.contents writer.old) (W.contents writer.new) (block_text (take 65536 xs)))) }
 {
     let input = read_input(alloc, reader)?;
-    let mut out = vec![in alloc; 0; 65536]?;
+    let mut out = vec![in alloc; 0; SPACE]?;
     let mut text = text_buffer(alloc)?;
     write_text(&input, &mut out, &mut text, writer)
 }

@@ -16,11 +16,11 @@ returns-then-value-ne16 c =
 pub returns : goal.returns
 returns c =
     let e = c.if-value-ne16.false in
-    let o = c.pack-a.ensures in
+    let o = c.pack-answer.ensures in
     record {
       is_lent = record { bytes = all_bytes _ (λ i l. omega (arith, c.type_inv.sheet i)); short = search rules };
       is_book = record { bytes = all_bytes _ (λ i l. omega (arith, c.type_inv.book i)); short = search rules };
       is_number = c.number_of.ensures ∙ o.told.is_number ∙ sym (sixteen _ _ _ e);
-      is_value = told_bytes length_of _ c.fill_value.ensures c.value_of.ensures.0 o.told.is_value (omega arith) (c.action_of.ensures ∙ o.told.is_action) ∙ sym (sixteen _ _ _ e);
+      is_value = told_bytes length_of _ c.fill_value.ensures c.value_of.ensures.bits o.told.is_value (omega arith) (c.action_of.ensures ∙ o.told.is_action) ∙ sym (sixteen _ _ _ e);
       is_output = o.holds ∙ sym (sixteen _ _ _ e);
     }

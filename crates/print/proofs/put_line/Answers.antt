@@ -1,8 +1,9 @@
--- `print::put_line` meets its contract: number, space, value and line feed are put in turn. Assumes nothing.
-use native.Mathlib.Omega.{arith}
-use Rattle.print_text.proofs.Puts.{put_one}
+use Rattle.std.proofs.Common.{arith}
 use Rattle.print.proofs.Texts.{put_pieces}
 use Rattle.print.proofs.put_line.Goals as goal
 
 pub returns : goal.returns
-returns c = (put_pieces _ _ c.put_number-p.ensures.0 (put_one c.write_u8.ensures) c.put_value-q.ensures.0 (put_one c.write_u8-2.ensures), omega (arith, c.put_number-p.ensures.1, c.put_value-q.ensures.1))
+returns c =
+    let space = c.store-at.ensures in
+    let feed = c.store.ensures in
+    (put_pieces _ _ c.put_number-space.ensures.0 (record { wrote = space.wrote; end = space.end }) c.put_value-end.ensures.0 (record { wrote = feed.wrote; end = feed.end }), omega (arith, c.put_number-space.ensures.1, c.put_value-end.ensures.1))
