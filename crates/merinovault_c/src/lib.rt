@@ -7,9 +7,9 @@ ghost use Rattle.merinovault.specs.Calls.{mode_by, PackCalled, StepCalled};
 // Packs a sheet, whose strings may name the entries of a book, into the lent output, in a mode that is strict or not and contained
 // or not.
 #[unsafe(no_mangle)]
-pub extern "C" fn merinovault_pack<'a>(
-    sheet: &'a [u8],
-    book: &'a [u8],
+pub extern "C" fn merinovault_pack(
+    sheet: &[u8],
+    book: &[u8],
     strict: bool,
     contained: bool,
     out: &mut [u8],
