@@ -41,16 +41,18 @@ pub fn step(block: &[u8]) -> Result<usize, Unclean>
     let mut at = 0;
     let mut count = 0;
     let mut ended = false;
-    while at < block.len() {
+    loop {
+        if block.len() <= at {
+            if ended {
+                break Ok(count);
+            }
+            break Err(Unclean { place: block.len() });
+        }
         let Some(next) = look_at(block, at) else {
-            return Err(Unclean { place: at });
+            break Err(Unclean { place: at });
         };
         ended = block[at] == 0;
         at = next;
         count += 1;
     }
-    if ended {
-        return Ok(count);
-    }
-    Err(Unclean { place: block.len() })
 }
