@@ -18,6 +18,8 @@ use stores::Low16;
 
 // The header and payload of the action at a spot, without its bodies. Answers the place of the first of these, and the position
 // reached.
+// It goes into its caller at once, as `pcode::action_at` does.
+#[inline(always)]
 pub fn write_head(m: &MainBody<'_>, from: Spot, a: Action, tab: &[usize], out: &mut [u8]) -> Spot
     requires { Writable m.now from.at a from.pos.0 tab.now out.old }
     ensures { WroteHead m.now from.at a from.pos.0 tab.now out.old out.new result }

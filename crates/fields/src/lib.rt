@@ -59,7 +59,7 @@ fn first_zero(part: &[u8]) -> Option<usize>
 }
 
 // The place of the first zero byte among n from a place on, or the place after them. Most parts have none, which the least byte
-// tells soonest.
+// tells soonest. It is told where the part stands, and answers a place: its callers compare the place with the end, or tell it.
 pub fn first_nul(b: &[u8], at: usize, n: usize) -> usize
     requires { at + n ≤ length b.now }
     ensures { result ≡ first_nul b.now at n }

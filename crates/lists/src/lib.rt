@@ -41,6 +41,8 @@ fn scan_constant(m: &MainBody<'_>, from: Spot) -> Scan
 }
 
 // A push value: its kind, then what the kind says.
+// It goes into the loop over values at once: nearly all of a string's time is in its scan.
+#[inline(always)]
 pub fn scan_push_value(m: &MainBody<'_>, from: Spot) -> Scan
     requires { Roomy m.now.b.now from.at from.pos }
     ensures { result ≡ scanned value_size from.pos.0 (read_value (read_by m.now) m.now.b.now (placed from.at)) }

@@ -127,6 +127,8 @@ fn scan_plain(m: &MainBody<'_>, from: Spot, n: usize) -> Scan
 }
 
 // A string: its length, then its bytes; or 65,535, where the terms allow words, then the number of one.
+// It goes into its callers at once, as most of reading is of strings.
+#[inline(always)]
 pub fn scan_string(m: &MainBody<'_>, from: Spot) -> Scan
     requires { Roomy m.now.b.now from.at from.pos }
     ensures { result ≡ scanned string_size from.pos.0 (read_string (read_by m.now) m.now.b.now (placed from.at)) }

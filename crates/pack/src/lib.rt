@@ -44,6 +44,8 @@ fn pack_main(
 }
 
 // The same, with tables of so many slots.
+// It keeps a frame of its own, so that no sheet pays in stack for the tables of another edition.
+#[inline(never)]
 fn pack_in<const LABELS: usize, const HOMES: usize>(
     m: &MainBody<'_>,
     start: usize,
@@ -104,6 +106,8 @@ fn pack_early<const LABELS: usize>(cut: &Cut<'_>, mode: Mode, out: &mut [u8]) ->
 }
 
 // The main body of a sheet of edition 3: 18 comes before all that is read of it.
+// It keeps a frame of its own, for the index.
+#[inline(never)]
 fn pack_third(cut: &Cut<'_>, book: &[u8], mode: Mode, out: &mut [u8]) -> Answer
     requires limited { Limited cut.now.main.now cut.now.start }
     requires third { cut.now.edition ≡ Edition.Third }

@@ -55,6 +55,7 @@ pub struct Function {
 }
 
 // An action. A list (ConstantPool, Push) is its count and its first element's place; With and Try hold their first body's place.
+// A flag is the byte that stands in the sheet, 0 or 1, since it is written as a bit of a byte.
 #[derive(Clone, Copy)]
 pub enum Action {
     Small(u8),
@@ -172,6 +173,8 @@ fn try_at(m: &MainBody<'_>, at: usize) -> Action
 }
 
 // The action at a place where one reads.
+// It goes into its caller at once: the case that it makes is then the one that is written, and no action is built in memory.
+#[inline(always)]
 pub fn action_at(m: &MainBody<'_>, at: usize) -> Action
     requires { ActionReads m.now at }
     ensures { TakesAction m.now at result }
