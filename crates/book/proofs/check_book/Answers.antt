@@ -4,9 +4,6 @@ use Rattle.book.proofs.check_book.Goals as goal
 pub returns-in_err-t : goal.returns-in_err-t
 returns-in_err-t c = rw c.from_residual.ensures (untrailed _ c.in_err-t.ensures)
 
-pub index_words-requires : goal.index_words-requires
-index_words-requires c = (c.in_ok-t.ensures.part_fits, c.in_ok-t.ensures.code_fits, c.requires)
-
 pub returns-in_err-index_words : goal.returns-in_err-index_words
 returns-in_err-index_words c = rw c.from_residual-in_err-index_words.ensures (ill_filled _ _ c.in_ok-t.ensures _ c.in_err-index_words.ensures)
 

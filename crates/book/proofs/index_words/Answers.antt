@@ -10,9 +10,6 @@ loop-i-init c = indexing_start _ _ _ _ (zero-div _) c.requires.2
 pub bounds-index-i : goal.bounds-index-i
 bounds-index-i c = slot_within _ _ c.loop-i.invariant (omega arith) c.requires.1
 
-pub overflow_cast-index : goal.overflow_cast-index
-overflow_cast-index c = omega (arith, c.loop-i.invariant.inside)
-
 pub loop-i-preserved : goal.loop-i-preserved
 loop-i-preserved c = indexing_next _ _ c.loop-i.invariant (omega arith) c.requires.1 _ _ c.step_of-step.ensures.0 c.min.ensures _ _ (omega arith) (add-div_right _ c.step_of-step.ensures.1) c.in_ok-p.ensures
 
