@@ -14,7 +14,7 @@
  *  - A run of length 0 is never read or written; its pointer may be NULL. No run needs an alignment.
  *  - strict and contained are true or false, as every bool is. If one was made to hold another byte by writing to its memory, the
  *    call is undefined.
- *  - The thread has stack enough. No proof bounds it; a call of merinovault_pack took up to 95 KiB (docs/LINKING.md).
+ *  - The thread has stack enough. No proof bounds it; a call of merinovault_pack took up to 87 KiB (docs/LINKING.md).
  *
  * The functions keep nothing between calls and allocate nothing, so several threads may call at once. They always return.
  */
