@@ -1,5 +1,6 @@
 // The walk of bodies and actions, front to back: it reads and checks (3 to 6), measures, counts, records labels, and notes the
-// first of 8 and 9. `home` is the position at which the function body starts that it is in; only a function's body has another.
+// first of 8 and 9. `home` is the position at which the function body starts that it is in; only a function's body has another. It is
+// no part of a cursor, since it does not move with the walk.
 #![tactic(auto)]
 
 ghost use Rattle.std.specs.Prelude.{◌≡◌, ◌+◌, ◌≤◌, ◌<◌, length, get_or};

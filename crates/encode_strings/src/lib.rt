@@ -61,7 +61,7 @@ pub fn write_push(out: &mut [u8], m: &MainBody<'_>, n: usize, from: Spot) -> Spo
     end
 }
 
-// The same of n strings, behind their count.
+// The same of n strings, behind their count: one function for both would be told the count by a flag.
 pub fn write_constant_pool(out: &mut [u8], m: &MainBody<'_>, n: usize, from: Spot) -> Spot
     requires { Room (written (λ q. headed false 0x88 (le16 n ++ q)) (strings_at m.now n from.at)) from.pos.0 out.old }
     ensures { Put (written (λ q. headed false 0x88 (le16 n ++ q)) (strings_at m.now n from.at)) from.pos.0 out.old out.new result }

@@ -40,7 +40,7 @@ pub fn u64_at(b: &[u8], at: usize) -> u64
 }
 
 // The least of the bytes, or 255. Each byte is read and values are only chosen, so that this is compiled to work on many bytes at
-// a time.
+// a time; the library's `min` answers an Option, whose None would have to be told from a byte.
 fn least_byte(part: &[u8]) -> u8
     ensures { (k : ℕ) → k < length part.now → result ≤ get_or part.now k 0 }
 {

@@ -9,7 +9,7 @@ ghost use Rattle.layout.specs.Lengths.{push_length, goto_frame2_length};
 ghost use Rattle.opcode.specs.Listed.{listed};
 ghost use Rattle.opcode.specs.Kinds.{IsKind};
 
-// The opcodes' bytes. The constants are those of OpCode of source 000, in that order. They are bytes and no enum, since an opcode is
+// The opcodes' bytes: a type that only names them, as docs/DECISIONS.md's forms ask. The constants are those of OpCode of source 000, in that order. They are bytes and no enum, since an opcode is
 // matched and written as its byte: an enum of a hundred would take a match from the byte besides, which an action's own match repeats.
 #[derive(Clone, Copy)]
 pub struct OpCode(pub u8);
@@ -455,7 +455,7 @@ pub enum PushKind {
 }
 
 impl PushKind {
-    // The kind that a byte stands for.
+    // The kind that a byte stands for. It is no TryFrom, whose error each caller would drop.
     #[tactic(auto, unfolding(crate::specs::Kinds::meant, layout::specs::PushKind::kind_of, layout::specs::PushKind::kind_byte, layout::specs::PushKind::push_kinds, layout::specs::Lists::first_with, layout::specs::Lists::pick))]
     pub fn of(byte: u8) -> Option<PushKind>
         ensures { IsKind byte result }

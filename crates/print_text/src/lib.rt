@@ -1,4 +1,5 @@
 // Pieces of text, put into a lent buffer. `at` is the place in the buffer where the text goes on; a result is the place after it.
+// They are put by hand and by no Display, which writes to a formatter: `print::block_text` promises each byte of the buffer.
 #![tactic(auto)]
 
 ghost use Rattle.std.specs.Prelude.{◌≡◌, [], ◌∷◌, ◌+◌, ◌*◌, ◌/◌, ◌%◌, ◌≤◌, ◌<◌, length};

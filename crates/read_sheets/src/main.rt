@@ -36,7 +36,7 @@ fn read_sheet(sheet: &[u8], book: &[u8]) -> Result<(), Refusal> {
     let book = match cut.edition {
         Edition::Third => check_book(book, &mut index).ok_or(Refusal::BadBook)?,
         _ => Book {
-            words: book,
+            words: &[],
             count: 0,
         },
     };

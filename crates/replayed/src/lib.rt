@@ -62,7 +62,8 @@ pub struct Record<'a> {
     action: u32,
 }
 
-// The mode of a record's byte, which is 0 to 3: 1 more if it is strict, 2 more if it is contained.
+// The mode of a record's byte, which is 0 to 3: 1 more if it is strict, 2 more if it is contained. `Mode` is the judge's, so that no
+// TryFrom can stand here.
 fn mode_of(byte: u8) -> Option<Mode> {
     if 3 < byte {
         return None;

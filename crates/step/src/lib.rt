@@ -34,7 +34,8 @@ fn look_at(block: &[u8], at: usize) -> Option<usize>
 }
 
 // Steps from byte 0 to the last byte, and counts the steps. `ended` says whether the last step was an End, which may stand in the
-// middle too, with a branch past it. The loop counts places, since a place is its answer, and is left by break with that.
+// middle too, with a branch past it. The loop counts places, since a place is its answer, and is left by break with that,
+// as docs/DECISIONS.md's forms ask.
 pub fn step(block: &[u8]) -> Result<usize, Unclean>
     ensures { told result ≡ step block.now }
 {

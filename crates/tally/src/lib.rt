@@ -16,7 +16,8 @@ pub struct Tally {
 
 impl Tally {
     // Counts an answer by its number, and one that differs. `ordinal` counts the answers from 1. A list may hold a record with a
-    // number that no answer has: 19 counts as one more that differs, and 20 moves the first that does on by one.
+    // number that no answer has: 19 counts as one more that differs, and 20 moves the first that does on by one, so that a replay
+    // prints of every list what it always did.
     pub fn count(&mut self, number: u8, agrees: bool, ordinal: usize)
         ensures numbers { self.new.numbers ≡ slice_set self.old.numbers number (min (slice_index self.old.numbers number + 1) (2 ^ 64 - 1)) }
         ensures agreed { number < 19 → agrees ≡ true → (self.new.differ ≡ self.old.differ) × (self.new.first ≡ self.old.first) }

@@ -54,7 +54,7 @@ fn write_block(
     end
 }
 
-// The same, if the body is present.
+// The same, if the body is present: in `write_block` this would be a flag that its other callers set.
 #[cycle(writing)]
 fn write_block_if(
     m: &MainBody<'_>,

@@ -55,7 +55,8 @@ impl<'a> Writer<'a> {
 }
 
 // An action's header at a position, and the writer behind it. It is a function of its own because the check follows an output
-// into a call's result, and from there into `finish`, but not from one writer to the next within the function that lends it.
+// into a call's result, and from there into `finish`, but not from one writer to the next within the function that lends it: there
+// the proof was tried and did not close.
 fn header_at<'a>(out: &'a mut [u8], pos: BytePosition, op: u8, len: usize) -> Writer<'a>
     requires { pos.0 + 3 ≤ length out.old }
     ensures same_reference { result.out.ghost_name ≡ out.entry.ghost_name }
