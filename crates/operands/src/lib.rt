@@ -109,7 +109,7 @@ fn scan_word(m: &MainBody<'_>, from: Spot, count: u16) -> Scan
     if count as usize <= i {
         return stops(Fault::BadField, from.at);
     }
-    let word = word_at(m, count, i);
+    let word = word_at(m, count as usize, i);
     Ok(after(from, 2, OpCode::string_len(word.len)))
 }
 

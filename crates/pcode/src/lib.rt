@@ -88,7 +88,7 @@ pub fn span_at(m: &MainBody<'_>, at: usize) -> Span
     let p = at + 2;
     match m.terms.word_count {
         Some(count) if n == 65535 => {
-            let word = word_at(m, count, u16_at(m.b, p));
+            let word = word_at(m, count as usize, u16_at(m.b, p));
             Span {
                 from_book: true,
                 at: word.at,

@@ -94,6 +94,7 @@ impl Record<'_> {
     pub fn agrees(&self, spaces: &mut Spaces) -> bool
         ensures mode { IsTrue result → IsSome self.now.mode }
         ensures room { IsTrue result → self.now.room + 64 ≤ vec_len spaces.old.out }
+        ensures kept { (vec_len spaces.new.sheet ≡ vec_len spaces.old.sheet) × (vec_len spaces.new.book ≡ vec_len spaces.old.book) × (vec_len spaces.new.block ≡ vec_len spaces.old.block) × (vec_len spaces.new.out ≡ vec_len spaces.old.out) }
     {
         let sheet = unroll(self.sheet, &mut spaces.sheet);
         let book = unroll(self.book, &mut spaces.book);

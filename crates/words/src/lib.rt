@@ -90,10 +90,10 @@ fn place_of(words: &[u8], index: &[u32], count: usize, i: usize) -> usize
 }
 
 // Word i of so many. One that does not stand whole is empty, so that nothing is asked of the index.
-pub fn word_at(m: &MainBody<'_>, count: u16, i: usize) -> Word
+pub fn word_at(m: &MainBody<'_>, count: usize, i: usize) -> Word
     ensures { Found m.now.words.now m.now.index.now count i result }
 {
-    let p = place_of(m.words, m.index, count as usize, i);
+    let p = place_of(m.words, m.index, count, i);
     let n = length_at(m.words, p);
     let start = p + 2;
     if m.words.len() < start + n {
