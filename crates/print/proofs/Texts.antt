@@ -1,6 +1,6 @@
 -- Laws of the answer's line and of the whole text. Assumes nothing.
 use mathlib.Core.Path.{◌≡◌, refl, sym, ap, ap₂, ◌∙◌}
-use Prim.Native.Nat.{ℕ, ◌+◌, ◌≤◌, ◌<◌}
+use Prim.Native.Nat.{ℕ, ◌+◌, ◌*◌, ◌≤◌, ◌<◌}
 use native.Mathlib.Omega.{arith}
 use mathlib.Core.List.{List, [], ◌∷◌, append-nil}
 use lib.ListN.{length, take, drop, length-append}
@@ -17,7 +17,7 @@ use Rattle.layout.specs.Pack.{pack, output, Outcome}
 use Rattle.std.specs.Prelude.{Result, Ok, Err}
 use Rattle.answer.specs.Answered.{meant, value_by, number as told_number, value as told_value}
 use Rattle.answer.specs.declared.Refusal as code
-use Rattle.print_text.specs.Pieces.{decimal, signed, hex_lines, Put}
+use Rattle.print_text.specs.Pieces.{decimal, signed, hex_lines, Room, Put}
 use Rattle.print_text.proofs.Hexes.{length-hex_lines}
 use Rattle.print_text.proofs.Puts.{put_then, put_as}
 use Rattle.print.specs.Text.{line, block_of, printed, answered, block_text}
@@ -124,11 +124,26 @@ filled s o after k {i} h e l = go (pack plain_mode s empty_book (length o)) refl
         record { is_within = omega (arith, i, j); is_small = omega (arith, i, j, e, l); is_block = p ∙ ap Done (sym (ap (λ (m : ℕ). take m after) i ∙ x)) }
     go (Refused r) p t f = absurd (refused_number r (sym t.is_number))
 
--- the text of a Done lies in the buffer
-pub counts_block : {s o after at new : List ℕ} (text : List ℕ) {k p r : ℕ} → length text ≡ 196651 → Filled s o k after → p ≤ 43 → Put (hex_lines (take k after)) p at new r → IsPrefixLen r text
-counts_block {after = after} text {k = k} {r = r} room f l h =
-    let e : r ≤ length text = omega (arith, h.end, length-hex_lines (take k after), length-take-le k after f.is_within, f.is_small, l, room) in
-    (e, sym (length-take-le r text e))
+-- its lines have room behind the answer's
+pub block_room : {s o after old text : List ℕ} {k p : ℕ} → Filled s o k after → Room 196651 0 old → length text ≡ length old → p ≤ 43 → Room (3 * length (take k after)) p text
+block_room {after = after} {k = k} f h e l =
+    let n : length (take k after) ≡ k = length-take-le k after f.is_within in
+    record { room = omega (arith, n, f.is_small, h.room, e, l); small = omega (arith, h.small, e) }
+
+-- ---- the text lies in the buffer
+
+module _ {old : List ℕ} (text : List ℕ) {r : ℕ} (room : Room 196651 0 old) (same : length text ≡ length old) where
+  counts : r ≤ 196651 → IsPrefixLen r text
+  counts h =
+      let l : r ≤ length text = omega (arith, h, room.room, same) in
+      (l, sym (length-take-le r text l))
+
+  -- that of a line alone, and a Done's
+  pub counts_line : r ≤ 43 → IsPrefixLen r text
+  counts_line h = counts (omega (arith, h))
+
+  pub counts_block : {s o after at new : List ℕ} {k p : ℕ} → Filled s o k after → p ≤ 43 → Put (hex_lines (take k after)) p at new r → IsPrefixLen r text
+  counts_block {after = after} {k = k} f l h = counts (omega (arith, h.end, length-hex_lines (take k after), length-take-le k after f.is_within, f.is_small, l))
 
 -- ---- an input that does not fill
 

@@ -20,10 +20,7 @@ use std::io::{Read, Write};
 use stores::Store;
 
 // The program reads into so many bytes, which an input fills that has as many or more; and packs into as many.
-pub const SPACE: usize = 65536;
-
-// The longest text: three bytes for each byte of the longest block, and a line.
-pub const TEXT: usize = 196651;
+const SPACE: usize = 65536;
 
 // The value that a number and its 64 bits tell; only that of 10, a distance, can be negative.
 fn put_value(text: &mut [u8], at: usize, number: u32, bits: u64) -> usize
@@ -61,8 +58,8 @@ fn pack_input(input: &[u8], out: &mut [u8]) -> Answer
 
 // Packs the input into `out`, and makes the program's text at the front of `text`: three bytes for each byte of a
 // block, and a line. An input that fills its 65,536 bytes is not packed: its line is that of 12. Returns the length of the text.
-pub fn block_text(input: &[u8], out: &mut [u8; SPACE], text: &mut [u8; TEXT]) -> usize
-    requires { length input.now ≤ 65536 }
+pub fn block_text(input: &[u8], out: &mut [u8], text: &mut [u8]) -> usize
+    requires { (length input.now ≤ 65536) × (length out.old ≡ 65536) × Room 196651 0 text.old }
     ensures text { Put (block_text input.now) 0 text.old text.new result }
     ensures within { IsPrefixLen result text.new }
     ensures output { out.new ≡ output (answered input.now) out.old }
@@ -78,21 +75,21 @@ pub fn block_text(input: &[u8], out: &mut [u8; SPACE], text: &mut [u8; TEXT]) ->
     }
 }
 
-// A buffer for the longest text.
+// Three bytes for each byte of the longest block, and a line.
 pub fn text_buffer(alloc: Global) -> Result<Vec<u8>, AllocError>
     ensures { IfOk result (λ v. 196651 ≡ vec_len v) }
 {
-    vec![in alloc; 0; TEXT]
+    vec![in alloc; 0; 196651]
 }
 
 // Writes the program's text of the input, which it makes in `out` and `text`.
 pub fn write_text<W: Write>(
     input: &[u8],
-    out: &mut [u8; SPACE],
-    text: &mut [u8; TEXT],
+    out: &mut [u8],
+    text: &mut [u8],
     writer: &mut W,
 ) -> io::Result<()>
-    requires { length input.now ≤ 65536 }
+    requires { (length input.now ≤ 65536) × (length out.old ≡ 65536) × Room 196651 0 text.old }
     ensures { OnOk result (Appends (W.contents writer.old) (W.contents writer.new) (block_text input.now)) }
 {
     let end = block_text(input, out, text);
@@ -120,8 +117,6 @@ pub fn answer_reader<R: Read + Drop, W: Write>(
 {
     let input = read_input(alloc, reader)?;
     let mut out = vec![in alloc; 0; SPACE]?;
-    let out = out.as_mut_array().unwrap();
     let mut text = text_buffer(alloc)?;
-    let text = text.as_mut_array().unwrap();
-    write_text(&input, out, text, writer)
+    write_text(&input, &mut out, &mut text, writer)
 }
