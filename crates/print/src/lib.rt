@@ -58,6 +58,7 @@ fn pack_input(input: &[u8], out: &mut [u8]) -> Answer
 
 // Packs the input into `out`, and makes the program's text at the front of `text`: three bytes for each byte of a
 // block, and a line. An input that fills its 65,536 bytes is not packed: its line is that of 12. Returns the length of the text.
+// The lengths are asked for and stand in no type, as `text` may be any buffer that is long enough; so it is below.
 pub fn block_text(input: &[u8], out: &mut [u8], text: &mut [u8]) -> usize
     requires { (length input.now ≤ 65536) × (length out.old ≡ 65536) × Room 196651 0 text.old }
     ensures text { Put (block_text input.now) 0 text.old text.new result }
