@@ -66,7 +66,7 @@ homed_recorded home none = refl
 homed_recorded home (some s) = refl
 
 module _ (rules : Rules) (label : ℕ) (operand home : BytePosition) (action : ActionNumber) (unrecorded : Bool)
-    (i : unrecorded ≡ (rules.mode.strict && not (is_recorded (record_at rules.tables.now.tab.now label)))) where
+    (i : unrecorded ≡ (rules.mode.strict && not (is_recorded (record_at rules.tab.now label)))) where
   abbrev o : Option Position
   o = record_by rules label
 
@@ -77,7 +77,7 @@ module _ (rules : Rules) (label : ℕ) (operand home : BytePosition) (action : A
   Found x = judged_in (mode_of rules.mode) o here ≡ x
 
   is_unrecorded : (rules.mode.strict && not (is_recorded o)) ≡ unrecorded
-  is_unrecorded = ap (λ t. rules.mode.strict && not t) (homed_recorded (get_or rules.tables.now.homes.now label 0) (record_at rules.tables.now.tab.now label)) ∙ sym i
+  is_unrecorded = ap (λ t. rules.mode.strict && not t) (homed_recorded (get_or rules.homes.now label 0) (record_at rules.tab.now label)) ∙ sym i
 
   pub branch_unrecorded : unrecorded ≡ true → Found (some (refusal_of (branch.NeverRecorded operand) action))
   unfolding judged_in or_else refusal_if refusal_of
@@ -93,15 +93,15 @@ module _ (rules : Rules) (label : ℕ) (operand home : BytePosition) (action : A
     branch_stray f = rw (is_barred, f)
 
     -- ---- a branch that it takes, by its distance's bits
-    module _ (f : stray ≡ false) (bits : ℕ) (far : Bool) (small : Small rules.tables.now.tab.now) (h : operand.0 + 2 ≤ 1099511627776)
-        (k : bits ≡ bits64 (distance (record_at rules.tables.now.tab.now label) (operand.0 + 2))) (l : far ≡ is_far bits) where
+    module _ (f : stray ≡ false) (bits : ℕ) (far : Bool) (small : Small rules.tab.now) (h : operand.0 + 2 ≤ 1099511627776)
+        (k : bits ≡ bits64 (distance (record_at rules.tab.now label) (operand.0 + 2))) (l : far ≡ is_far bits) where
       slot : ℕ
-      slot = get_or rules.tables.now.tab.now label 0
+      slot = get_or rules.tab.now label 0
 
       is_judged : Found (far_unless (not far) (distance (record_of slot) (operand.0 + 2)) action.0)
       unfolding judged_in or_else refusal_if slot
       is_judged =
-          rw (is_barred, f) (homed_judged (get_or rules.tables.now.homes.now label 0) (record_of slot) (operand.0 + 2) action.0
+          rw (is_barred, f) (homed_judged (get_or rules.homes.now label 0) (record_of slot) (operand.0 + 2) action.0
           ∙ judged_by slot (operand.0 + 2) action.0 (omega (arith, small label)) (omega (arith, h)) l k)
 
       pub branch_far : far ≡ true → Found (some (refusal_of (branch.Far bits) action))

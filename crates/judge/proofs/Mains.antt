@@ -95,15 +95,15 @@ unhomed mode e home (some r) s = rw e
 
 -- ---- a main body
 
-module _ (terms : Terms) (b : List ℕ) (end : BytePosition) (rules : Rules) (g : MainJudgeable terms b end (mode_of rules.mode) rules.tables.now.tab.now rules.tables.now.homes.now) where
+module _ (terms : Terms) (b : List ℕ) (end : BytePosition) (rules : Rules) (g : MainJudgeable terms b end (mode_of rules.mode) rules.tab.now rules.homes.now) where
   abbrev mode : Mode
   mode = mode_of rules.mode
 
   abbrev tab : List ℕ
-  tab = rules.tables.now.tab.now
+  tab = rules.tab.now
 
   abbrev homes : List ℕ
-  homes = rules.tables.now.homes.now
+  homes = rules.homes.now
 
   abbrev m : MainMeasured terms b end tab
   m = g.measured

@@ -50,7 +50,7 @@ HomesLent terms mode homes = mode.contained ≡ true → terms.label_bound ≤ l
 
 -- the record that the tables hold for a label
 abbrev pub record_by : Rules → ℕ → Option Position
-record_by rules l = record_in rules.tables.now.tab.now rules.tables.now.homes.now l
+record_by rules l = record_in rules.tab.now rules.homes.now l
 
 -- the first of these branches that is refused
 abbrev pub refused_by : Rules → List Event → Option Refusal
@@ -58,9 +58,9 @@ refused_by rules es = bad_by (mode_of rules.mode) (record_by rules) es
 
 -- what is asked of the rules: a slot for each label that the terms allow
 pub record Fitting (terms : Terms) (rules : Rules) : Type 0 where
-  pub slots : terms.label_bound ≤ length rules.tables.now.tab.now
-  pub small : Small rules.tables.now.tab.now
-  pub lent : HomesLent terms (mode_of rules.mode) rules.tables.now.homes.now
+  pub slots : terms.label_bound ≤ length rules.tab.now
+  pub small : Small rules.tab.now
+  pub lent : HomesLent terms (mode_of rules.mode) rules.homes.now
 
 -- and of where the walk stands: that something reads there, with no more actions before than bytes
 pub record Judgeable {A : Type 0} (terms : Terms) (read : Read A) (b : List ℕ) (from : Cursor) (rules : Rules) : Type 0 where

@@ -18,7 +18,7 @@ use answer::Refusal;
 use bodies::next_after;
 use editions::MainBody;
 use fields::u16_at;
-use labels::{Tables, distance, is_far};
+use labels::{distance, is_at_home, is_far, is_recorded};
 use measure::Laid;
 use opcode::OpCode;
 use payload::scan_payload;
@@ -65,7 +65,8 @@ impl From<Refused> for Refusal {
 #[derive(Clone, Copy)]
 struct Rules<'a> {
     mode: Mode,
-    tables: &'a Tables<'a>,
+    tab: &'a [usize],
+    homes: &'a [usize],
 }
 
 // Where the walk stands after what was judged, or the first branch in writing order that is refused.
@@ -73,18 +74,18 @@ type Judged = Result<Cursor, Refused>;
 
 // Whether strict mode refuses a branch to this label.
 fn is_unrecorded(rules: &Rules<'_>, label: usize) -> bool
-    requires { label < length rules.now.tables.now.tab.now }
-    ensures { result ≡ (rules.now.mode.strict && not (is_recorded (record_at rules.now.tables.now.tab.now label))) }
+    requires { label < length rules.now.tab.now }
+    ensures { result ≡ (rules.now.mode.strict && not (is_recorded (record_at rules.now.tab.now label))) }
 {
-    rules.mode.strict && !rules.tables.is_recorded(label)
+    rules.mode.strict && !is_recorded(rules.tab, label)
 }
 
 // Whether a contained mode refuses a branch to this label from the function body that starts at `home`.
 fn is_stray(rules: &Rules<'_>, label: usize, home: BytePosition) -> bool
-    requires { (label < length rules.now.tables.now.tab.now) × (rules.now.mode.contained ≡ true → label < length rules.now.tables.now.homes.now) }
+    requires { (label < length rules.now.tab.now) × (rules.now.mode.contained ≡ true → label < length rules.now.homes.now) }
     ensures { result ≡ (rules.now.mode.contained && not (is_at_home home.0 (record_by rules.now label))) }
 {
-    rules.mode.contained && !rules.tables.is_at_home(label, home)
+    rules.mode.contained && !is_at_home(rules.tab, rules.homes, label, home)
 }
 
 // A branch to a label, whose operand stands at position `operand`, and its number.
@@ -96,7 +97,7 @@ fn judge_branch(
     action: ActionNumber,
     rules: &Rules<'_>,
 ) -> Result<(), Refused>
-    requires { (label < length rules.now.tables.now.tab.now) × (rules.now.mode.contained ≡ true → label < length rules.now.tables.now.homes.now) × Small rules.now.tables.now.tab.now × (operand.0 + 2 ≤ 1099511627776) }
+    requires { (label < length rules.now.tab.now) × (rules.now.mode.contained ≡ true → label < length rules.now.homes.now) × Small rules.now.tab.now × (operand.0 + 2 ≤ 1099511627776) }
     ensures { Says (judged_in (mode_of rules.now.mode) (record_by rules.now label) (standing operand home action)) result }
 {
     if is_unrecorded(rules, label) {
@@ -108,8 +109,7 @@ fn judge_branch(
         return Err(Refused { bad, action });
     }
     let after = BytePosition(operand.0 + OpCode::U16_LEN);
-    let tables = rules.tables;
-    let bits = distance(tables.tab, label, after);
+    let bits = distance(rules.tab, label, after);
     if is_far(bits) {
         let bad = BadBranch::Far(bits);
         return Err(Refused { bad, action });
@@ -226,14 +226,16 @@ fn is_clear(mode: Mode, end: BytePosition) -> bool
     !mode.strict && !mode.contained && end.0 <= 32768
 }
 
-// A main body that is written as far as position `end`.
+// A main body that is written as far as position `end`. The tables are no `Tables`, which only a caller that may change them can
+// lend.
 pub fn judge_main(
     m: &MainBody<'_>,
     end: BytePosition,
     mode: Mode,
-    tables: &Tables<'_>,
+    tab: &[usize],
+    homes: &[usize],
 ) -> Result<(), Refused>
-    requires { MainJudgeable (read_by m.now) m.now.b.now end (mode_of mode) tables.now.tab.now tables.now.homes.now }
+    requires { MainJudgeable (read_by m.now) m.now.b.now end (mode_of mode) tab.now homes.now }
     ensures { MainJudged (read_by m.now) (mode_of mode) m.now.b.now result }
 {
     if is_clear(mode, end) {
@@ -244,6 +246,7 @@ pub fn judge_main(
         pos: BytePosition(0),
         number: ActionNumber(0),
     };
-    judge_body(m, start, DEEPEST, BytePosition(0), &Rules { mode, tables })?;
+    let rules = Rules { mode, tab, homes };
+    judge_body(m, start, DEEPEST, BytePosition(0), &rules)?;
     Ok(())
 }

@@ -109,25 +109,23 @@ pub fn record_labels(
     }
 }
 
-impl Tables<'_> {
-    // Whether a label is recorded.
-    pub fn is_recorded(&self, label: usize) -> bool
-        requires { label < length self.now.tab.now }
-        ensures { result ≡ is_recorded (record_at self.now.tab.now label) }
-    {
-        self.tab[label] != 0
-    }
+// Whether a label is recorded. What only reads a table asks for a shared slice, not for `Tables`, which lends it to be changed.
+pub fn is_recorded(tab: &[usize], label: usize) -> bool
+    requires { label < length tab.now }
+    ensures { result ≡ is_recorded (record_at tab.now label) }
+{
+    tab[label] != 0
+}
 
-    // Whether a label's record, if it has one, was made in the function body that starts at `home`.
-    pub fn is_at_home(&self, label: usize, home: BytePosition) -> bool
-        requires { (label < length self.now.tab.now) × (label < length self.now.homes.now) }
-        ensures { result ≡ is_at_home home.0 (record_in self.now.tab.now self.now.homes.now label) }
-    {
-        if !self.is_recorded(label) {
-            return true;
-        }
-        self.homes[label] == home.0
+// Whether a label's record, if it has one, was made in the function body that starts at `home`.
+pub fn is_at_home(tab: &[usize], homes: &[usize], label: usize, home: BytePosition) -> bool
+    requires { (label < length tab.now) × (label < length homes.now) }
+    ensures { result ≡ is_at_home home.0 (record_in tab.now homes.now label) }
+{
+    if !is_recorded(tab, label) {
+        return true;
     }
+    homes[label] == home.0
 }
 
 // The 64 bits of a branch's distance, from the position after its operand to its label's record; 0 without one, as in the Rust

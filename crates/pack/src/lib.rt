@@ -8,7 +8,7 @@ ghost use Rattle.layout.specs.Pack.{Outcome};
 ghost use Rattle.answer.specs.Answered.{number, value, action};
 ghost use Rattle.editions.specs.Allowed.{read_by};
 ghost use Rattle.scan.specs.Mains.{Empty};
-ghost use Rattle.judge.specs.Judging.{mode_of, HomesLent};
+ghost use Rattle.judge.specs.Judging.{mode_of, HomesLent, MainJudgeable, MainJudged};
 ghost use Rattle.pack.specs.Steps.{Limited, ReadPacked, EditionPacked, EarlyPacked, EnoughEarly};
 
 use answer::{Answer, Refusal};
@@ -16,10 +16,25 @@ use book::check_book;
 use cut::{Cut, cut_main};
 use editions::{Edition, FIRST_LABELS, MainBody, SECOND_LABELS};
 use if_room::pack_near;
-use judge::{Mode, judge_main};
+use judge::{Mode, Refused, judge_main};
 use labels::Tables;
 use measure::Notes;
+use positions::BytePosition;
 use reading::read_main;
+
+// Judges by the tables that a walk noted, each lent as a shared slice. It has a call of its own, since both cannot be lent so from
+// within the notes.
+fn judge_noted(
+    m: &MainBody<'_>,
+    end: BytePosition,
+    mode: Mode,
+    labels: &Tables<'_>,
+) -> Result<(), Refused>
+    requires { MainJudgeable (read_by m.now) m.now.b.now end (mode_of mode) labels.now.tab.now labels.now.homes.now }
+    ensures { MainJudged (read_by m.now) (mode_of mode) m.now.b.now result }
+{
+    judge_main(m, end, mode, labels.tab, labels.homes)
+}
 
 // A main body that starts at `start` in its sheet: 3 to 7 where reading stops, else 8 or 9 where it noted one, else 10, 14 or 15
 // where a branch is refused, else 11 or 0.
@@ -39,7 +54,7 @@ fn pack_main(
     if let Some(over) = notes.over {
         return Err(Refusal::from(over));
     }
-    judge_main(m, end, mode, &notes.labels)?;
+    judge_noted(m, end, mode, &notes.labels)?;
     pack_near(m, end, notes.labels.tab, out)
 }
 

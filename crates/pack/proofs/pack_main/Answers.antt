@@ -11,17 +11,17 @@ returns-in_err-end c =
 pub returns-in-Some : goal.returns-in-Some
 returns-in-Some c = long_stops _ _ _ (reads_whole c.in_ok-end.ensures.read) _ c.in-Some.is _ c.from.ensures
 
-pub judge_main-requires : goal.judge_main-requires
-judge_main-requires c =
+pub judge_noted-requires : goal.judge_noted-requires
+judge_noted-requires c =
     judgeable (reads_whole c.in_ok-end.ensures.read) c.in_default.is _ (λ e. omega (arith, c.requires.lent e, c.in_ok-end.ensures.kept.homes))
 
-pub returns-in_err-judge_main : goal.returns-in_err-judge_main
-returns-in_err-judge_main c =
-    let p = err_from_is_err_and c.from_residual-in_err-judge_main.result c.from_residual-in_err-judge_main.ensures.1 in
-    rw p.1 (branch_stops _ _ _ (reads_whole c.in_ok-end.ensures.read) c.in_default.is c.in_err-judge_main.ensures _ p.2)
+pub returns-in_err-judge_noted : goal.returns-in_err-judge_noted
+returns-in_err-judge_noted c =
+    let p = err_from_is_err_and c.from_residual-in_err-judge_noted.result c.from_residual-in_err-judge_noted.ensures.1 in
+    rw p.1 (branch_stops _ _ _ (reads_whole c.in_ok-end.ensures.read) c.in_default.is c.in_err-judge_noted.ensures _ p.2)
 
 pub pack_near-requires : goal.pack_near-requires
-pack_near-requires c = near (reads_whole c.in_ok-end.ensures.read) c.in_default.is _ c.in_ok-judge_main.ensures
+pack_near-requires c = near (reads_whole c.in_ok-end.ensures.read) c.in_default.is _ c.in_ok-judge_noted.ensures
 
 pub returns : goal.returns
-returns c = near_packed _ _ _ (reads_whole c.in_ok-end.ensures.read) c.in_default.is c.in_ok-judge_main.ensures c.pack_near.ensures
+returns c = near_packed _ _ _ (reads_whole c.in_ok-end.ensures.read) c.in_default.is c.in_ok-judge_noted.ensures c.pack_near.ensures
