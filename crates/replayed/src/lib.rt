@@ -90,7 +90,22 @@ impl Record<'_> {
             && action_of(answer) == u64::from(self.action)
     }
 
-    // Whether packing the sheet gives what the record tells, and leaves the bytes behind the room, of which 64 are looked at.
+    // Whether packing a sheet into an output gives what the record tells and this block, and leaves the bytes behind the room, of
+    // which 64 are looked at.
+    fn is_met(&self, sheet: &[u8], book: &[u8], block: &[u8], out: &mut [u8]) -> bool
+        ensures mode { IsTrue result → IsSome self.now.mode }
+        ensures room { IsTrue result → self.now.room + 64 ≤ length out.old }
+    {
+        let room = self.room as usize;
+        let (Some(mode), Some(out)) = (self.mode, out.get_mut(..room + 64)) else {
+            return false;
+        };
+        out.fill(FRESH);
+        let answer = pack::pack(sheet, book, mode, &mut out[..room]);
+        self.tells(answer) && holds(out, block)
+    }
+
+    // The same of the sheet, the book and the block that the record's patterns stand for.
     pub fn agrees(&self, spaces: &mut Spaces) -> bool
         ensures mode { IsTrue result → IsSome self.now.mode }
         ensures room { IsTrue result → self.now.room + 64 ≤ vec_len spaces.old.out }
@@ -99,19 +114,12 @@ impl Record<'_> {
         let sheet = unroll(self.sheet, &mut spaces.sheet);
         let book = unroll(self.book, &mut spaces.book);
         let block = unroll(self.block, &mut spaces.block);
-        let room = self.room as usize;
-        let out = spaces.out.as_mut_slice().get_mut(..room + 64);
-        let (Some(mode), Some(out)) = (self.mode, out) else {
-            return false;
-        };
-        out.fill(FRESH);
-        let answer = pack::pack(
+        self.is_met(
             &spaces.sheet[..sheet],
             &spaces.book[..book],
-            mode,
-            &mut out[..room],
-        );
-        self.tells(answer) && holds(out, &spaces.block[..block])
+            &spaces.block[..block],
+            &mut spaces.out,
+        )
     }
 }
 
