@@ -39,6 +39,11 @@ then_ends size pos t p x k {s = s} {r' = r'} e f h =
     go : (y : _) → x ≡ got y (placed s.at) → r' ≡ scanned size pos (k y (placed s.at)) → r' ≡ scanned size pos (chain x k)
     go y g m = m ∙ ap (λ z. scanned size pos (chain z k)) (sym g)
 
+-- a string that was scanned is written in a byte or more
+pub text_some : {r : Result Spot Stop} {t : Spot} (terms : Terms) (b : List ℕ) (p w : ℕ) → r ≡ scanned string_size w (read_string terms b (placed p)) → r ≡ Ok t → w + 1 ≤ t.pos.0
+unfolding string_size string_length
+text_some terms b p w e f = omega (arith, (ends_is string_size w (read_string terms b (placed p)) e f).2)
+
 -- ---- payloads without a body
 
 module _ (b : List ℕ) (at pos : ℕ) where

@@ -1,7 +1,7 @@
 // The fields of an opcode, as far as its bodies: read, checked and measured. They are measured from the end of the header on.
 #![tactic(auto)]
 
-ghost use Rattle.std.specs.Prelude.{◌≡◌};
+ghost use Rattle.std.specs.Prelude.{◌≡◌, ◌+◌, ◌-◌, ◌≤◌};
 ghost use Rattle.layout.specs.Read.{placed, read_counted};
 ghost use Rattle.layout.specs.Lengths.{total};
 ghost use Rattle.positions.specs.Scanned.{scanned, Roomy};
@@ -13,7 +13,7 @@ use editions::MainBody;
 use lists::scan_strings;
 use opcode::OpCode;
 use operands::{after, read_u8, read_u16, scan_bytes, scan_flag, scan_string, stops, whole};
-use positions::{Fault, Scan, Spot};
+use positions::{BytePosition, Fault, Scan, Spot};
 
 // ---- payloads without a body
 
@@ -45,13 +45,26 @@ pub fn scan_get_url_2(m: &MainBody<'_>, from: Spot) -> Scan
     scan_bytes(m, after(method, 0, OpCode::U8_LEN), 1)
 }
 
+// The length of a string that is written from one spot to another, its zero byte not counted.
+fn text_len(from: Spot, to: Spot) -> usize
+    requires { from.pos.0 + 1 ≤ to.pos.0 }
+    ensures { result + 1 ≡ to.pos.0 - from.pos.0 }
+{
+    to.pos.0 - from.pos.0 - OpCode::string_len(0)
+}
+
 // GetUrl: two strings.
 pub fn scan_get_url(m: &MainBody<'_>, from: Spot) -> Scan
     requires { Roomy m.now.b.now from.at from.pos }
     ensures { result ≡ scanned flat_size from.pos.0 (read_get_url (read_by m.now) m.now.b.now (placed from.at)) }
 {
     let target = scan_string(m, from)?;
-    scan_string(m, target)
+    let end = scan_string(m, target)?;
+    let len = OpCode::get_url_len(text_len(from, target), text_len(target, end));
+    Ok(Spot {
+        at: end.at,
+        pos: BytePosition(from.pos.0 + len),
+    })
 }
 
 // ConstantPool: its strings; `from` has the position after the written count.

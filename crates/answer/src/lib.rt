@@ -140,6 +140,8 @@ impl From<Overflow> for Refusal {
         match o.limit {
             Limit::ActionLen => Refusal::ActionLenOverflow(o.len, o.action),
             Limit::BlockLen => Refusal::BlockLenOverflow(o.len, o.action),
+            // No walk notes another number. It counts as a body's.
+            Limit::Other(_) => Refusal::BlockLenOverflow(o.len, o.action),
         }
     }
 }

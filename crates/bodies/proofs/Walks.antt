@@ -32,7 +32,8 @@ use Rattle.laws.proofs.Begun.{begins_got, body_begins, owner_begins}
 use Rattle.labels.proofs.Labels.{length-record_all, slots_kept, any_number}
 use Rattle.labels.proofs.Recording.{entries_part}
 use Rattle.labels.specs.declared.EntryNumber.{EntryNumber}
-use Rattle.labels.specs.Table.{slot_of, home_of, entries_in, entry_of, due, Rising, Slots, Tables, held, record_all, recorded, position_of, Recordable}
+use Rattle.labels.specs.declared.Tables as lent
+use Rattle.labels.specs.Table.{slot_of, home_of, entries_in, entry_of, due, Rising, Slots, Tables, held, SameTables, record_all, recorded, position_of, Recordable}
 use Rattle.positions.specs.declared.BytePosition.{BytePosition}
 use Rattle.opcode.specs.Listed.{listed, is_some}
 use Rattle.positions.specs.declared.Spot.{Spot}
@@ -52,7 +53,7 @@ use Rattle.measure.specs.declared.Overflow.{Overflow}
 use Rattle.measure.specs.declared.Notes.{Notes}
 use Rattle.laws.specs.Resolved.{action_size, action_trace, body_length, body_events}
 use Rattle.laws.proofs.Resolved.{count_same}
-use Rattle.measure.specs.Walk.{State, state, kept_in, overflow, standing, in_turn, noted_if, note_all, run, Outcome, done, fault, outcome, Ran, ran, stopped, in_bodies, body_tests, bodies_events, Owning, Laying, flat, to_label, bodies, function, stops}
+use Rattle.measure.specs.Walk.{State, state, kept_in, SameNotes, overflow, standing, in_turn, noted_if, note_all, run, Outcome, done, fault, outcome, Ran, ran, stopped, in_bodies, body_tests, bodies_events, Owning, Laying, flat, to_label, bodies, function, stops}
 use Rattle.measure.proofs.Runs.{outcome_got, run_append, run_none, run_body, noted_or}
 use Rattle.front.specs.Front.{Front, read_front, Fronted}
 use Rattle.front.proofs.Fronts.{front_fields, FrontRead, front_read}
@@ -370,6 +371,16 @@ pub kept_recorded : (es : List Event) {a b : Tables} → b ≡ recorded es a →
 unfolding recorded
 kept_recorded es {a} e = rw e (record { positions = length-record_all slot_of es a.positions; homes = length-record_all home_of es a.homes })
 
+pub same_start : {n : Notes} → SameNotes n n
+same_start = record { labels = refl; tables = record { tab = refl; homes = refl } }
+
+pub same_on : {a b c : Notes} → SameNotes a b → SameNotes b c → SameNotes a c
+same_on h k = record { labels = k.labels ∙ h.labels; tables = record { tab = k.tables.tab ∙ h.tables.tab; homes = k.tables.homes ∙ h.tables.homes } }
+
+-- with labels recorded in between
+pub same_marked : {a b c : Notes} {t : lent.Tables} → SameNotes a b → SameTables b.labels.now t → SameNotes (record b { labels = record b.labels { now = t } }) c → SameNotes a c
+same_marked h m k = record { labels = k.labels ∙ h.labels; tables = record { tab = k.tables.tab ∙ m.tab ∙ h.tables.tab; homes = k.tables.homes ∙ m.homes ∙ h.tables.homes } }
+
 -- ---- the loop over a body's actions: what is left gives what the whole gives
 
 pub record Going (terms : Terms) (b : List ℕ) (d : ℕ) (home : BytePosition) (es : List Entry) (whole : Outcome) (many : ℕ) (old : Tables) (next : code.Option EntryNumber) (i : ℕ) (here : Cursor) (s : State) : Type 0 where
@@ -381,7 +392,7 @@ pub record Going (terms : Terms) (b : List ℕ) (d : ℕ) (home : BytePosition) 
   pub kept : LengthsKept old s.labels
 
 pub going_start : (terms : Terms) (b : List ℕ) (d : ℕ) (home : BytePosition) (es : List Entry) (from : Cursor) (end many : ℕ) (next : code.Option EntryNumber) (notes : Notes) → Facts terms b from.at end d es → Ready terms b from notes → many ≡ u16_at b (end - 2) → next ≡ entry_of (due es 0)
-    → Going terms b d home es (outcome body_length body_count body_events (standing from.pos home from.number) (kept_in notes) (read_body terms b (d + 1) (placed from.at))) many (held notes.labels) next 0 (record { at = end; pos = from.pos; number = from.number }) (kept_in notes)
+    → Going terms b d home es (outcome body_length body_count body_events (standing from.pos home from.number) (kept_in notes) (read_body terms b (d + 1) (placed from.at))) many (held notes.labels.now) next 0 (record { at = end; pos = from.pos; number = from.number }) (kept_in notes)
 going_start terms b d home es from end many next notes f r e g =
     let l : many - 0 ≡ u16_at b (end - 2) = omega arith in
     record {
@@ -469,7 +480,7 @@ pub record Bodying (terms : Terms) (b : List ℕ) (d : ℕ) (tested : Position) 
   pub kept : LengthsKept old s.labels
 
 pub bodying_start : {terms : Terms} {b : List ℕ} (d n : ℕ) {after : Spot} {owner : ActionNumber} (home : BytePosition) {notes : Notes} {left : ℕ} {here : Cursor} → left ≡ n → here ≡ next_after after owner → Ready terms b (next_after after owner) notes
-    → Bodying terms b d (standing after.pos home owner) (outcome (total body_length) (total body_count) (bodies_events owner.0) (standing after.pos home (next_after after owner).number) (kept_in notes) (in_turn (read_body terms b d) n (placed after.at))) (held notes.labels) left here None (kept_in notes)
+    → Bodying terms b d (standing after.pos home owner) (outcome (total body_length) (total body_count) (bodies_events owner.0) (standing after.pos home (next_after after owner).number) (kept_in notes) (in_turn (read_body terms b d) n (placed after.at))) (held notes.labels.now) left here None (kept_in notes)
 unfolding outcome bodies_events
 bodying_start {terms} {b} d n {after} {owner} home {notes} e f r =
     rw (e, f) (record {

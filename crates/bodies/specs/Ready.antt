@@ -16,7 +16,7 @@ next_after after owner = record { at = after.at; pos = after.pos; number = recor
 pub record Ready (terms : Terms) (b : List ℕ) (from : Cursor) (notes : Notes) : Type 0 where
   pub roomy : Roomy b from.at from.pos
   pub before : from.number.0 ≤ from.at
-  pub slots : Slots terms notes.labels.tab.now
+  pub slots : Slots terms notes.labels.now.tab.now
 
 -- the label tables keep their lengths
 pub record LengthsKept (old new : Tables) : Type 0 where

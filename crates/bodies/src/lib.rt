@@ -11,7 +11,7 @@ ghost use Rattle.laws.specs.Resolved.{action_size, action_trace, body_length, bo
 ghost use Rattle.positions.specs.Scanned.{halts_at};
 ghost use Rattle.editions.specs.Allowed.{read_by};
 ghost use Rattle.labels.specs.Table.{held};
-ghost use Rattle.measure.specs.Walk.{kept_in, standing, outcome, Ran, in_turn, bodies_events};
+ghost use Rattle.measure.specs.Walk.{kept_in, SameNotes, standing, outcome, Ran, in_turn, bodies_events};
 ghost use Rattle.front.specs.Front.{Fronted};
 ghost use Rattle.bodies.specs.Ready.{next_after, LengthsKept, Ready};
 
@@ -55,11 +55,12 @@ pub fn scan_body(
     from: Cursor,
     depth: usize,
     home: BytePosition,
-    notes: &mut Notes<'_>,
+    notes: &mut Notes<'_, '_>,
 ) -> Walked
     requires { Ready (read_by m.now) m.now.b.now from notes.old }
     ensures ran { Ran (outcome body_length body_count body_events (standing from.pos home from.number) (kept_in notes.old) (read_body (read_by m.now) m.now.b.now depth (placed from.at))) result (kept_in notes.new) }
-    ensures kept { LengthsKept (held notes.old.labels) (held notes.new.labels) }
+    ensures kept { LengthsKept (held notes.old.labels.now) (held notes.new.labels.now) }
+    ensures same_references { SameNotes notes.old notes.new }
 {
     if depth == 0 {
         return halted(Fault::TooDeep, from.at, from.number);
@@ -82,22 +83,23 @@ fn scan_actions(
     front: usize,
     depth: usize,
     home: BytePosition,
-    notes: &mut Notes<'_>,
+    notes: &mut Notes<'_, '_>,
 ) -> Walked
     requires { Ready (read_by m.now) m.now.b.now from notes.old × Fronted (read_by m.now) m.now.b.now from.at front × (from.at + 4 ≤ front) × (front ≤ length m.now.b.now) }
     ensures ran { Ran (outcome body_length body_count body_events (standing from.pos home from.number) (kept_in notes.old) (read_body (read_by m.now) m.now.b.now (depth + 1) (placed from.at))) result (kept_in notes.new) }
-    ensures kept { LengthsKept (held notes.old.labels) (held notes.new.labels) }
+    ensures kept { LengthsKept (held notes.old.labels.now) (held notes.new.labels.now) }
+    ensures same_references { SameNotes notes.old notes.new }
 {
     let entries = &m.b[from.at + 2..front - 2];
     let count = u16_at(m.b, front - 2) as u32;
     let mut due = due_entry(entries, 0);
     let mut here = Cursor { at: front, ..from };
     for i in 0..count {
-        let labels = &mut notes.labels;
+        let labels = &mut *notes.labels;
         due = record_labels(entries, due, ActionIndex(i), here.pos, home, labels);
         here = scan_action(m, here, depth, home, notes)?;
     }
-    let labels = &mut notes.labels;
+    let labels = &mut *notes.labels;
     record_labels(entries, due, ActionIndex(count), here.pos, home, labels);
     Ok(here)
 }
@@ -111,11 +113,12 @@ fn scan_bodies(
     owner: ActionNumber,
     depth: usize,
     home: BytePosition,
-    notes: &mut Notes<'_>,
+    notes: &mut Notes<'_, '_>,
 ) -> Walked
     requires { Ready (read_by m.now) m.now.b.now (next_after after owner) notes.old }
     ensures ran { Ran (outcome (total body_length) (total body_count) (bodies_events owner.0) (standing after.pos home (next_after after owner).number) (kept_in notes.old) (in_turn (read_body (read_by m.now) m.now.b.now depth) n (placed after.at))) result (kept_in notes.new) }
-    ensures kept { LengthsKept (held notes.old.labels) (held notes.new.labels) }
+    ensures kept { LengthsKept (held notes.old.labels.now) (held notes.new.labels.now) }
+    ensures same_references { SameNotes notes.old notes.new }
 {
     let mut here = next_after(after, owner);
     let mut long = None;
@@ -143,11 +146,12 @@ fn scan_action(
     from: Cursor,
     depth: usize,
     home: BytePosition,
-    notes: &mut Notes<'_>,
+    notes: &mut Notes<'_, '_>,
 ) -> Walked
     requires { Ready (read_by m.now) m.now.b.now from notes.old }
     ensures ran { Ran (outcome action_size count action_trace (standing from.pos home from.number) (kept_in notes.old) (read_action (read_by m.now) m.now.b.now (behind 1 (read_body (read_by m.now) m.now.b.now depth)) (placed from.at))) result (kept_in notes.new) }
-    ensures kept { LengthsKept (held notes.old.labels) (held notes.new.labels) }
+    ensures kept { LengthsKept (held notes.old.labels.now) (held notes.new.labels.now) }
+    ensures same_references { SameNotes notes.old notes.new }
 {
     if m.b.len() <= from.at {
         return halted(Fault::CutShort, from.at, from.number);
@@ -177,11 +181,12 @@ fn scan_large(
     from: Cursor,
     depth: usize,
     home: BytePosition,
-    notes: &mut Notes<'_>,
+    notes: &mut Notes<'_, '_>,
 ) -> Walked
     requires { (128 ≤ op) × (from.at < length m.now.b.now) × (op ≡ get_or m.now.b.now from.at 0) × Ready (read_by m.now) m.now.b.now from notes.old }
     ensures ran { Ran (outcome action_size count action_trace (standing from.pos home from.number) (kept_in notes.old) (read_action (read_by m.now) m.now.b.now (behind 1 (read_body (read_by m.now) m.now.b.now depth)) (placed from.at))) result (kept_in notes.new) }
-    ensures kept { LengthsKept (held notes.old.labels) (held notes.new.labels) }
+    ensures kept { LengthsKept (held notes.old.labels.now) (held notes.new.labels.now) }
+    ensures same_references { SameNotes notes.old notes.new }
 {
     let number = from.number;
     match scan_payload(m, op, from, &mut notes.over) {

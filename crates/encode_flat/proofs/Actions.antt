@@ -11,6 +11,7 @@ use borrow.Author.Tests.{lt-ltb, le-ltb, leb-true}
 use Rattle.layout.specs.Numbers.{le16, bits64}
 use Rattle.layout.specs.Tree.{GetUrl2, GotoFrame2}
 use Rattle.layout.specs.Payload.{payload, get_url2_bits, goto_frame2_bytes, headed}
+use Rattle.layout.specs.Lengths.{goto_frame2_length}
 use Rattle.layout.specs.Write.{position, distance_bits}
 use Rattle.layout.specs.Judge.{judged, distance, is_near, far_unless}
 use Rattle.labels.specs.Table.{record_of, record_at}
@@ -74,3 +75,13 @@ pub some_bias : (n k : ℕ) → k < 2 → (n ≡ 0 → ⊥) → payload (GotoFra
 unfolding payload goto_frame2_bytes
 some_bias zero k h e = absurd (e refl)
 some_bias (suc n) k h e = rw (bit_is k h)
+
+-- and its length
+pub no_bias_long : (n : ℕ) → n ≡ 0 → goto_frame2_length n ≡ 1
+unfolding goto_frame2_length
+no_bias_long n e = rw e
+
+pub some_bias_long : (n : ℕ) → (n ≡ 0 → ⊥) → goto_frame2_length n ≡ 3
+unfolding goto_frame2_length
+some_bias_long zero e = absurd (e refl)
+some_bias_long (suc n) e = refl

@@ -46,7 +46,7 @@ pub fn write_branch(
 {
     let after = BytePosition(pos.0 + OpCode::HEADER_LEN + OpCode::U16_LEN);
     let far = distance(tab, label, after);
-    write_action(out, pos, op, Low16(far as usize), next)
+    write_action(out, pos, op, OpCode::U16_LEN, Low16(far as usize), next)
 }
 
 // The method's low two bits, the target at bit 6, the variables at bit 7.
@@ -63,11 +63,11 @@ pub fn write_get_url_2(
     ensures { Put (flat_piece (GetUrl2 (eqb variables 1) (eqb target 1) method) next) pos.0 out.old out.new result }
 {
     let bits = method % 4 + 64 * target + 128 * variables;
-    write_action(out, pos, OpCode::GET_URL2, bits, next)
+    write_action(out, pos, OpCode::GET_URL2, OpCode::U8_LEN, bits, next)
 }
 
 // The bias is written if it is not 0, and a flag says so.
-#[tactic(auto, using(crate::proofs::Actions::no_bias, crate::proofs::Actions::some_bias), unfolding(layout::specs::Payload::framed, layout::specs::Payload::opcode, layout::specs::OpCode::byte))]
+#[tactic(auto, using(crate::proofs::Actions::no_bias, crate::proofs::Actions::some_bias, crate::proofs::Actions::no_bias_long, crate::proofs::Actions::some_bias_long), unfolding(layout::specs::Payload::framed, layout::specs::Payload::opcode, layout::specs::OpCode::byte, layout::specs::Numbers::le16))]
 pub fn write_goto_frame_2(
     out: &mut [u8],
     pos: BytePosition,
@@ -79,15 +79,16 @@ pub fn write_goto_frame_2(
     ensures { Put (flat_piece (GotoFrame2 scene_bias (eqb play 1)) next) pos.0 out.old out.new result }
 {
     let op = OpCode::GOTO_FRAME2;
+    let len = OpCode::goto_frame_2_len(scene_bias);
     if scene_bias == 0 {
-        write_action(out, pos, op, play, next)
+        write_action(out, pos, op, len, play, next)
     } else {
-        write_action(out, pos, op, (play + 2, Low16(scene_bias)), next)
+        write_action(out, pos, op, len, (play + 2, Low16(scene_bias)), next)
     }
 }
 
 // A u16 and a byte.
-#[tactic(auto, unfolding(layout::specs::Payload::framed, layout::specs::Payload::opcode, layout::specs::Payload::payload, layout::specs::OpCode::byte))]
+#[tactic(auto, unfolding(layout::specs::Payload::framed, layout::specs::Payload::opcode, layout::specs::Payload::payload, layout::specs::OpCode::byte, layout::specs::Numbers::le16))]
 pub fn write_wait_for_frame(
     out: &mut [u8],
     pos: BytePosition,
@@ -98,5 +99,12 @@ pub fn write_wait_for_frame(
     requires { Room (flat_piece (WaitForFrame frame skip) next) pos.0 out.old }
     ensures { Put (flat_piece (WaitForFrame frame skip) next) pos.0 out.old out.new result }
 {
-    write_action(out, pos, OpCode::WAIT_FOR_FRAME, (Low16(frame), skip), next)
+    write_action(
+        out,
+        pos,
+        OpCode::WAIT_FOR_FRAME,
+        OpCode::WAIT_FOR_FRAME_LEN,
+        (Low16(frame), skip),
+        next,
+    )
 }

@@ -9,12 +9,14 @@ use lib.Seq.{sets}
 use Rattle.layout.specs.Numbers.{u16_at, le16}
 use Rattle.layout.specs.Read.{got, bad}
 use Rattle.layout.specs.Payload.{zero_ended, try_payload, headed}
-use Rattle.layout.proofs.Lengths.{length-try_payload}
+use Rattle.layout.proofs.Lengths.{length_le16, length-try_payload}
 use Rattle.editions.specs.declared.MainBody.{MainBody}
 use Rattle.pcode.specs.declared.Function.{Function}
-use Rattle.pcode.specs.Shown.{span_of}
+use Rattle.pcode.specs.declared.Span.{Span}
+use Rattle.pcode.specs.Shown.{span_of, Held}
 use Rattle.positions.specs.declared.Spot.{Spot}
 use Rattle.encode_values.specs.Pieces.{Piece, piece, action, bytes_of, next_of, Reads, strings_at, params_at, Room, Put}
+use Rattle.encode_values.proofs.Puts.{length_span}
 use Rattle.encode_values.proofs.Headers.{run_then, before_then, length_action, action_last, list_known, list_space, list_put, list_room}
 use Rattle.encode_owners.specs.Payloads.{function_payload, function2_payload, function, function2, function2_of}
 
@@ -23,6 +25,10 @@ use Rattle.encode_owners.specs.Payloads.{function_payload, function2_payload, fu
 -- what stands before the parameters: the name x and their count
 abbrev pub front : List ℕ → ℕ → List ℕ
 front x count = zero_ended x ++ le16 count
+
+-- it has three bytes more than the name
+pub length_front : (m : MainBody) (s : Span) (count : ℕ) → Held m s → length (front (span_of m s) count) ≡ s.len + 3
+length_front m s count h = omega (arith, length-append (zero_ended (span_of m s)) (le16 count), length_span m s h, length_le16 count)
 
 -- a function's payload has two bytes more than its front and its parameters
 length_function : (x : List ℕ) (count : ℕ) (q : List ℕ) → length (function_payload x count q) ≡ length (front x count) + length q + 2
@@ -69,13 +75,14 @@ module _ (m : MainBody) (f : Function) {pos : ℕ} {out : List ℕ} (h : Room (f
       list_room y w o (list_known 0x9B (λ q. function_payload (span_of m f.name) f.count q) y h) (omega (arith, function_space)) (omega (arith, h.sums))
 
   -- the front, the parameters, the body's length, and then the header
-  pub function_put : {w end : ℕ} {o p s out' : List ℕ} {r : Spot} → w ≡ pos + 3 + length (front (span_of m f.name) f.count) → o ≡ sets out (pos + 3) (front (span_of m f.name) f.count)
-      → Put (strings_at m f.count f.at) w o p r → s ≡ sets p r.pos.0 (le16 0) → end ≡ r.pos.0 + 2 → out' ≡ sets s pos (0x9B ∷ le16 (end - (pos + 3)))
+  pub function_put : {w len end : ℕ} {o p s out' : List ℕ} {r : Spot} → w ≡ pos + 3 + length (front (span_of m f.name) f.count) → o ≡ sets out (pos + 3) (front (span_of m f.name) f.count)
+      → Put (strings_at m f.count f.at) w o p r → s ≡ sets p r.pos.0 (le16 0) → end ≡ r.pos.0 + 2
+      → len ≡ end - (pos + 3) → out' ≡ sets s pos (0x9B ∷ le16 len)
       → Put (function m f) pos out out' (record { at = r.at; pos = record { 0 = end } })
-  function_put {r = r} d g y j e z =
+  function_put {len = len} {r = r} d g y j e i z =
       let q : List ℕ = bytes_of (strings_at m f.count f.at) in
       let l = length_function (span_of m f.name) f.count q in
-      list_put 0x9B (λ q. function_payload (span_of m f.name) f.count q) (strings_at m f.count f.at) h _ (omega (arith, y.end))
+      list_put 0x9B (λ q. function_payload (span_of m f.name) f.count q) (strings_at m f.count f.at) h len (omega (arith, y.end))
       (function_runs out (pos + 3) _ (span_of m f.name) f.count d g q r.pos.0 y.wrote y.end j)
       z (omega (arith, y.end)) y.next
 
@@ -110,16 +117,16 @@ module _ (m : MainBody) (f : Function) {pos : ℕ} {out : List ℕ} (h : Room (f
       list_room x (w + 3) o (made m f x h.known).0 (omega (arith, function2_space)) (omega (arith, h.sums))
 
   -- the front, the parameters, the fields before them, the body's length, and then the header
-  pub function2_put : {w end flags : ℕ} {o p s t out' : List ℕ} {r : Spot} → w ≡ pos + 3 + length (front (span_of m f.name) f.count) → o ≡ sets out (pos + 3) (front (span_of m f.name) f.count)
+  pub function2_put : {w len end flags : ℕ} {o p s t out' : List ℕ} {r : Spot} → w ≡ pos + 3 + length (front (span_of m f.name) f.count) → o ≡ sets out (pos + 3) (front (span_of m f.name) f.count)
       → Put (params_at m f.count f.at) (w + 3) o p r → flags ≡ u16_at m.b.now (r.at + 1) → s ≡ sets p w (get_or m.b.now r.at 0 ∷ le16 flags)
-      → t ≡ sets s r.pos.0 (le16 0) → end ≡ r.pos.0 + 2 → out' ≡ sets t pos (0x8E ∷ le16 (end - (pos + 3)))
+      → t ≡ sets s r.pos.0 (le16 0) → end ≡ r.pos.0 + 2 → len ≡ end - (pos + 3) → out' ≡ sets t pos (0x8E ∷ le16 len)
       → Put (function2 m f) pos out out' (record { at = r.at + 3; pos = record { 0 = end } })
-  function2_put {w} {end} {out' = out'} {r = r} d g x k y v e o =
+  function2_put {w} {len} {end} {out' = out'} {r = r} d g x k y v e j o =
       let a : Piece = params_at m f.count f.at in
       let i = made m f a h.known in
       let l = length_function2 (span_of m f.name) f.count (get_or m.b.now (next_of a) 0) (u16_at m.b.now (next_of a + 1)) (bytes_of a) in
       let q : Put (action 0x8E (fields2 m f a) (r.at + 3)) pos out out' (record { at = r.at + 3; pos = record { 0 = end } }) =
-      action_last 0x8E (fields2 m f a) _ (omega (arith, x.end))
+      action_last 0x8E (fields2 m f a) len (omega (arith, x.end))
       (function2_runs out (pos + 3) w (span_of m f.name) f.count d g (bytes_of a) (get_or m.b.now (next_of a) 0) (u16_at m.b.now (next_of a + 1)) r.pos.0
       x.wrote (rw (k, x.next) at y) x.end v) o (omega (arith, x.end)) in
       record { wrote = rw i.1 q.wrote; end = rw i.1 q.end; next = omega (arith, i.2, x.next) }
@@ -136,11 +143,11 @@ module _ (shape : ℕ) (t : List ℕ) {next pos : ℕ} {out : List ℕ} where
   try_space h = omega (arith, length_action 0x8F (try_payload shape 0 0 0 t), length-try_payload shape 0 0 0 t, h.room)
 
   -- what stands before it, the target, and then the header
-  pub try_put : {o p out' : List ℕ} {w : ℕ} {r : Spot} → w ≡ pos + 10 → o ≡ sets out (pos + 3) (try_front shape) → Put (piece t next) w o p r → out' ≡ sets p pos (0x8F ∷ le16 (r.pos.0 - (pos + 3)))
+  pub try_put : {o p out' : List ℕ} {w len : ℕ} {r : Spot} → w ≡ pos + 10 → o ≡ sets out (pos + 3) (try_front shape) → Put (piece t next) w o p r → len ≡ r.pos.0 - (pos + 3) → out' ≡ sets p pos (0x8F ∷ le16 len)
       → Put (action 0x8F (try_payload shape 0 0 0 t) next) pos out out' r
   unfolding try_payload le16
-  try_put {out' = out'} {r = r} d e x y =
+  try_put {out' = out'} {len = len} {r = r} d e x k y =
       let l = length-try_payload shape 0 0 0 t in
       let q : Put (action 0x8F (try_payload shape 0 0 0 t) next) pos out out' (record { at = next; pos = r.pos }) =
-      action_last 0x8F (try_payload shape 0 0 0 t) _ (omega (arith, x.end)) (run_then out (pos + 3) (try_front shape) t _ (omega arith) e x.wrote) y (omega (arith, x.end)) in
+      action_last 0x8F (try_payload shape 0 0 0 t) len (omega (arith, x.end)) (run_then out (pos + 3) (try_front shape) t _ (omega arith) e x.wrote) y (omega (arith, x.end)) in
       record { wrote = q.wrote; end = q.end; next = x.next }

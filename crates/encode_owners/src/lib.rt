@@ -27,14 +27,16 @@ pub fn write_define_function(
     requires { Held m.now f.name × Room (function m.now f) pos.0 out.old }
     ensures { Put (function m.now f) pos.0 out.old out.new result }
 {
-    let start = pos.0 + OpCode::HEADER_LEN;
+    let front = (string_of(m, f.name), Low16(f.count));
+    let start = front.store(out, pos.0 + OpCode::HEADER_LEN);
     let params = Spot {
         at: f.at,
-        pos: BytePosition((string_of(m, f.name), Low16(f.count)).store(out, start)),
+        pos: BytePosition(start),
     };
     let e = write_list::<Strings>(out, m, f.count, params);
     let end = Low16(0).store(out, e.pos.0);
-    write_action_header(out, pos, OpCode::DEFINE_FUNCTION, end - start);
+    let len = OpCode::define_function_len(f.name.len, e.pos.0 - start);
+    write_action_header(out, pos, OpCode::DEFINE_FUNCTION, len);
     Spot {
         at: e.at,
         pos: BytePosition(end),
@@ -52,17 +54,19 @@ pub fn write_define_function_2(
     requires { Held m.now f.name × (next_of (function2 m.now f) ≤ length m.now.b.now) × Room (function2 m.now f) pos.0 out.old }
     ensures { Put (function2 m.now f) pos.0 out.old out.new result }
 {
-    let start = pos.0 + OpCode::HEADER_LEN;
-    let fields = (string_of(m, f.name), Low16(f.count)).store(out, start);
+    let front = (string_of(m, f.name), Low16(f.count));
+    let fields = front.store(out, pos.0 + OpCode::HEADER_LEN);
+    let start = fields + 3;
     let params = Spot {
         at: f.at,
-        pos: BytePosition(fields + 3),
+        pos: BytePosition(start),
     };
     let e = write_list::<Params>(out, m, f.count, params);
     let flags = Low16(u16_at(m.b, e.at + 1));
     (m.b[e.at], flags).store(out, fields);
     let end = Low16(0).store(out, e.pos.0);
-    write_action_header(out, pos, OpCode::DEFINE_FUNCTION2, end - start);
+    let len = OpCode::define_function_2_len(f.name.len, e.pos.0 - start);
+    write_action_header(out, pos, OpCode::DEFINE_FUNCTION2, len);
     Spot {
         at: e.at + 3,
         pos: BytePosition(end),
@@ -100,10 +104,10 @@ pub fn write_try(
     requires { TargetWithin m.now t × Room (action 0x8F (try_payload shape 0 0 0 (target_bytes m.now t)) next) pos.0 out.old }
     ensures { Put (action 0x8F (try_payload shape 0 0 0 (target_bytes m.now t)) next) pos.0 out.old out.new result }
 {
-    let start = pos.0 + OpCode::HEADER_LEN;
     let lengths = (Low16(0), (Low16(0), Low16(0)));
-    let target = (shape, lengths).store(out, start);
+    let target = (shape, lengths).store(out, pos.0 + OpCode::HEADER_LEN);
     let end = write_catch_target(out, m, BytePosition(target), t, next);
-    write_action_header(out, pos, OpCode::TRY, end.pos.0 - start);
+    let len = OpCode::try_len(end.pos.0 - target);
+    write_action_header(out, pos, OpCode::TRY, len);
     end
 }

@@ -27,11 +27,11 @@ pub fn write_string_action(
     requires { Held m.now s × Room (action op (zero_ended (span_of m.now s)) s.next) pos.0 out.old }
     ensures { Put (action op (zero_ended (span_of m.now s)) s.next) pos.0 out.old out.new result }
 {
-    write_action(out, pos, op, string_of(m, s), s.next)
+    let len = OpCode::string_len(s.len);
+    write_action(out, pos, op, len, string_of(m, s), s.next)
 }
 
 // Two strings.
-#[tactic(auto, unfolding(layout::specs::Payload::framed, layout::specs::Payload::opcode, layout::specs::Payload::payload, layout::specs::OpCode::byte))]
 pub fn write_get_url(
     out: &mut [u8],
     m: &MainBody<'_>,
@@ -43,7 +43,8 @@ pub fn write_get_url(
     ensures { Put (flat_piece (GetUrl (span_of m.now url) (span_of m.now target)) target.next) pos.0 out.old out.new result }
 {
     let strings = (string_of(m, url), string_of(m, target));
-    write_action(out, pos, OpCode::GET_URL, strings, target.next)
+    let len = OpCode::get_url_len(url.len, target.len);
+    write_action(out, pos, OpCode::GET_URL, len, strings, target.next)
 }
 
 // n values that stand at a place, as an action at a position. The header comes after the values: only then is its length known.
@@ -57,7 +58,8 @@ pub fn write_push(out: &mut [u8], m: &MainBody<'_>, n: usize, from: Spot) -> Spo
         pos: BytePosition(start),
     };
     let end = write_list::<PushValues>(out, m, n, values);
-    write_action_header(out, from.pos, OpCode::PUSH, end.pos.0 - start);
+    let len = OpCode::push_len(end.pos.0 - start);
+    write_action_header(out, from.pos, OpCode::PUSH, len);
     end
 }
 
@@ -66,12 +68,13 @@ pub fn write_constant_pool(out: &mut [u8], m: &MainBody<'_>, n: usize, from: Spo
     requires { Room (written (λ q. headed false 0x88 (le16 n ++ q)) (strings_at m.now n from.at)) from.pos.0 out.old }
     ensures { Put (written (λ q. headed false 0x88 (le16 n ++ q)) (strings_at m.now n from.at)) from.pos.0 out.old out.new result }
 {
-    let start = from.pos.0 + OpCode::HEADER_LEN;
+    let start = Low16(n).store(out, from.pos.0 + OpCode::HEADER_LEN);
     let strings = Spot {
         at: from.at,
-        pos: BytePosition(Low16(n).store(out, start)),
+        pos: BytePosition(start),
     };
     let end = write_list::<Strings>(out, m, n, strings);
-    write_action_header(out, from.pos, OpCode::CONSTANT_POOL, end.pos.0 - start);
+    let len = OpCode::constant_pool_len(end.pos.0 - start);
+    write_action_header(out, from.pos, OpCode::CONSTANT_POOL, len);
     end
 }

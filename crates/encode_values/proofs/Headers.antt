@@ -1,4 +1,4 @@
--- Laws of an action's header, stored after its payload: the runs that make up the action, and its room. Assumes nothing.
+-- Laws of an action's header, stored before its payload or after it: the runs that make up the action, and its room. Assumes nothing.
 use mathlib.Core.Path.{◌≡◌, refl, sym, ap, ◌∙◌}
 use Prim.Native.Nat.{ℕ, suc, ◌+◌, ◌≤◌, ◌<◌}
 use native.Mathlib.Nat.{add-zero, suc-add, add-suc}
@@ -11,7 +11,8 @@ use Rattle.layout.specs.Numbers.{le16}
 use Rattle.layout.specs.Read.{got, bad}
 use Rattle.layout.specs.Payload.{headed}
 use Rattle.stores.proofs.Stores.{sets-append}
-use Rattle.encode_values.specs.Pieces.{Piece, action, written, bytes_of, next_of, Reads, Room, Put}
+use Rattle.positions.specs.declared.Spot.{Spot}
+use Rattle.encode_values.specs.Pieces.{Piece, piece, action, written, bytes_of, next_of, Reads, Room, Put}
 
 -- ---- runs of stores
 
@@ -59,6 +60,16 @@ module _ (f : List ℕ → List ℕ) where
   written_next : (x : Piece) → next_of (written f x) ≡ next_of x
   written_next (got s q) = refl
   written_next (bad e q) = refl
+
+-- ---- a header and then its payload
+
+module _ (op : ℕ) (q : List ℕ) {next pos : ℕ} {out : List ℕ} where
+  -- the payload goes behind the header that is stored
+  pub action_first : {m out' : List ℕ} {w : ℕ} {r : Spot} (len : ℕ) → len ≡ length q → (w ≡ pos + 3) × (m ≡ sets out pos (op ∷ le16 len)) → Put (piece q next) w m out' r
+      → Put (action op q next) pos out out' r
+  unfolding headed
+  action_first {w = w} len k e f =
+      record { wrote = run_then out pos (op ∷ le16 (length q)) q w (unfold le16 in e.0) (rw k at e.1) f.wrote; end = omega (arith, length_action op q, e.0, f.end); next = f.next }
 
 -- ---- a payload and then its header
 

@@ -2,7 +2,7 @@
 // the place in the main body behind it.
 #![tactic(auto)]
 
-ghost use Rattle.std.specs.Prelude.{◌≡◌, ℕ, ltb};
+ghost use Rattle.std.specs.Prelude.{◌≡◌, ℕ, length, ltb};
 ghost use Rattle.layout.specs.Payload.{constant_bytes};
 ghost use Rattle.editions.specs.declared.MainBody.{MainBody};
 ghost use Rattle.pcode.specs.Shown.{span_of, Held};
@@ -11,7 +11,7 @@ ghost use Rattle.encode_values.specs.Cases.{case_bytes, CaseHeld};
 ghost use Rattle.encode_values.specs.Joins.{Joins, strings_join, params_join, values_join};
 
 use editions::MainBody;
-use opcode::{OpCode, PushKind};
+use opcode::PushKind;
 use pcode::{PushAt, PushValue, Span, push_value_at, span_at};
 use positions::{BytePosition, Spot};
 use stores::{Double, Low16, Store, ZeroEnded};
@@ -40,21 +40,20 @@ pub fn write_piece<T: Store>(out: &mut [u8], pos: BytePosition, v: T, next: usiz
     }
 }
 
-// An action: its header, and its fields as the payload. The header comes last, when the payload's length is known.
+// An action: its header, with the length that the payload has by its opcode, and its fields as the payload.
 pub fn write_action<T: Store>(
     out: &mut [u8],
     pos: BytePosition,
     op: u8,
+    len: usize,
     fields: T,
     next: usize,
 ) -> Spot
-    requires { Room (action op (T.bytes fields) next) pos.0 out.old }
+    requires { (len ≡ length (T.bytes fields)) × Room (action op (T.bytes fields) next) pos.0 out.old }
     ensures { Put (action op (T.bytes fields) next) pos.0 out.old out.new result }
 {
-    let start = pos.0 + OpCode::HEADER_LEN;
-    let end = write_piece(out, BytePosition(start), fields, next);
-    write_action_header(out, pos, op, end.pos.0 - start);
-    end
+    let payload = write_action_header(out, pos, op, len);
+    write_piece(out, payload, fields, next)
 }
 
 // In a block, the kind of a constant whose number takes two bytes.

@@ -79,6 +79,11 @@ tables tab homes = record { positions = tab; homes = homes }
 abbrev pub held : lent.Tables → Tables
 held t = tables t.tab.now t.homes.now
 
+-- the struct still lends the same two slices, so that one who lent them learns what they hold
+pub record SameTables (old new : lent.Tables) : Type 0 where
+  pub tab : new.tab.ghost_name ≡ old.tab.ghost_name
+  pub homes : new.homes.ghost_name ≡ old.homes.ghost_name
+
 -- what the label records make of both
 unfoldable pub recorded : List Event → Tables → Tables
 recorded es t = tables (record_all slot_of es t.positions) (record_all home_of es t.homes)

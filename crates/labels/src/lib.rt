@@ -6,7 +6,7 @@
 ghost use Rattle.std.specs.Prelude.{◌≡◌, ◌+◌, ◌*◌, ◌/◌, ◌%◌, ◌<◌, ◌≤◌, length, set};
 ghost use Rattle.layout.specs.Numbers.{bits64};
 ghost use Rattle.layout.specs.Judge.{distance};
-ghost use Rattle.labels.specs.Table.{record_at, record_in, is_recorded, is_at_home, held, entries_in, due, entry_of, index_of, position_of, Recordable, Recorded, is_far};
+ghost use Rattle.labels.specs.Table.{record_at, record_in, is_recorded, is_at_home, held, SameTables, entries_in, due, entry_of, index_of, position_of, Recordable, Recorded, is_far};
 
 use fields::u32_at;
 use positions::{ActionIndex, BytePosition};
@@ -76,7 +76,8 @@ fn record_each(
     tables: &mut Tables<'_>,
 ) -> Option<EntryNumber>
     requires { Recordable (entries_in entries.now) first (index_of i) (position_of pos home) tables.old.tab.now }
-    ensures { Recorded (entries_in entries.now) (index_of i) (position_of pos home) (held tables.old) (held tables.new) result }
+    ensures recorded { Recorded (entries_in entries.now) (index_of i) (position_of pos home) (held tables.old) (held tables.new) result }
+    ensures same_references { SameTables tables.old tables.new }
 {
     let mut next = first;
     while let Some(entry) = next {
@@ -101,7 +102,8 @@ pub fn record_labels(
     tables: &mut Tables<'_>,
 ) -> Option<EntryNumber>
     requires { Recordable (entries_in entries.now) first (index_of i) (position_of pos home) tables.old.tab.now }
-    ensures { Recorded (entries_in entries.now) (index_of i) (position_of pos home) (held tables.old) (held tables.new) result }
+    ensures recorded { Recorded (entries_in entries.now) (index_of i) (position_of pos home) (held tables.old) (held tables.new) result }
+    ensures same_references { SameTables tables.old tables.new }
 {
     match first {
         Some(entry) if entry.index() == i.0 => record_each(entries, first, i, pos, home, tables),

@@ -8,7 +8,7 @@ use Rattle.layout.specs.Read.{Text, placed, stop, Read, got, bad, Reader, chain,
 use Rattle.layout.specs.Write.{size, Position, position, moved, Event, label_at, branch_at, payload_too_long, body_too_long, trace, body_test}
 use Rattle.layout.specs.Lengths.{total}
 use Rattle.laws.specs.Resolved.{action_size, action_trace, body_length, body_events}
-use Rattle.labels.specs.Table.{Tables, held, recorded}
+use Rattle.labels.specs.Table.{Tables, held, SameTables, recorded}
 use Rattle.positions.specs.declared.BytePosition.{BytePosition}
 use Rattle.positions.specs.Scanned.{fault_of}
 use Rattle.positions.specs.declared.Fault.{Fault}
@@ -35,7 +35,12 @@ state tab over = record { labels = tab; over = over }
 
 -- what the code's struct keeps
 abbrev pub kept_in : Notes → State
-kept_in n = state (held n.labels) n.over
+kept_in n = state (held n.labels.now) n.over
+
+-- the notes lend the same two slices in the same struct
+pub record SameNotes (old new : Notes) : Type 0 where
+  pub labels : new.labels.ghost_name ≡ old.labels.ghost_name
+  pub tables : SameTables old.labels.now new.labels.now
 
 abbrev pub overflow : Limit → ℕ → ℕ → Overflow
 overflow limit n action = record { limit = limit; len = n; action = record { 0 = action } }

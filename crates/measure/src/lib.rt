@@ -8,11 +8,12 @@ ghost use Rattle.measure.specs.Walk.{noted_if, noted_from, EndsFrom};
 use labels::Tables;
 use positions::{ActionNumber, Cursor, Scan, Spot, Stop};
 
-// Which length is over 65,535: a payload's, 8, or a body's, 9.
+// Which length is over 65,535: a payload's, 8, or a body's, 9. A caller may note one of another number, which the walks keep as it is.
 #[derive(Clone, Copy)]
 pub enum Limit {
     ActionLen,
     BlockLen,
+    Other(usize),
 }
 
 // A length over 65,535, and the number of the action whose payload or body has it.
@@ -23,10 +24,11 @@ pub struct Overflow {
     pub action: ActionNumber,
 }
 
-// What a walk keeps: the label tables, and the first overflow.
+// What a walk keeps: the label tables, and the first overflow. The tables are lent, since a proof follows a slice that is lent in a
+// struct, but not in a struct within another.
 #[derive(Drop)]
-pub struct Notes<'a> {
-    pub labels: Tables<'a>,
+pub struct Notes<'a, 'b> {
+    pub labels: &'a mut Tables<'b>,
     pub over: Option<Overflow>,
 }
 

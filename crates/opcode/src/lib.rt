@@ -375,8 +375,8 @@ impl OpCode {
 
     pub const PUSH_FLOAT_LEN: usize = 9;
 
-    // The formulas below differ in a constant or two. Each stays a function with the name of its action, by which what measures and
-    // docs/ACTIONS.md know it: one with the constant as a parameter would move the format's numbers to the callers.
+    // The formulas below differ in a constant or two. Each stays a function with the name of its action, by which what measures, what
+    // writes a header and docs/ACTIONS.md know it: one with the constant as a parameter would move the format's numbers to the callers.
 
     // A string of this length and its zero byte: the payload of a SetTarget or a GotoLabel, and a string of a list. PayloadLengths
     // proves of this formula, and of those below, that it is the length of the definitions' payload.
@@ -385,6 +385,14 @@ impl OpCode {
         ensures { result ≡ string + 1 }
     {
         string + 1
+    }
+
+    // A GetUrl's payload, from the lengths of its strings.
+    pub fn get_url_len(url: usize, target: usize) -> usize
+        requires { (url ≤ 1099511627776) × (target ≤ 1099511627776) }
+        ensures { result ≡ url + target + 2 }
+    {
+        url + target + 2
     }
 
     // A ConstantPool's payload, from the total length of its strings, each with its zero byte.

@@ -28,6 +28,7 @@ use Rattle.measure.specs.declared.Overflow.{Overflow}
 use Rattle.measure.specs.Refusals.{refusal_of as overflow_refusal}
 use Rattle.measure.specs.declared.Notes.{Notes}
 use Rattle.scan.specs.Mains.{refusal_in, MainWhole}
+use Rattle.scan.proofs.Mains.{held_refusal}
 use Rattle.reading.specs.Readings.{said, MainRead, whole, refused as read_bad, read_refused}
 use Rattle.judge.specs.Judging.{refusal_of, HomesLent, MainJudgeable, MainJudged}
 use Rattle.judge.specs.declared.Refused as judged
@@ -52,16 +53,16 @@ reads_whole (read_bad i j) = absurd (cc i)
 module _ {terms : Terms} {b : List ℕ} {end : BytePosition} {notes : Notes} (m : MainWhole terms b end notes) (none_noted : notes.over ≡ None) (mode : Mode) where
   none_long : too_long (events m.measured.tree) ≡ none
   unfolding refusal_in
-  none_long = sym (rw none_noted at m.long)
+  none_long = sym (rw none_noted at (held_refusal m.long))
 
-  pub judgeable : HomesLent terms mode notes.labels.homes.now → MainJudgeable terms b end mode notes.labels.tab.now notes.labels.homes.now
+  pub judgeable : HomesLent terms mode notes.labels.now.homes.now → MainJudgeable terms b end mode notes.labels.now.tab.now notes.labels.now.homes.now
   judgeable lent = record { measured = m.measured; holds = m.homed; lent = lent }
 
   none_bad : {A : Type 0} {a : A} → MainJudged terms mode b (Ok a) → bad_branch mode (events m.measured.tree) (events m.measured.tree) ≡ none
   none_bad j = j.says m.measured.tree m.measured.reads
 
   -- Where no branch is refused, none goes too far.
-  pub near : {A : Type 0} {a : A} → MainJudged terms mode b (Ok a) → MainNear terms b end notes.labels.tab.now
+  pub near : {A : Type 0} {a : A} → MainJudged terms mode b (Ok a) → MainNear terms b end notes.labels.now.tab.now
   near j = record { measured = m.measured; nearby = none_far mode (λ l. lookup l (events m.measured.tree)) (events m.measured.tree) (none_bad j) }
 
 -- ---- the answer, whatever the room
@@ -83,7 +84,7 @@ module _ {terms : Terms} {b : List ℕ} (mode : Mode) (start : ℕ) (o : List �
     unfolding refusal_in
     long_stops x e r k =
         let t = m.measured.tree in
-        let first : some (overflow_refusal x) ≡ too_long (events t) = rw e at m.long in
+        let first : some (overflow_refusal x) ≡ too_long (events t) = rw e at (held_refusal m.long) in
         refused o r (by_tree m ∙ long_first mode t (length o) (overflow_refusal x) (sym first) ∙ ap Refused (sym k))
 
     module _ (none_noted : notes.over ≡ None) where

@@ -4,9 +4,10 @@
 
 ghost use Rattle.std.specs.Prelude.{◌≡◌, ◌≤◌, ◌<◌, true};
 ghost use Rattle.layout.specs.Cut.{Third};
-ghost use Rattle.layout.specs.Pack.{Outcome};
+ghost use Rattle.layout.specs.Pack.{Outcome, block_in};
 ghost use Rattle.answer.specs.Answered.{number, value, action};
 ghost use Rattle.editions.specs.Allowed.{read_by};
+ghost use Rattle.if_room.specs.Near.{MainNear, MainAnswered};
 ghost use Rattle.scan.specs.Mains.{Empty};
 ghost use Rattle.judge.specs.Judging.{mode_of, HomesLent, MainJudgeable, MainJudged};
 ghost use Rattle.pack.specs.Steps.{Limited, ReadPacked, EditionPacked, EarlyPacked, EnoughEarly};
@@ -36,26 +37,34 @@ fn judge_noted(
     judge_main(m, end, mode, labels.tab, labels.homes)
 }
 
+// Writes by the table that a walk noted, which is lent in the same way.
+fn pack_noted(m: &MainBody<'_>, end: BytePosition, labels: &Tables<'_>, out: &mut [u8]) -> Answer
+    requires { MainNear (read_by m.now) m.now.b.now end labels.now.tab.now }
+    ensures { MainAnswered (read_by m.now) block_in m.now.b.now out.old result out.new }
+{
+    pack_near(m, end, labels.tab, out)
+}
+
 // A main body that starts at `start` in its sheet: 3 to 7 where reading stops, else 8 or 9 where it noted one, else 10, 14 or 15
 // where a branch is refused, else 11 or 0.
 fn pack_main(
     m: &MainBody<'_>,
     start: usize,
     mode: Mode,
-    notes: &mut Notes<'_>,
+    notes: &mut Notes<'_, '_>,
     out: &mut [u8],
 ) -> Answer
     requires limited { Limited m.now.b.now start }
     requires empty { Empty (read_by m.now) notes.old }
-    requires lent { HomesLent (read_by m.now) (mode_of mode) notes.old.labels.homes.now }
+    requires lent { HomesLent (read_by m.now) (mode_of mode) notes.old.labels.now.homes.now }
     ensures { ReadPacked (read_by m.now) (mode_of mode) start m.now.b.now out.old result out.new }
 {
     let end = read_main(m, start, notes)?;
     if let Some(over) = notes.over {
         return Err(Refusal::from(over));
     }
-    judge_noted(m, end, mode, &notes.labels)?;
-    pack_near(m, end, notes.labels.tab, out)
+    judge_noted(m, end, mode, &*notes.labels)?;
+    pack_noted(m, end, &*notes.labels, out)
 }
 
 // The same, with tables of so many slots.
@@ -75,11 +84,12 @@ fn pack_in<const LABELS: usize, const HOMES: usize>(
 {
     let mut tab = [0; LABELS];
     let mut homes = [0; HOMES];
+    let mut labels = Tables {
+        tab: &mut tab,
+        homes: &mut homes,
+    };
     let mut notes = Notes {
-        labels: Tables {
-            tab: &mut tab,
-            homes: &mut homes,
-        },
+        labels: &mut labels,
         over: None,
     };
     pack_main(m, start, mode, &mut notes, out)

@@ -5,8 +5,8 @@
 ghost use Rattle.std.specs.Prelude.{◌+◌, ◌<◌, ◌≤◌, length, IfSome};
 
 use answer::Refusal;
-use book::{Book, check_book};
-use cut::cut_main;
+use book::check_book;
+use cut::{Cut, cut_main};
 use editions::{Edition, MainBody, SECOND_LABELS};
 use labels::Tables;
 use measure::Notes;
@@ -20,26 +20,24 @@ fn read_body(m: &MainBody<'_>, start: usize) -> Result<(), Refusal>
 {
     let mut tab = [0; SECOND_LABELS];
     let mut homes = [0; 0];
-    let labels = Tables {
+    let mut labels = Tables {
         tab: &mut tab,
         homes: &mut homes,
     };
-    let mut notes = Notes { labels, over: None };
+    let mut notes = Notes {
+        labels: &mut labels,
+        over: None,
+    };
     read_main(m, start, &mut notes)?;
     Ok(())
 }
 
-// A sheet, with its book: it is looked at in edition 3 alone.
-fn read_sheet(sheet: &[u8], book: &[u8]) -> Result<(), Refusal> {
-    let cut = cut_main(sheet)?;
+// The main body of a sheet of edition 3. The index is cleared for such a sheet alone.
+fn read_third(cut: &Cut<'_>, book: &[u8]) -> Result<(), Refusal>
+    requires { (length cut.now.main.now ≤ 1048576) × (cut.now.start ≤ 1048576) }
+{
     let mut index = [0; 4096];
-    let book = match cut.edition {
-        Edition::Third => check_book(book, &mut index).ok_or(Refusal::BadBook)?,
-        _ => Book {
-            words: &[],
-            count: 0,
-        },
-    };
+    let book = check_book(book, &mut index).ok_or(Refusal::BadBook)?;
     let m = MainBody {
         b: cut.main,
         words: book.words,
@@ -47,6 +45,28 @@ fn read_sheet(sheet: &[u8], book: &[u8]) -> Result<(), Refusal> {
         terms: cut.edition.terms(book.count),
     };
     read_body(&m, cut.start)
+}
+
+// The main body of a sheet of edition 1 or 2.
+fn read_early(cut: &Cut<'_>) -> Result<(), Refusal>
+    requires { (length cut.now.main.now ≤ 1048576) × (cut.now.start ≤ 1048576) }
+{
+    let m = MainBody {
+        b: cut.main,
+        words: &[],
+        index: &[],
+        terms: cut.edition.terms(0),
+    };
+    read_body(&m, cut.start)
+}
+
+// A sheet, with its book: it is looked at in edition 3 alone.
+fn read_sheet(sheet: &[u8], book: &[u8]) -> Result<(), Refusal> {
+    let cut = cut_main(sheet)?;
+    match cut.edition {
+        Edition::Third => read_third(&cut, book),
+        _ => read_early(&cut),
+    }
 }
 
 fn write_line<W: Write>(out: &mut W, read: Result<(), Refusal>) -> io::Result<()> {

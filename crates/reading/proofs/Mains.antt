@@ -23,7 +23,7 @@ use Rattle.reading.specs.Readings.{fault_in, said, MainRead}
 
 module _ (terms : Terms) (b : List ℕ) (notes : Notes) (s : Result Cursor Halt) (m : MainScanned notes (read_main terms b deepest) s) (start : ℕ) where
   -- What the walk leaves of one that reads whole.
-  pub main_whole : (end : Cursor) → s ≡ Ok end → Bytes b → length b ≤ 1048576 → terms.label_bound ≤ length notes.labels.tab.now → MainRead terms b start notes (Ok end.pos)
+  pub main_whole : (end : Cursor) → s ≡ Ok end → Bytes b → length b ≤ 1048576 → terms.label_bound ≤ length notes.labels.now.tab.now → MainRead terms b start notes (Ok end.pos)
   main_whole end e small limited slots = go (read_main terms b deepest) refl m e
     where
       go : (x : Read (ActionsOf Text ℕ)) {r : Result Cursor Halt} → read_main terms b deepest ≡ x → MainScanned notes x r → r ≡ Ok end → MainRead terms b start notes (Ok end.pos)

@@ -5,6 +5,7 @@
 ghost use Rattle.std.specs.Prelude.{◌≡◌, ◌≤◌, length};
 ghost use Rattle.layout.specs.Pack.{fault_action};
 ghost use Rattle.labels.specs.Table.{held};
+ghost use Rattle.measure.specs.Walk.{SameNotes};
 ghost use Rattle.positions.specs.Scanned.{meant};
 ghost use Rattle.editions.specs.Allowed.{read_by};
 ghost use Rattle.bodies.specs.Ready.{LengthsKept};
@@ -32,10 +33,11 @@ fn fault_action(fault: Fault, begun: ActionNumber) -> ActionNumber
 }
 
 // Reads a main body that starts at `start` in its sheet. The notes are lent empty; of the homes as many are kept as there are slots.
-pub fn read_main(m: &MainBody<'_>, start: usize, notes: &mut Notes<'_>) -> Reading
+pub fn read_main(m: &MainBody<'_>, start: usize, notes: &mut Notes<'_, '_>) -> Reading
     requires { (length m.now.b.now ≤ 1048576) × (start ≤ 1048576) × Empty (read_by m.now) notes.old }
     ensures read { MainRead (read_by m.now) m.now.b.now start notes.new result }
-    ensures kept { LengthsKept (held notes.old.labels) (held notes.new.labels) }
+    ensures kept { LengthsKept (held notes.old.labels.now) (held notes.new.labels.now) }
+    ensures same_references { SameNotes notes.old notes.new }
 {
     match scan_main(m, notes) {
         Ok(end) => Ok(end.pos),

@@ -5,8 +5,9 @@
 // the patterns of the sheet, of its book and of the block. A pattern that is cut short, and each behind it, is empty.
 #![tactic(auto)]
 
-ghost use Rattle.std.specs.Prelude.{◌≡◌, ◌+◌, ◌≤◌, IfOk, IsSome, IsTrue, length, vec_len};
+ghost use Rattle.std.specs.Prelude.{◌≡◌, ◌+◌, ◌/◌, ◌<◌, ◌≤◌, IfOk, IsSome, IsTrue, MatchOption, length, take, vec_len};
 ghost use Rattle.std.specs.Iterator.{at_most};
+ghost use Rattle.replayed.specs.Heads.{TellsHead, TellsMode};
 
 use answer::{Answer, action_of, number_of, value_of};
 use fields::{u32_at, u64_at};
@@ -31,14 +32,14 @@ pub struct Spaces {
 
 // A space, filled with zeros.
 fn space(alloc: Global) -> Result<Vec<u8>, AllocError>
-    ensures { IfOk result (λ v. SPACE ≡ vec_len v) }
+    ensures { IfOk result (λ v. vec_len v ≡ 1048578) }
 {
     vec![in alloc; 0; SPACE]
 }
 
 impl Spaces {
     pub fn new(alloc: Global) -> Result<Spaces, AllocError>
-        ensures { IfOk result (λ s. (SPACE ≡ vec_len s.sheet) × (SPACE ≡ vec_len s.book) × (SPACE ≡ vec_len s.block) × (SPACE ≡ vec_len s.out)) }
+        ensures { IfOk result (λ s. (1048578 ≡ vec_len s.sheet) × (1048578 ≡ vec_len s.book) × (1048578 ≡ vec_len s.block) × (1048578 ≡ vec_len s.out)) }
     {
         Ok(Spaces {
             sheet: space(alloc)?,
@@ -64,7 +65,9 @@ pub struct Record<'a> {
 
 // The mode of a record's byte, which is 0 to 3: 1 more if it is strict, 2 more if it is contained. `Mode` is the judge's, so that no
 // TryFrom can stand here.
-fn mode_of(byte: u8) -> Option<Mode> {
+fn mode_of(byte: u8) -> Option<Mode>
+    ensures { TellsMode byte result }
+{
     if 3 < byte {
         return None;
     }
@@ -105,19 +108,33 @@ impl Record<'_> {
         self.tells(answer) && holds(out, block)
     }
 
-    // The same of the sheet, the book and the block that the record's patterns stand for.
+    // The same of the sheet, the book and the block that the record's patterns stand for, which are put into spaces of any lengths.
+    pub fn agrees_in(
+        &self,
+        sheet: &mut [u8],
+        book: &mut [u8],
+        block: &mut [u8],
+        out: &mut [u8],
+    ) -> bool
+        ensures mode { IsTrue result → IsSome self.now.mode }
+        ensures room { IsTrue result → self.now.room + 64 ≤ length out.old }
+    {
+        let long = unroll(self.sheet, sheet);
+        let thick = unroll(self.book, book);
+        let wide = unroll(self.block, block);
+        self.is_met(&sheet[..long], &book[..thick], &block[..wide], out)
+    }
+
+    // The same in the spaces of a replay.
     pub fn agrees(&self, spaces: &mut Spaces) -> bool
         ensures mode { IsTrue result → IsSome self.now.mode }
         ensures room { IsTrue result → self.now.room + 64 ≤ vec_len spaces.old.out }
         ensures kept { (vec_len spaces.new.sheet ≡ vec_len spaces.old.sheet) × (vec_len spaces.new.book ≡ vec_len spaces.old.book) × (vec_len spaces.new.block ≡ vec_len spaces.old.block) × (vec_len spaces.new.out ≡ vec_len spaces.old.out) }
     {
-        let sheet = unroll(self.sheet, &mut spaces.sheet);
-        let book = unroll(self.book, &mut spaces.book);
-        let block = unroll(self.block, &mut spaces.block);
-        self.is_met(
-            &spaces.sheet[..sheet],
-            &spaces.book[..book],
-            &spaces.block[..block],
+        self.agrees_in(
+            &mut spaces.sheet,
+            &mut spaces.book,
+            &mut spaces.block,
             &mut spaces.out,
         )
     }
@@ -137,7 +154,10 @@ pub struct Records<'a>(pub &'a [u8]);
 impl<'a> Iterator for Records<'a> {
     type Item = Record<'a>;
 
-    ghost remaining = { λ s. at_most (length s.0.now) };
+    ghost next_gives = { λ s r t. MatchOption r (length s.0.now < 30) (λ x.
+        (length t.0.now + 30 ≤ length s.0.now) × TellsHead (take 30 s.0.now) x.room x.mode) };
+
+    ghost remaining = { λ s. at_most (length s.0.now / 30) };
 
     fn next(&mut self) -> Option<Record<'a>> {
         let (head, rest) = self.0.split_first_chunk::<30>()?;

@@ -6,7 +6,9 @@ use mathlib.Core.List.{List, [], ◌∷◌}
 use lib.ListN.{length, replicate, get_or-replicate, length-replicate}
 use borrow.Author.Tests.{eq-eqb, ne_eqb}
 use Rattle.std.specs.Prelude.{Result, Ok, Err, Some, None}
-use Rattle.layout.specs.Answers.{LeftOver}
+use Rattle.std.specs.Prelude as code
+use Rattle.std.proofs.Math.Option.{Option}
+use Rattle.layout.specs.Answers.{Refusal, LeftOver}
 use Rattle.layout.specs.Answers as answers
 use Rattle.layout.specs.Tree.{ActionsOf, body_count}
 use Rattle.layout.specs.Read.{Text, Terms, deepest, placed, Stop, Read, got, bad, if_nothing_left, read_body, read_main}
@@ -30,7 +32,7 @@ use Rattle.measure.specs.declared.Notes.{Notes}
 use Rattle.measure.specs.Refusals.{refusal_by}
 use Rattle.measure.specs.Walk.{State, kept_in, overflow, note_all, run, fault, outcome, Ran}
 use Rattle.bodies.proofs.Walks.{ran_is, ran_bad, outcome_is}
-use Rattle.scan.specs.Mains.{Empty, Holds, refusal_in, MainScanned, whole, stopped}
+use Rattle.scan.specs.Mains.{Empty, Holds, nothing_long, payload_long, body_long, refusal_in, MainScanned, whole, stopped}
 
 -- ---- the first overflow is kept
 
@@ -43,12 +45,19 @@ all_kept (payload_too_long n s ∷ es) o = all_kept es o
 all_kept (body_too_long n s ∷ es) o = all_kept es o
 
 first_held : (es : List Event) → Holds (too_long es) (note_all es None)
-unfolding note_all too_long refusal_by refusal_in
-first_held [] = refl
+unfolding note_all too_long
+first_held [] = nothing_long
 first_held (label_at l s ∷ es) = first_held es
 first_held (branch_at l s ∷ es) = first_held es
-first_held (payload_too_long n s ∷ es) = rw (all_kept es (overflow ActionLen n s.number))
-first_held (body_too_long n s ∷ es) = rw (all_kept es (overflow BlockLen n s.number))
+first_held (payload_too_long n s ∷ es) = rw (all_kept es (overflow ActionLen n s.number)) payload_long
+first_held (body_too_long n s ∷ es) = rw (all_kept es (overflow BlockLen n s.number)) body_long
+
+-- what it is as a refusal
+pub held_refusal : {x : Option Refusal} {over : code.Option Overflow} → Holds x over → refusal_in over ≡ x
+unfolding refusal_by refusal_in
+held_refusal nothing_long = refl
+held_refusal payload_long = refl
+held_refusal body_long = refl
 
 -- ---- what a caller lends: zeros
 
@@ -96,12 +105,12 @@ module _ (terms : Terms) (b : List ℕ) (notes notes' : Notes) (small : Bytes b)
             → MainScanned notes' (read_main terms b deepest) (Ok end)
         go t x y s =
             let g = good_got t (placed end.at) (body_most terms b small short 16 (placed 0) (omega arith)) x in
-            let a : notes'.labels.tab.now ≡ record_all slot_of (body_events t block_start) notes.labels.tab.now = ap (λ (v : State). v.labels.positions) s in
-            let d : notes'.labels.homes.now ≡ record_all home_of (body_events t block_start) notes.labels.homes.now = ap (λ (v : State). v.labels.homes) s in
+            let a : notes'.labels.now.tab.now ≡ record_all slot_of (body_events t block_start) notes.labels.now.tab.now = ap (λ (v : State). v.labels.positions) s in
+            let d : notes'.labels.now.homes.now ≡ record_all home_of (body_events t block_start) notes.labels.now.homes.now = ap (λ (v : State). v.labels.homes) s in
             let c : notes'.over ≡ note_all (body_events t block_start) None = ap (λ (v : State). v.over) s ∙ ap (note_all (body_events t block_start)) e.nothing in
             rw (x, eq-eqb end.at (length b) (omega (arith, g.1))) (whole {x = t} {p = placed end.at} {w = end.pos} {k = end.number} (omega arith)
-            (keeps slot_of (body_events t block_start) notes.labels.tab.now notes'.labels.tab.now e.no_records a)
-            (keeps home_of (body_events t block_start) notes.labels.homes.now notes'.labels.homes.now e.no_homes d)
+            (keeps slot_of (body_events t block_start) notes.labels.now.tab.now notes'.labels.now.tab.now e.no_records a)
+            (keeps home_of (body_events t block_start) notes.labels.now.homes.now notes'.labels.now.homes.now e.no_homes d)
             (rw c (first_held (body_events t block_start))))
 
 -- the place of a fault lies in the main body, which has no more actions than bytes

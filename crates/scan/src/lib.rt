@@ -5,6 +5,7 @@ ghost use Rattle.std.specs.Prelude.{◌≡◌, ◌≤◌, length};
 ghost use Rattle.layout.specs.Read.{deepest, read_main};
 ghost use Rattle.laws.specs.Fits.{Bytes};
 ghost use Rattle.labels.specs.Table.{held};
+ghost use Rattle.measure.specs.Walk.{SameNotes};
 ghost use Rattle.editions.specs.Allowed.{read_by};
 ghost use Rattle.bodies.specs.Ready.{LengthsKept};
 ghost use Rattle.scan.specs.Mains.{Empty, MainScanned};
@@ -23,11 +24,12 @@ fn byte_count(b: &[u8]) -> usize
 }
 
 // A whole main body: no byte of it is left over.
-pub fn scan_main(m: &MainBody<'_>, notes: &mut Notes<'_>) -> Walked
+pub fn scan_main(m: &MainBody<'_>, notes: &mut Notes<'_, '_>) -> Walked
     requires { (length m.now.b.now ≤ 1048576) × Empty (read_by m.now) notes.old }
     ensures scanned { MainScanned notes.new (read_main (read_by m.now) m.now.b.now deepest) result }
     ensures bytes { Bytes m.now.b.now }
-    ensures kept { LengthsKept (held notes.old.labels) (held notes.new.labels) }
+    ensures kept { LengthsKept (held notes.old.labels.now) (held notes.new.labels.now) }
+    ensures same_references { SameNotes notes.old notes.new }
 {
     let count = byte_count(m.b);
     let start = Cursor {

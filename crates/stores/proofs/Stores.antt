@@ -2,16 +2,24 @@
 use mathlib.Core.Path.{◌≡◌, ap, ◌∙◌}
 use Prim.Native.Nat.{ℕ, suc, ◌+◌, ◌/◌, ◌%◌, ◌<◌}
 use native.Mathlib.Nat.{add-zero, suc-add, add-suc}
+use native.Mathlib.Numerals.{add-one}
 use native.Mathlib.Omega.{arith}
 use mathlib.Core.List.{List, [], ◌∷◌, ◌++◌, append-nil}
-use lib.ListN.{length, drop, set}
-use lib.Seq.{sets, sets-eq, drop-length}
+use lib.ListN.{length, get_or, take, drop, set, length-take}
+use lib.Seq.{sets, sets-eq, take-suc, drop-length}
 use Rattle.layout.specs.Numbers.{le16, le32, le64}
 
 -- One run after another is one run.
 pub sets-append : (l : List ℕ) (i : ℕ) (a b : List ℕ) → sets (sets l i a) (i + length a) b ≡ sets l i (a ++ b)
 sets-append l i [] b = rw add-zero
 sets-append l i (x ∷ a) b = rw (add-suc, ← suc-add) (sets-append (set l i x) (suc i) a b)
+
+-- After the first n bytes of s, the store of the next one gives a run that is one longer.
+pub copy_more : {m : List ℕ} (l s : List ℕ) (i n : ℕ) → n < length s → m ≡ sets l i (take n s) → set m (i + n) (get_or s n 0) ≡ sets l i (take (n + 1) s)
+copy_more l s i n h e =
+    let k : length (take n s) ≡ n = simp length-take (omega arith) in
+    let x : set (sets l i (take n s)) (i + n) (get_or s n 0) ≡ sets l i (take n s ++ (get_or s n 0 ∷ [])) = rw k at (sets-append l i (take n s) (get_or s n 0 ∷ [])) in
+    rw (e, add-one, take-suc s n 0 h) x
 
 -- A run as long as what it is written over.
 pub filled : (l vs : List ℕ) → length vs ≡ length l → sets l 0 vs ≡ vs

@@ -93,10 +93,12 @@ impl Store for Double {
 impl<'a> Store for &'a [u8] {
     ghost bytes = { λ s. s.now };
 
+    // A loop, since for `copy_from_slice` a caller in C would have to link memmove.
     fn store(self, out: &mut [u8], at: usize) -> usize {
-        let end = at + self.len();
-        out[at..end].copy_from_slice(self);
-        end
+        for i in 0..self.len() {
+            out[at + i] = self[i];
+        }
+        at + self.len()
     }
 }
 

@@ -9,9 +9,9 @@ use std::fmt;
 // How many answers have each number, how many of all differ, and the first of these.
 #[derive(Default, Drop)]
 pub struct Tally {
-    numbers: [usize; 19],
-    differ: usize,
-    first: Option<usize>,
+    pub numbers: [usize; 19],
+    pub differ: usize,
+    pub first: Option<usize>,
 }
 
 impl Tally {

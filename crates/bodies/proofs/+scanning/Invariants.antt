@@ -5,7 +5,7 @@ use Rattle.layout.specs.Lengths.{total}
 use Rattle.laws.specs.Resolved.{body_length, body_events}
 use Rattle.labels.specs.Table.{held, entries_in}
 use Rattle.editions.specs.Allowed.{read_by}
-use Rattle.measure.specs.Walk.{kept_in, standing, in_turn, outcome, bodies_events}
+use Rattle.measure.specs.Walk.{kept_in, SameNotes, standing, in_turn, outcome, bodies_events}
 use Rattle.bodies.specs.Ready.{next_after}
 use Rattle.bodies.proofs.Walks.{Going, Bodying}
 use Rattle.bodies.proofs.+scanning.Given as goal
@@ -29,10 +29,12 @@ abbrev pub invariant-scan_actions-loop-i : goal.invariant-scan_actions-loop-i
 invariant-scan_actions-loop-i l =
     Going (read_by l.m) l.m.b.now l.depth l.home (entries_in l.entries)
     (outcome body_length body_count body_events (standing l.fn.from.pos l.home l.fn.from.number) (kept_in l.initial.notes) (read_body (read_by l.m) l.m.b.now (l.depth + 1) (placed l.fn.from.at)))
-    l.count (held l.initial.notes.labels) l.due l.i l.here (kept_in l.notes)
+    l.count (held l.initial.notes.labels.now) l.due l.i l.here (kept_in l.notes)
+    × SameNotes l.initial.notes l.notes
 
 abbrev pub invariant-scan_bodies-loop : goal.invariant-scan_bodies-loop
 invariant-scan_bodies-loop l =
     Bodying (read_by l.m) l.m.b.now l.depth (standing l.fn.after.pos l.home l.owner)
     (outcome (total body_length) (total body_count) (bodies_events l.owner.0) (standing l.fn.after.pos l.home (next_after l.fn.after l.owner).number) (kept_in l.initial.notes) (in_turn (read_body (read_by l.m) l.m.b.now l.depth) l.n (placed l.fn.after.at)))
-    (held l.initial.notes.labels) (l.n - l.counter) l.here l.long (kept_in l.notes)
+    (held l.initial.notes.labels.now) (l.n - l.counter) l.here l.long (kept_in l.notes)
+    × SameNotes l.initial.notes l.notes

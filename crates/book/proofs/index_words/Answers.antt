@@ -1,17 +1,16 @@
 use Rattle.std.proofs.Common.{refl, arith}
-use Rattle.std.proofs.Math.Nat.{zero-div, add-div_right}
 use Rattle.book.proofs.Indexes.{indexing_start, slot_within, indexing_next, indexing_fails, indexing_done}
 use Rattle.book.proofs.index_words.Goals as goal
 use Rattle.book.proofs.index_words.Goals.{else-loop-i-test, then-loop-i-test+in_ok-p+else-step-count}
 
 pub loop-i-init : goal.loop-i-init
-loop-i-init c = indexing_start _ _ _ _ (zero-div _) c.requires.2
+loop-i-init c = indexing_start _ _ _ _ refl c.requires.2
 
-pub bounds-index-i : goal.bounds-index-i
-bounds-index-i c = slot_within _ _ c.loop-i.invariant (omega arith) c.requires.1
+pub bounds-index-slot : goal.bounds-index-slot
+bounds-index-slot c = slot_within _ _ c.loop-i.invariant (omega arith) c.requires.1
 
 pub loop-i-preserved : goal.loop-i-preserved
-loop-i-preserved c = indexing_next _ _ c.loop-i.invariant (omega arith) c.requires.1 _ _ c.step_of-step.ensures.0 c.min.ensures _ _ (omega arith) (add-div_right _ c.step_of-step.ensures.1) c.in_ok-p.ensures
+loop-i-preserved c = indexing_next _ _ c.loop-i.invariant (omega arith) c.requires.1 _ _ c.step_of-step.ensures.0 c.min.ensures _ _ (omega arith) refl c.in_ok-p.ensures
 
 pub returns-in_err-p : goal.returns-in_err-p
 returns-in_err-p c = rw c.from_residual.ensures (indexing_fails _ _ c.loop-i.invariant (omega arith) c.requires.1 _ _ c.step_of-step.ensures.0 c.min.ensures _ c.in_err-p.ensures)

@@ -1,4 +1,6 @@
 -- `encode::write_head` meets its contract: each case is written as the action that it shows. Assumes nothing.
+use Rattle.std.proofs.Common.{refl, sym}
+use Rattle.layout.proofs.Lengths.{length_le16}
 use Rattle.encode.proofs.Shows.{case_room, case_put}
 use Rattle.encode.proofs.write_head.Goals as goal
 
@@ -6,7 +8,7 @@ pub write_small_action-requires : goal.write_small_action-requires
 write_small_action-requires c = (case_room _ _ _ _ c.requires c.in-Small.is).1
 
 pub write_action-requires : goal.write_action-requires
-write_action-requires c = (case_room _ _ _ _ c.requires c.in-GotoFrame.is).1
+write_action-requires c = (sym (length_le16 _), (case_room _ _ _ _ c.requires c.in-GotoFrame.is).1)
 
 pub write_get_url-requires : goal.write_get_url-requires
 write_get_url-requires c =
@@ -14,7 +16,7 @@ write_get_url-requires c =
     (r.0.0, r.0.1, r.1)
 
 pub write_action-requires-in-StoreRegister : goal.write_action-requires-in-StoreRegister
-write_action-requires-in-StoreRegister c = (case_room _ _ _ _ c.requires c.in-StoreRegister.is).1
+write_action-requires-in-StoreRegister c = (refl, (case_room _ _ _ _ c.requires c.in-StoreRegister.is).1)
 
 pub write_constant_pool-requires : goal.write_constant_pool-requires
 write_constant_pool-requires c = (case_room _ _ _ _ c.requires c.in-ConstantPool.is).1
@@ -29,7 +31,7 @@ pub write_string_action-requires-in-GotoLabel : goal.write_string_action-require
 write_string_action-requires-in-GotoLabel c = case_room _ _ _ _ c.requires c.in-GotoLabel.is
 
 pub write_action-requires-in-WaitForFrame2 : goal.write_action-requires-in-WaitForFrame2
-write_action-requires-in-WaitForFrame2 c = (case_room _ _ _ _ c.requires c.in-WaitForFrame2.is).1
+write_action-requires-in-WaitForFrame2 c = (refl, (case_room _ _ _ _ c.requires c.in-WaitForFrame2.is).1)
 
 pub write_define_function_2-requires : goal.write_define_function_2-requires
 write_define_function_2-requires c =
@@ -40,7 +42,7 @@ pub write_try-requires : goal.write_try-requires
 write_try-requires c = case_room _ _ _ _ c.requires c.in-Try.is
 
 pub write_action-requires-in-With : goal.write_action-requires-in-With
-write_action-requires-in-With c = (case_room _ _ _ _ c.requires c.in-With.is).1
+write_action-requires-in-With c = (sym (length_le16 0), (case_room _ _ _ _ c.requires c.in-With.is).1)
 
 pub write_push-requires : goal.write_push-requires
 write_push-requires c = (case_room _ _ _ _ c.requires c.in-Push.is).1

@@ -17,6 +17,13 @@ write_catch_target-end-requires c =
     let l = c.store-target.auto.out in
     (c.requires.0, record { known = tt; room = omega (arith, l); sums = omega (arith, l, c.requires.1.sums) })
 
+pub try_len-len-requires : goal.try_len-len-requires
+unfolding le16
+try_len-len-requires c =
+    let h = try_space c.args.shape (target_bytes c.args.m.now c.args.t) c.requires.1 in
+    let e = c.store-target.ensures.end in
+    omega (arith, c.write_catch_target-end.ensures.end, c.requires.1.sums)
+
 pub write_action_header-requires : goal.write_action_header-requires
 write_action_header-requires c =
     omega (arith, try_space c.args.shape (target_bytes c.args.m.now c.args.t) c.requires.1, c.store-target.auto.out, c.write_catch_target-end.auto.out)
@@ -25,4 +32,4 @@ pub returns : goal.returns
 unfolding le16
 returns c =
     let e = c.store-target.ensures.end in
-    try_put c.args.shape _ (omega arith) c.store-target.ensures.wrote c.write_catch_target-end.ensures c.write_action_header.ensures.1
+    try_put c.args.shape _ (omega arith) c.store-target.ensures.wrote c.write_catch_target-end.ensures (omega (arith, e, c.write_catch_target-end.ensures.end, c.try_len-len.ensures)) c.write_action_header.ensures.1

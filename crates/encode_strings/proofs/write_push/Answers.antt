@@ -10,4 +10,4 @@ pub write_action_header-requires : goal.write_action_header-requires
 write_action_header-requires c = omega (arith, (push_room _ c.requires).room, c.write_list-end.auto.out)
 
 pub returns : goal.returns
-returns c = push_put _ c.requires c.write_list-end.ensures c.write_action_header.ensures.1
+returns c = push_put _ c.requires c.write_list-end.ensures c.push_len-len.ensures c.write_action_header.ensures.1

@@ -20,8 +20,8 @@ returns-in_err-judge_noted c =
     let p = err_from_is_err_and c.from_residual-in_err-judge_noted.result c.from_residual-in_err-judge_noted.ensures.1 in
     rw p.1 (branch_stops _ _ _ (reads_whole c.in_ok-end.ensures.read) c.in_default.is c.in_err-judge_noted.ensures _ p.2)
 
-pub pack_near-requires : goal.pack_near-requires
-pack_near-requires c = near (reads_whole c.in_ok-end.ensures.read) c.in_default.is _ c.in_ok-judge_noted.ensures
+pub pack_noted-requires : goal.pack_noted-requires
+pack_noted-requires c = near (reads_whole c.in_ok-end.ensures.read) c.in_default.is _ c.in_ok-judge_noted.ensures
 
 pub returns : goal.returns
-returns c = near_packed _ _ _ (reads_whole c.in_ok-end.ensures.read) c.in_default.is c.in_ok-judge_noted.ensures c.pack_near.ensures
+returns c = near_packed _ _ _ (reads_whole c.in_ok-end.ensures.read) c.in_default.is c.in_ok-judge_noted.ensures c.pack_noted.ensures

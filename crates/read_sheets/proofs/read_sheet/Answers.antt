@@ -1,26 +1,13 @@
--- The main body that is cut out, and its start, are within the limit, and no edition allows more than 4,096 label numbers.
--- Assumes nothing.
-use mathlib.Core.Path.{ap}
-use mathlib.Core.List.{[]}
-use Prim.Native.Nat.{ℕ, ◌≤◌}
-use native.Mathlib.Omega.{arith}
-use Rattle.layout.specs.Read as definition
-use Rattle.layout.specs.Read.{edition1, edition2, edition3}
+-- The main body that is cut out, and its start, are within the limit. Assumes nothing.
 use Rattle.cut.proofs.Mains.{cut_limits}
-use Rattle.editions.specs.Allowed.{Allows}
-use Rattle.editions.specs.declared.Edition.{Edition}
-use Rattle.editions.specs.declared.Edition.TheVariants as edition
-use Rattle.editions.specs.declared.Terms.{Terms}
 use Rattle.read_sheets.proofs.read_sheet.Goals as goal
 
-few_labels : (e : Edition) (count : ℕ) (t : Terms) → Allows e count t → t.label_bound ≤ 4096
-unfolding edition1 edition2 edition3
-few_labels edition.First count t h = omega (arith, ap (λ (k : definition.Terms). k.label_bound) (h [] []))
-few_labels edition.Second count t h = omega (arith, ap (λ (k : definition.Terms). k.label_bound) (h [] []))
-few_labels edition.Third count t h = omega (arith, ap (λ (k : definition.Terms). k.label_bound) (h [] []))
-
-pub read_body-requires : goal.read_body-requires
-read_body-requires c =
+pub read_third-requires : goal.read_third-requires
+read_third-requires c =
     let cut = c.in_ok-cut in
-    let within = cut_limits _ cut.cut cut.ensures.is_cut in
-    (within.0, within.1, few_labels cut.cut.edition _ _ c.terms.ensures)
+    cut_limits _ cut.cut cut.ensures.is_cut
+
+pub read_early-requires : goal.read_early-requires
+read_early-requires c =
+    let cut = c.in_ok-cut in
+    cut_limits _ cut.cut cut.ensures.is_cut

@@ -1,11 +1,7 @@
--- `store` of a slice meets its contract: a part copied over is a run. Assumes nothing.
-use Rattle.std.proofs.Common.{append_assoc, refl}
-use Rattle.std.proofs.Math.Nat.{add-sub_cancel_left}
-use Rattle.std.proofs.lemmas.List.{drop-drop}
-use Rattle.std.proofs.lemmas.List.Edits.{sets-eq}
+-- `store` of a slice meets its contract. Assumes nothing.
+use Rattle.std.proofs.Common.{rules}
+use Rattle.stores.proofs.Stores.{copy_more}
 use Rattle.stores.proofs.RefSliceU8Store.store.Goals as goal
 
-pub returns-clause-wrote : goal.returns-clause-wrote
-returns-clause-wrote c =
-    let a = c.args in
-    rw (c.copy_from_slice.ensures.after, add-sub_cancel_left, sets-eq a.self.now a.out.now a.at c.requires, append_assoc, drop-drop) refl
+pub loop-i-preserved : goal.loop-i-preserved
+loop-i-preserved c = let a = c.args in copy_more a.out.now a.self.now a.at c.loop-i.i (search rules) c.loop-i.invariant
