@@ -9,9 +9,10 @@ use borrow.Author.Tests.{le-leb, lt-ltb}
 use Rattle.std.specs.Prelude.{Some, None}
 use Rattle.layout.specs.Lists.{pick}
 use Rattle.layout.specs.Numbers.{u16_at}
-use Rattle.layout.specs.Read.{Words, Place, placed, Read, got, bad, Reader, chain, repeat}
+use Rattle.std.proofs.Math.Option.{Option, none, some}
+use Rattle.layout.specs.Read.{Words, Place, placed, Read, got, bad, Reader, chain, repeat, first_zero}
 use Rattle.layout.specs.Book.{read_entry}
-use Rattle.fields.specs.Runs.{part, first_nul}
+use Rattle.fields.specs.Runs.{part, nul_or, first_nul}
 use Rattle.editions.specs.Words.{step_of, length_at, place_after, place_of, is_whole, word_length, word_at, word_of, listed_from, words_by}
 use Rattle.operands.proofs.Reading.{u16_in, u16_out, spelling_in, spelling_out, spelling_nul}
 use Rattle.book.specs.Checks.{Fails, fails, words_from, Entered, entered, nothing, EnteredAll}
@@ -52,6 +53,15 @@ module _ (e : List ℕ) (p : ℕ) where
       entry_in s m =
           entered (ap (λ (x : ℕ). p + 2 + x) (sym length_is)) l
           (entry_reads m ∙ ap (λ (x : List ℕ). got x (placed (p + 2 + n))) (sym (word_is s)))
+
+-- the first zero byte stands at or after the place from which it is looked for
+pub nul_from : (e : List ℕ) (i n : ℕ) → i ≤ first_nul e i n
+unfolding first_nul nul_or
+nul_from e i n = go (first_zero 0 (part e i n))
+  where
+    go : (z : Option ℕ) → i ≤ nul_or i n z
+    go none = omega arith
+    go (some z) = omega arith
 
 -- ---- n entries
 

@@ -15,7 +15,8 @@ pub struct Book<'a> {
     pub count: u16,
 }
 
-// The place after the entry at a place: its length and its bytes, none zero.
+// The place after the entry at a place: its length and its bytes, none zero. The zero byte is told by how many bytes stand before it:
+// so the compiler sees that an entry without one needs no more than the test of its least byte.
 fn after_entry(words: &[u8], at: usize) -> Option<usize>
     requires { (at ≤ length words.now) × (length words.now < 4294967296) }
     ensures { Entered words.now at result }
@@ -26,7 +27,7 @@ fn after_entry(words: &[u8], at: usize) -> Option<usize>
     }
     let n = u16_at(words, at);
     let end = start + n;
-    if words.len() < end || first_nul(words, start, n) < end {
+    if words.len() < end || first_nul(words, start, n) - start < n {
         return None;
     }
     Some(end)

@@ -11,7 +11,7 @@ ghost use Rattle.encode_values.specs.Cases.{case_bytes, CaseHeld};
 ghost use Rattle.encode_values.specs.Joins.{Joins, strings_join, params_join, values_join};
 
 use editions::MainBody;
-use opcode::PushKind;
+use opcode::{OpCode, PushKind};
 use pcode::{PushAt, PushValue, Span, push_value_at, span_at};
 use positions::{BytePosition, Spot};
 use stores::{Double, Low16, Store, ZeroEnded};
@@ -56,6 +56,24 @@ pub fn write_action<T: Store>(
     write_piece(out, payload, fields, next)
 }
 
+// A push value, of the length that it has by its kind.
+fn write_measured<T: Store>(
+    out: &mut [u8],
+    pos: BytePosition,
+    len: usize,
+    v: T,
+    next: usize,
+) -> Spot
+    requires { (len ≡ length (T.bytes v)) × Room (piece (T.bytes v) next) pos.0 out.old }
+    ensures { Put (piece (T.bytes v) next) pos.0 out.old out.new result }
+{
+    let end = write_piece(out, pos, v, next);
+    Spot {
+        pos: BytePosition(pos.0 + len),
+        ..end
+    }
+}
+
 // In a block, the kind of a constant whose number takes two bytes.
 const WIDE_CONSTANT: u8 = 9;
 
@@ -64,10 +82,11 @@ fn write_constant(out: &mut [u8], pos: BytePosition, n: usize, next: usize) -> S
     requires { Room (piece (constant_bytes (ltb n 256) n) next) pos.0 out.old }
     ensures { Put (piece (constant_bytes (ltb n 256) n) next) pos.0 out.old out.new result }
 {
+    let len = OpCode::push_constant_len(n);
     if n < 256 {
-        write_piece(out, pos, (PushKind::Constant as u8, n as u8), next)
+        write_measured(out, pos, len, (PushKind::Constant as u8, n as u8), next)
     } else {
-        write_piece(out, pos, (WIDE_CONSTANT, Low16(n)), next)
+        write_measured(out, pos, len, (WIDE_CONSTANT, Low16(n)), next)
     }
 }
 
@@ -77,24 +96,30 @@ fn write_push_value(out: &mut [u8], m: &MainBody<'_>, pos: BytePosition, v: Push
     ensures { Put (piece (case_bytes m.now v.value) v.next) pos.0 out.old out.new result }
 {
     let PushAt { value, next } = v;
+    let alone = OpCode::PUSH_KIND_LEN;
+    let byte = OpCode::PUSH_U8_LEN;
     match value {
-        PushValue::String(s) => write_piece(
-            out,
-            pos,
-            (PushKind::String as u8, string_of(m, s)),
-            next,
-        ),
-        PushValue::Null => write_piece(out, pos, PushKind::Null as u8, next),
-        PushValue::Undefined => write_piece(out, pos, PushKind::Undefined as u8, next),
-        PushValue::Register(r) => write_piece(out, pos, (PushKind::Register as u8, r), next),
-        PushValue::Boolean(t) => write_piece(out, pos, (PushKind::Boolean as u8, t), next),
-        PushValue::Float(bits) => write_piece(
-            out,
-            pos,
-            (PushKind::Float as u8, Double(bits)),
-            next,
-        ),
-        PushValue::Integer(n) => write_piece(out, pos, (PushKind::Integer as u8, n), next),
+        PushValue::String(s) => {
+            let len = alone + OpCode::string_len(s.len);
+            let string = (PushKind::String as u8, string_of(m, s));
+            write_measured(out, pos, len, string, next)
+        }
+        PushValue::Null => write_measured(out, pos, alone, PushKind::Null as u8, next),
+        PushValue::Undefined => write_measured(out, pos, alone, PushKind::Undefined as u8, next),
+        PushValue::Register(r) => {
+            write_measured(out, pos, byte, (PushKind::Register as u8, r), next)
+        }
+        PushValue::Boolean(t) => {
+            write_measured(out, pos, byte, (PushKind::Boolean as u8, t), next)
+        }
+        PushValue::Float(bits) => {
+            let float = (PushKind::Float as u8, Double(bits));
+            write_measured(out, pos, OpCode::PUSH_FLOAT_LEN, float, next)
+        }
+        PushValue::Integer(n) => {
+            let integer = (PushKind::Integer as u8, n);
+            write_measured(out, pos, OpCode::PUSH_INTEGER_LEN, integer, next)
+        }
         PushValue::Constant(n) => write_constant(out, pos, n, next),
     }
 }
