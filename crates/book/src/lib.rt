@@ -46,7 +46,7 @@ fn after_entries(words: &[u8], at: usize, n: usize) -> Option<usize>
 }
 
 // Makes the index of so many entries, of which nothing may be left over: of every word, or of every second, fourth, eighth or
-// sixteenth, the place is put into it. The slot is counted, since a division for each takes as long as reading a short word.
+// sixteenth, the place is put into it. The slot is counted, so that no place takes a division.
 fn index_words(words: &[u8], count: usize, index: &mut [u32]) -> Option<()>
     requires { (length words.now < 4294967296) × (count < 65536) × (4096 ≤ length index.old) }
     ensures { Indexed words.now count index.new result }
