@@ -10,7 +10,7 @@ use encode_flat::{
 };
 use encode_owners::{write_define_function, write_define_function_2, write_try};
 use encode_strings::{write_constant_pool, write_get_url, write_push, write_string_action};
-use encode_values::write_action;
+use encode_values::write_measured_action;
 use opcode::OpCode;
 use pcode::Action;
 use positions::Spot;
@@ -28,7 +28,7 @@ pub fn write_head(m: &MainBody<'_>, from: Spot, a: Action, tab: &[usize], out: &
     let pos = from.pos;
     match a {
         Action::Small(op) => write_small_action(out, pos, op, p),
-        Action::GotoFrame(frame) => write_action(
+        Action::GotoFrame(frame) => write_measured_action(
             out,
             pos,
             OpCode::GOTO_FRAME,
@@ -37,7 +37,7 @@ pub fn write_head(m: &MainBody<'_>, from: Spot, a: Action, tab: &[usize], out: &
             p + 2,
         ),
         Action::GetUrl(url, target) => write_get_url(out, m, pos, url, target),
-        Action::StoreRegister(r) => write_action(
+        Action::StoreRegister(r) => write_measured_action(
             out,
             pos,
             OpCode::STORE_REGISTER,
@@ -49,7 +49,7 @@ pub fn write_head(m: &MainBody<'_>, from: Spot, a: Action, tab: &[usize], out: &
         Action::WaitForFrame(frame, skip) => write_wait_for_frame(out, pos, frame, skip, p + 3),
         Action::SetTarget(s) => write_string_action(out, m, pos, OpCode::SET_TARGET, s),
         Action::GotoLabel(s) => write_string_action(out, m, pos, OpCode::GOTO_LABEL, s),
-        Action::WaitForFrame2(skip) => write_action(
+        Action::WaitForFrame2(skip) => write_measured_action(
             out,
             pos,
             OpCode::WAIT_FOR_FRAME2,
@@ -59,7 +59,14 @@ pub fn write_head(m: &MainBody<'_>, from: Spot, a: Action, tab: &[usize], out: &
         ),
         Action::DefineFunction2(f) => write_define_function_2(out, m, pos, f),
         Action::Try(shape, t, i) => write_try(out, m, pos, shape, t, i),
-        Action::With(i) => write_action(out, pos, OpCode::WITH, OpCode::U16_LEN, Low16(0), i),
+        Action::With(i) => write_measured_action(
+            out,
+            pos,
+            OpCode::WITH,
+            OpCode::U16_LEN,
+            Low16(0),
+            i,
+        ),
         Action::Push(n, i) => write_push(out, m, n, Spot { at: i, pos }),
         Action::Jump(label) => write_branch(out, pos, OpCode::JUMP, label, tab, p + 2),
         Action::GetUrl2(v, t, method) => write_get_url_2(out, pos, v, t, method, p + 3),

@@ -12,7 +12,7 @@ ghost use Rattle.labels.specs.Table.{record_at};
 ghost use Rattle.encode_values.specs.Pieces.{piece, action, flat_piece, Room, Put};
 ghost use Rattle.encode_flat.specs.Branches.{table_bits};
 
-use encode_values::{write_action, write_piece};
+use encode_values::{write_measured_action, write_piece};
 use labels::distance;
 use opcode::OpCode;
 use positions::{BytePosition, Spot};
@@ -46,7 +46,7 @@ pub fn write_branch(
 {
     let after = BytePosition(pos.0 + OpCode::HEADER_LEN + OpCode::U16_LEN);
     let far = distance(tab, label, after);
-    write_action(out, pos, op, OpCode::U16_LEN, Low16(far as usize), next)
+    write_measured_action(out, pos, op, OpCode::U16_LEN, Low16(far as usize), next)
 }
 
 // The method's low two bits, the target at bit 6, the variables at bit 7.
@@ -63,7 +63,7 @@ pub fn write_get_url_2(
     ensures { Put (flat_piece (GetUrl2 (eqb variables 1) (eqb target 1) method) next) pos.0 out.old out.new result }
 {
     let bits = method % 4 + 64 * target + 128 * variables;
-    write_action(out, pos, OpCode::GET_URL2, OpCode::U8_LEN, bits, next)
+    write_measured_action(out, pos, OpCode::GET_URL2, OpCode::U8_LEN, bits, next)
 }
 
 // The bias is written if it is not 0, and a flag says so.
@@ -81,9 +81,9 @@ pub fn write_goto_frame_2(
     let op = OpCode::GOTO_FRAME2;
     let len = OpCode::goto_frame_2_len(scene_bias);
     if scene_bias == 0 {
-        write_action(out, pos, op, len, play, next)
+        write_measured_action(out, pos, op, len, play, next)
     } else {
-        write_action(out, pos, op, len, (play + 2, Low16(scene_bias)), next)
+        write_measured_action(out, pos, op, len, (play + 2, Low16(scene_bias)), next)
     }
 }
 
@@ -99,7 +99,7 @@ pub fn write_wait_for_frame(
     requires { Room (flat_piece (WaitForFrame frame skip) next) pos.0 out.old }
     ensures { Put (flat_piece (WaitForFrame frame skip) next) pos.0 out.old out.new result }
 {
-    write_action(
+    write_measured_action(
         out,
         pos,
         OpCode::WAIT_FOR_FRAME,

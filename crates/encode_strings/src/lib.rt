@@ -9,7 +9,7 @@ ghost use Rattle.pcode.specs.Shown.{span_of, Held};
 ghost use Rattle.encode_values.specs.Pieces.{action, flat_piece, written, strings_at, values_at, Room, Put};
 
 use editions::MainBody;
-use encode_values::{PushValues, Strings, string_of, write_action, write_list};
+use encode_values::{PushValues, Strings, string_of, write_list, write_measured_action};
 use opcode::OpCode;
 use pcode::Span;
 use positions::{BytePosition, Spot};
@@ -28,7 +28,7 @@ pub fn write_string_action(
     ensures { Put (action op (zero_ended (span_of m.now s)) s.next) pos.0 out.old out.new result }
 {
     let len = OpCode::string_len(s.len);
-    write_action(out, pos, op, len, string_of(m, s), s.next)
+    write_measured_action(out, pos, op, len, string_of(m, s), s.next)
 }
 
 // Two strings.
@@ -44,7 +44,7 @@ pub fn write_get_url(
 {
     let strings = (string_of(m, url), string_of(m, target));
     let len = OpCode::get_url_len(url.len, target.len);
-    write_action(out, pos, OpCode::GET_URL, len, strings, target.next)
+    write_measured_action(out, pos, OpCode::GET_URL, len, strings, target.next)
 }
 
 // n values that stand at a place, as an action at a position. The header comes after the values: only then is its length known.

@@ -40,8 +40,25 @@ pub fn write_piece<T: Store>(out: &mut [u8], pos: BytePosition, v: T, next: usiz
     }
 }
 
-// An action: its header, with the length that the payload has by its opcode, and its fields as the payload.
+// An action: its header, and its fields as the payload. The header comes last, when the payload's length is known.
 pub fn write_action<T: Store>(
+    out: &mut [u8],
+    pos: BytePosition,
+    op: u8,
+    fields: T,
+    next: usize,
+) -> Spot
+    requires { Room (action op (T.bytes fields) next) pos.0 out.old }
+    ensures { Put (action op (T.bytes fields) next) pos.0 out.old out.new result }
+{
+    let start = pos.0 + OpCode::HEADER_LEN;
+    let end = write_piece(out, BytePosition(start), fields, next);
+    write_action_header(out, pos, op, end.pos.0 - start);
+    end
+}
+
+// The same, with the length that the payload has by its opcode: the header comes first.
+pub fn write_measured_action<T: Store>(
     out: &mut [u8],
     pos: BytePosition,
     op: u8,
@@ -198,4 +215,20 @@ pub fn write_list<E: Elements>(out: &mut [u8], m: &MainBody<'_>, n: usize, from:
         to = E::write_one(out, m, to);
     }
     to
+}
+
+#[cfg(test)]
+mod tests {
+    use super::*;
+
+    // By source 000's write_wait_for_frame: the opcode, 3 as the length, the frame and the skip.
+    #[test]
+    fn writes_an_action(rt: HostRuntime) {
+        let mut out = [0xEE; 8];
+        let fields = (Low16(0x0201), 3u8);
+        let end = write_action(&mut out, BytePosition(1), OpCode::WAIT_FOR_FRAME, fields, 9);
+        assert_eq!(rt; out, [0xEE, 0x8A, 3, 0, 1, 2, 3, 0xEE]);
+        assert_eq!(rt; end.at, 9);
+        assert_eq!(rt; end.pos.0, 7);
+    }
 }

@@ -1,19 +1,20 @@
 -- `write_action` meets its contract: the fields are the payload of the header before them. Assumes nothing.
 use Rattle.std.proofs.Common.{arith}
-use Rattle.encode_values.proofs.Headers.{length_action, action_first}
+use Rattle.encode_values.proofs.Headers.{length_action, action_last}
 use Rattle.encode_values.proofs.write_action.Goals as goal
 
-pub write_action_header-payload-requires : goal.write_action_header-payload-requires
-write_action_header-payload-requires g c = omega (arith, length_action c.args.op (g.T.Store.bytes c.args.fields), c.requires.1.room)
+pub overflow_add-start : goal.overflow_add-start
+overflow_add-start g c = omega (arith, length_action c.args.op (g.T.Store.bytes c.args.fields), c.requires.room, c.requires.sums)
 
-pub write_piece-requires : goal.write_piece-requires
-write_piece-requires g c =
-    let l = c.write_action_header-payload.auto.out in
-    record {
-      known = tt;
-      room = omega (arith, length_action c.args.op (g.T.Store.bytes c.args.fields), c.requires.1.room, c.write_action_header-payload.ensures.0, l);
-      sums = omega (arith, c.requires.1.sums, l);
-    }
+pub write_piece-end-requires : goal.write_piece-end-requires
+write_piece-end-requires g c =
+    record { known = tt; room = omega (arith, length_action c.args.op (g.T.Store.bytes c.args.fields), c.requires.room); sums = c.requires.sums }
+
+pub write_action_header-requires : goal.write_action_header-requires
+write_action_header-requires g c = omega (arith, length_action c.args.op (g.T.Store.bytes c.args.fields), c.requires.room, c.write_piece-end.auto.out)
 
 pub returns : goal.returns
-returns g c = action_first c.args.op (g.T.Store.bytes c.args.fields) _ c.requires.0 c.write_action_header-payload.ensures c.write_piece.ensures
+returns g c =
+    let end = c.write_piece-end.ensures in
+    let put = action_last c.args.op (g.T.Store.bytes c.args.fields) {next = c.args.next} _ (omega (arith, end.end)) end.wrote c.write_action_header.ensures.1 end.end in
+    record { wrote = put.wrote; end = put.end; next = end.next }
